@@ -6,7 +6,8 @@ ghost use Rattle.mb_mbap.specs.Counted.{inner_of, failures_of, ends_of, one_more
 
 use std::io::{self, Read, Write};
 
-/// A reader or a writer that counts the calls which answered a fault, and the reads which met the end.
+/// A reader or a writer that counts the calls which answered a fault, and the reads which met the
+/// end. What it reads and writes is known through it as it is of the one inside.
 #[derive(Drop)]
 pub struct Counted<T> {
     inner: T,
@@ -15,6 +16,7 @@ pub struct Counted<T> {
 }
 
 impl<T> Counted<T> {
+    /// Counts from 0.
     pub fn new(inner: T) -> Counted<T>
         ensures inner { inner_of result ≡ inner }
         ensures failures { failures_of result ≡ 0 }
@@ -27,22 +29,42 @@ impl<T> Counted<T> {
         }
     }
 
+    /// The reader or writer inside.
     pub fn into_inner(self) -> T
         ensures { result ≡ inner_of self }
     {
         self.inner
     }
 
+    /// How many calls answered a fault. At its greatest value it stays.
     pub fn failures(&self) -> u64
         ensures { result ≡ failures_of self.now }
     {
         self.failures
     }
 
+    /// How many reads met the end: gave no byte for a room that isn't empty. At its greatest value
+    /// it stays.
     pub fn ends(&self) -> u64
         ensures { result ≡ ends_of self.now }
     {
         self.ends
+    }
+
+    /// Passes on what a call answered, counted where it is a fault.
+    fn pass<A>(&mut self, outcome: io::Result<A>) -> io::Result<A>
+        ensures same { result ≡ outcome }
+        ensures inner { inner_of self.new ≡ inner_of self.old }
+        ensures failures { failures_of self.new ≡ failures_after (failures_of self.old) outcome }
+        ensures ends { ends_of self.new ≡ ends_of self.old }
+    {
+        match outcome {
+            Ok(value) => Ok(value),
+            Err(e) => {
+                self.failures = self.failures.saturating_add(1);
+                Err(e)
+            }
+        }
     }
 }
 
@@ -57,7 +79,7 @@ impl<R: Read> Read for Counted<R> {
     {
         match self.inner.read(buf) {
             Ok(n) => {
-                if n == 0 && buf.len() > 0 {
+                if n == 0 && !buf.is_empty() {
                     self.ends = self.ends.saturating_add(1);
                 }
                 Ok(n)
@@ -74,13 +96,8 @@ impl<R: Read> Read for Counted<R> {
         ensures failures { failures_of self.new ≡ failures_after (failures_of self.old) result }
         ensures ends { ends_of self.new ≡ ends_of self.old }
     {
-        match self.inner.read_exact(buf) {
-            Ok(()) => Ok(()),
-            Err(e) => {
-                self.failures = self.failures.saturating_add(1);
-                Err(e)
-            }
-        }
+        let outcome = self.inner.read_exact(buf);
+        self.pass(outcome)
     }
 }
 
@@ -91,39 +108,27 @@ impl<W: Write> Write for Counted<W> {
         ensures bound { WritesAtMost result buf.now }
         ensures bytes { WriteAppends (W.contents (inner_of self.old)) (W.contents (inner_of self.new)) result buf.now }
         ensures failures { failures_of self.new ≡ failures_after (failures_of self.old) result }
+        ensures ends { ends_of self.new ≡ ends_of self.old }
     {
-        match self.inner.write(buf) {
-            Ok(n) => Ok(n),
-            Err(e) => {
-                self.failures = self.failures.saturating_add(1);
-                Err(e)
-            }
-        }
+        let outcome = self.inner.write(buf);
+        self.pass(outcome)
     }
 
     fn flush(&mut self) -> io::Result<()>
         ensures bytes { Keeps (W.contents (inner_of self.old)) (W.contents (inner_of self.new)) }
         ensures failures { failures_of self.new ≡ failures_after (failures_of self.old) result }
+        ensures ends { ends_of self.new ≡ ends_of self.old }
     {
-        match self.inner.flush() {
-            Ok(()) => Ok(()),
-            Err(e) => {
-                self.failures = self.failures.saturating_add(1);
-                Err(e)
-            }
-        }
+        let outcome = self.inner.flush();
+        self.pass(outcome)
     }
 
     fn write_all(&mut self, buf: &[u8]) -> io::Result<()>
         ensures bytes { OnOk result (Appends (W.contents (inner_of self.old)) (W.contents (inner_of self.new)) buf.now) }
         ensures failures { failures_of self.new ≡ failures_after (failures_of self.old) result }
+        ensures ends { ends_of self.new ≡ ends_of self.old }
     {
-        match self.inner.write_all(buf) {
-            Ok(()) => Ok(()),
-            Err(e) => {
-                self.failures = self.failures.saturating_add(1);
-                Err(e)
-            }
-        }
+        let outcome = self.inner.write_all(buf);
+        self.pass(outcome)
     }
 }

@@ -1,0 +1,23 @@
+//! Measures the speed of the office's crates. Each word of the command line is one measure;
+//! without words the program ends at once and prints nothing.
+#![tactic(auto)]
+
+use anyhow::{Result, bail};
+use std::env;
+
+mod frames;
+mod pace;
+mod units;
+
+const WORDS: &str = "units frames";
+
+fn main(rt: HostRuntime) -> Result<()> {
+    for word in env::args(&rt)?.skip(1) {
+        match word.as_str() {
+            "units" => units::measure(&rt)?,
+            "frames" => frames::measure(&rt)?,
+            other => bail!("no measure '{other}'; there are: {WORDS}"),
+        }
+    }
+    Ok(())
+}

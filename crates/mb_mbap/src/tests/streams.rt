@@ -1,0 +1,149 @@
+//! Frames as the Messaging Guide spells them, and streams cut anywhere.
+use crate::{Fed, Frame, FrameFault, FrameReader};
+use mb_pdu::Unit;
+use std::alloc::{AllocError, Global};
+use std::test::Fail;
+
+/// The reply to a read of three holding registers of unit 17.
+const REPLY: [u8; 15] = [0, 0, 0, 0, 0, 9, 0x11, 3, 6, 2, 0x2B, 0, 0, 0, 0x64];
+
+fn reply_frame() -> Option<Frame> {
+    let unit = Unit::from_bytes(&[3, 6, 2, 0x2B, 0, 0, 0, 0x64])?;
+    Some(Frame {
+        transaction: 0,
+        unit_id: 0x11,
+        unit,
+    })
+}
+
+/// Feeds a piece, and once more where memory was refused: then nothing was lost.
+fn feed(reader: &mut FrameReader, piece: &[u8]) -> Result<Fed, AllocError> {
+    match reader.feed(piece) {
+        Ok(fed) => Ok(fed),
+        Err(_) => reader.feed(piece),
+    }
+}
+
+/// What the pieces give: how many frames, how many of them are the reply, and the last fault.
+fn fed_with(
+    alloc: Global,
+    pieces: &[&[u8]],
+) -> Result<(usize, usize, Option<FrameFault>), AllocError> {
+    let mut reader = FrameReader::new(alloc);
+    let wanted = reply_frame();
+    let mut last = None;
+    let mut total = 0usize;
+    let mut equal = 0usize;
+    for piece in pieces {
+        let fed = feed(&mut reader, piece)?;
+        total = total.saturating_add(fed.frames.len());
+        for frame in &fed.frames {
+            if wanted.as_ref().is_some_and(|wanted| frame == wanted) {
+                equal = equal.saturating_add(1);
+            }
+        }
+        last = fed.fault;
+    }
+    Ok((total, equal, last))
+}
+
+#[test]
+fn a_frame_is_spelled_and_read(rt: HostRuntime) -> Result<(), Fail> {
+    let frame = reply_frame().ok_or("a unit of eight bytes")?;
+    assert_eq!(rt; frame.encode().as_bytes(), REPLY.as_slice());
+    assert_eq!(rt; fed_with(rt.alloc(), &[&REPLY])?, (1, 1, None));
+    Ok(())
+}
+
+#[test]
+fn cut_in_two_and_in_three(rt: HostRuntime) -> Result<(), Fail> {
+    for second in 0..=REPLY.len() {
+        let (front, back) = REPLY.split_at(second);
+        assert_eq!(rt;
+            fed_with(rt.alloc(), &[front, back])?,
+            (1, 1, None),
+            "cut at {second}"
+        );
+        for first in 0..=second {
+            let (left, middle) = front.split_at(first);
+            let fed = fed_with(rt.alloc(), &[left, middle, back])?;
+            assert_eq!(rt; fed, (1, 1, None), "cut at {first} and {second}");
+        }
+    }
+    Ok(())
+}
+
+#[test]
+fn frames_come_in_order(rt: HostRuntime) -> Result<(), Fail> {
+    let mut reader = FrameReader::new(rt.alloc());
+    let mut stream = Vec::new(rt.alloc());
+    for transaction in [7u8, 8, 9] {
+        stream.extend_from_slice(&[0, transaction, 0, 0, 0, 3, 1, 0x83, transaction])?;
+    }
+    stream.extend_from_slice(&[0, 10, 0])?;
+    let fed = feed(&mut reader, &stream)?;
+    let mut transactions = Vec::new(rt.alloc());
+    for frame in &fed.frames {
+        transactions.push(frame.transaction)?;
+    }
+    assert_eq!(rt; transactions.as_slice(), [7u16, 8, 9].as_slice());
+    assert_eq!(rt; fed.fault, None);
+    Ok(())
+}
+
+#[test]
+fn bad_headers_end_the_stream(rt: HostRuntime) -> Result<(), Fail> {
+    let cases: [(&[u8], FrameFault); 5] = [
+        (&[0, 0, 0, 0, 0, 1], FrameFault::BadLength),
+        (&[0, 0, 0, 0, 0, 0], FrameFault::BadLength),
+        (&[0, 0, 0, 0, 0, 255], FrameFault::BadLength),
+        (&[0, 0, 0, 1, 0, 6], FrameFault::NotModbus),
+        (&[0, 0, 1, 0, 0, 1], FrameFault::NotModbus),
+    ];
+    for (header, fault) in cases {
+        assert_eq!(rt; fed_with(rt.alloc(), &[header])?, (0, 0, Some(fault)));
+        let good = REPLY.as_slice();
+        // Frames before the bad header still come; after it none does, however good it looks.
+        assert_eq!(rt; fed_with(rt.alloc(), &[good, header])?, (1, 1, Some(fault)));
+        assert_eq!(rt;
+            fed_with(rt.alloc(), &[header, good])?,
+            (0, 0, Some(FrameFault::Failed))
+        );
+        assert_eq!(rt;
+            fed_with(rt.alloc(), &[header, b""])?,
+            (0, 0, Some(FrameFault::Failed))
+        );
+    }
+    // Five bytes aren't judged yet, nor is an empty piece.
+    assert_eq!(rt; fed_with(rt.alloc(), &[&[0, 0, 0, 1, 0]])?, (0, 0, None));
+    assert_eq!(rt; fed_with(rt.alloc(), &[b""])?, (0, 0, None));
+    Ok(())
+}
+
+#[test]
+fn the_largest_and_the_smallest_frame(rt: HostRuntime) -> Result<(), Fail> {
+    let mut largest = [0u8; 260];
+    largest[5] = 254;
+    largest[259] = 9;
+    let mut reader = FrameReader::new(rt.alloc());
+    let fed = feed(&mut reader, &largest)?;
+    match fed.frames.as_slice() {
+        [frame] => {
+            assert_eq!(rt; frame.unit.as_bytes(), &largest[7..]);
+            assert_eq!(rt; frame.encode().as_bytes(), largest.as_slice());
+        }
+        _ => assert!(rt; false, "one frame of 260 bytes"),
+    }
+    let smallest = [1u8, 2, 0, 0, 0, 2, 3, 4];
+    let fed = feed(&mut reader, &smallest)?;
+    match fed.frames.as_slice() {
+        [frame] => {
+            assert_eq!(rt; frame.transaction, 0x0102);
+            assert_eq!(rt; frame.unit_id, 3);
+            assert_eq!(rt; frame.unit.as_bytes(), [4u8].as_slice());
+            assert_eq!(rt; frame.encode().as_bytes(), smallest.as_slice());
+        }
+        _ => assert!(rt; false, "one frame of eight bytes"),
+    }
+    Ok(())
+}
