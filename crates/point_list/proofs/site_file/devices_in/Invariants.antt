@@ -1,0 +1,8 @@
+use Rattle.std.proofs.Common.{◌≡◌, drop}
+use Rattle.toml.specs.View.{items_view}
+use Rattle.point_list.specs.SiteFile.{each, device_in}
+use Rattle.point_list.proofs.Each.{with_front}
+use Rattle.point_list.proofs.site_file.devices_in.Given as goal
+
+abbrev pub invariant-loop-entry : goal.invariant-loop-entry
+invariant-loop-entry l = with_front l.devices.items (each (device_in l.lines) (items_view (drop l.entry-index l.entries))) ≡ each (device_in l.lines) (items_view l.entries)

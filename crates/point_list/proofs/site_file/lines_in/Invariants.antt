@@ -1,0 +1,8 @@
+use Rattle.std.proofs.Common.{◌≡◌, drop}
+use Rattle.toml.specs.View.{items_view}
+use Rattle.point_list.specs.SiteFile.{each, line_in}
+use Rattle.point_list.proofs.Each.{with_front}
+use Rattle.point_list.proofs.site_file.lines_in.Given as goal
+
+abbrev pub invariant-loop-entry : goal.invariant-loop-entry
+invariant-loop-entry l = with_front l.lines.items (each line_in (items_view (drop l.entry-index l.entries))) ≡ each line_in (items_view l.entries)

@@ -1,0 +1,4 @@
+pub mod Name
+pub mod NameFields
+pub mod Sites
+pub mod SiteFile

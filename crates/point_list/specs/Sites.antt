@@ -1,0 +1,35 @@
+-- Sites whose parts agree with each other.
+use Rattle.std.specs.Prelude.{◌≡◌, ◌<◌, ◌≤◌, ℕ, List, [], ◌∷◌, Bool, true, not, ◌&&◌, ◌==◌, nat_le, nat_lt, length, All}
+use Rattle.std.specs.List.{list_any, list_all}
+use Rattle.std.specs.Str.{bytes_eq}
+use Rattle.point_list.specs.declared.site.Site.{Site}
+use Rattle.point_list.specs.declared.site.Line.{Line}
+use Rattle.point_list.specs.declared.site.Device.{Device}
+
+-- no two of them are equal
+unfoldable pub all_differ : {A : Type 0} → (A → A → Bool) → List A → Bool
+all_differ equal [] = true
+all_differ equal (x ∷ xs) = not (list_any (λ y. equal y x) xs) && all_differ equal xs
+
+abbrev pub same_line_name : Line → Line → Bool
+same_line_name x y = bytes_eq x.name y.name
+
+abbrev pub same_device_name : Device → Device → Bool
+same_device_name x y = bytes_eq x.name y.name
+
+abbrev pub same_place : Device → Device → Bool
+same_place x y = (x.line == y.line) && (x.unit == y.unit)
+
+-- each device's line is a place among so many lines
+abbrev pub have_lines : ℕ → List Device → Bool
+have_lines lines devices = list_all (λ (d : Device). nat_lt d.line lines) devices
+
+-- there are at most 64 lines and 256 devices, names differ, each device has a line, and no two share line and unit
+abbrev pub is_sound : List Line → List Device → Bool
+is_sound lines devices =
+    nat_le (length lines) 64 && (nat_le (length devices) 256 && (all_differ same_line_name lines
+    && (all_differ same_device_name devices && (have_lines (length lines) devices && all_differ same_place devices))))
+
+-- a site whose parts agree
+abbrev pub IsSound : Site → Type 0
+IsSound site = is_sound site.lines site.devices ≡ true
