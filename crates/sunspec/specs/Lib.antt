@@ -1,0 +1,5 @@
+pub mod PointType
+pub mod Digits
+pub mod ShortText
+pub mod Text
+pub mod Value

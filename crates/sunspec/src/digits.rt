@@ -1,0 +1,57 @@
+//! Numbers as fields of a list and words of a script spell them: digits alone.
+
+ghost use Rattle.std.specs.Prelude.{◌≡◌, ◌+◌, ◌-◌, ◌*◌, ◌&&◌, None, Some, if◌then◌else◌, nat_le};
+ghost use Rattle.std.specs.Char.{is_ascii_digit};
+ghost use Rattle.sunspec.specs.Digits.{number_of, number_within, scale_of};
+
+/// The number that one or more digits spell, with any number of zeros in front, if it is at most
+/// `limit`.
+pub fn within(text: &[u8], limit: u128) -> Option<u128>
+    ensures { result ≡ number_within limit text.now }
+{
+    if text.is_empty() {
+        return None;
+    }
+    let mut number = 0;
+    for byte in text {
+        match more(number, *byte, limit) {
+            Some(next) => number = next,
+            None => return None,
+        }
+    }
+    Some(number)
+}
+
+// The number with one more digit, if the byte is one and the limit allows it.
+fn more(number: u128, byte: u8, limit: u128) -> Option<u128>
+    ensures { result ≡ (if is_ascii_digit byte && nat_le (10 * number + (byte - 48)) limit then Some (10 * number + (byte - 48)) else None) }
+{
+    if !byte.is_ascii_digit() {
+        return None;
+    }
+    let next = number
+        .checked_mul(10)?
+        .checked_add(u128::from(byte - b'0'))?;
+    if next <= limit { Some(next) } else { None }
+}
+
+/// The number that 1 to `most` digits spell, if it is at most `limit`. Zeros in front count as
+/// digits.
+pub fn number(text: &[u8], most: usize, limit: u128) -> Option<u128>
+    ensures { result ≡ number_of most limit text.now }
+{
+    if text.len() > most {
+        return None;
+    }
+    within(text, limit)
+}
+
+/// The scale, -10 to 10, that one or two digits with or without a minus before them spell.
+pub fn scale(text: &[u8]) -> Option<i8>
+    ensures { result ≡ scale_of text.now }
+{
+    match text {
+        [b'-', rest @ ..] => number(rest, 2, 10).map(|n| -(n as i8)),
+        _ => number(text, 2, 10).map(|n| n as i8),
+    }
+}

@@ -1,0 +1,21 @@
+//! Laws of the definitions alone.
+
+ghost use Rattle.std.specs.Prelude.{◌≡◌, ℕ, ℤ, List, Some, option_and_then};
+ghost use Rattle.sunspec.specs.PointType.{IsSized, coded, named, resized, row};
+ghost use Rattle.sunspec.specs.Value.{AreRegistersOf, AreWords, value};
+ghost use Rattle.sunspec.specs.declared.point_type.PointType.{PointType};
+ghost use Rattle.sunspec.specs.declared.value.Value.{Value};
+
+/// A type is told by its name and its number of registers, and by its code and that number.
+pub fn table()
+    ensures named { (kind : PointType) → IsSized kind → option_and_then (λ found. resized found (row kind).registers) (named (row kind).name) ≡ Some kind }
+    ensures coded { (kind : PointType) → IsSized kind → option_and_then (λ found. resized found (row kind).registers) (coded (row kind).code) ≡ Some kind }
+    ensures names { (a b : PointType) → IsSized a → IsSized b → (row a).registers ≡ (row b).registers → (row a).name ≡ (row b).name → a ≡ b }
+    ensures codes { (a b : PointType) → IsSized a → IsSized b → (row a).registers ≡ (row b).registers → (row a).code ≡ (row b).code → a ≡ b }
+{}
+
+/// A number has one spelling in registers of a type.
+pub fn one_spelling()
+    ensures { (kind : PointType) (number : ℤ) (a b : List ℕ) → AreWords a → AreWords b → AreRegistersOf kind a → AreRegistersOf kind b
+        → value kind a ≡ Value.Number number → value kind b ≡ Value.Number number → a ≡ b }
+{}

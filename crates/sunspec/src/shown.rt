@@ -1,0 +1,80 @@
+ghost use Rattle.std.specs.Prelude.{◌≡◌, ◌<◌, ◌≤◌, ◌⊎◌, ◌<ℤ◌, ◌↔◌, IfErr, IfOk, IsErrOf, OnOk, length, map, negsuc, option_map, pos, string_bytes};
+ghost use Rattle.mb_pdu.specs.Packing.{words_text};
+ghost use Rattle.sunspec.specs.declared.error.SunError.{SunError};
+ghost use Rattle.sunspec.specs.PointType.{IsSized, row};
+ghost use Rattle.sunspec.specs.Text.{IsScale, dotted, number_shown, printable, shown};
+ghost use Rattle.sunspec.specs.Value.{AreRegistersOf};
+
+use crate::error::SunError;
+use crate::point_type::{Content, PointType};
+use crate::scaled::{is_scale, text_at};
+use crate::value::{Value, read_value};
+use std::alloc::{AllocError, Global};
+
+/// The text of registers as reports, scripts and answers show it, or `None` where the point is not
+/// implemented: a string with `?` for each byte that can't be printed, an address as four numbers
+/// with points, every other number by `scaled_text`. `BadScale` comes exactly for a scale outside
+/// -10 to 10, whatever the type.
+pub fn shown_text(
+    alloc: Global,
+    kind: &PointType,
+    words: &[u16],
+    scale: i32,
+) -> Result<Option<String>, SunError>
+    requires sized { IsSized kind.now }
+    requires registers { AreRegistersOf kind.now words.now }
+    ensures text { IfOk result (λ text. option_map string_bytes text ≡ shown kind.now scale words.now) }
+    ensures within { OnOk result (IsScale scale) }
+    ensures bad_scale { IsErrOf result SunError.BadScale ↔ ((scale <ℤ negsuc 9) ⊎ (pos 10 <ℤ scale)) }
+    ensures memory { IfErr result (λ e. (e ≡ SunError.BadScale) ⊎ ((e ≡ SunError.Memory) × IsScale scale)) }
+{
+    if !is_scale(scale) {
+        return Err(SunError::BadScale);
+    }
+    match read_value(kind, words) {
+        Value::Unimplemented => Ok(None),
+        Value::Text(text) => Ok(Some(printable_text(alloc, text.as_bytes())?)),
+        Value::Number(number) => Ok(Some(number_text(alloc, kind, words, number, scale)?)),
+    }
+}
+
+fn number_text(
+    alloc: Global,
+    kind: &PointType,
+    words: &[u16],
+    number: i128,
+    scale: i32,
+) -> Result<String, AllocError>
+    requires registers { AreRegistersOf kind.now words.now }
+    requires scale { IsScale scale }
+    ensures { IfOk result (λ text. string_bytes text ≡ number_shown (row kind.now).content number scale words.now) }
+{
+    match kind.row().content {
+        Content::Address => dotted_text(alloc, words),
+        _ => text_at(alloc, number, scale),
+    }
+}
+
+fn printable_text(alloc: Global, bytes: &[u8]) -> Result<String, AllocError>
+    ensures { IfOk result (λ text. string_bytes text ≡ map printable bytes.now) }
+{
+    let mut text = String::new(alloc);
+    for byte in bytes {
+        let shown = if (0x20..=0x7E).contains(byte) {
+            *byte
+        } else {
+            b'?'
+        };
+        text.push(char::from(shown))?;
+    }
+    Ok(text)
+}
+
+fn dotted_text(alloc: Global, words: &[u16]) -> Result<String, AllocError>
+    requires { length words.now ≡ 2 }
+    ensures { IfOk result (λ text. string_bytes text ≡ dotted (words_text words.now)) }
+{
+    let (a, b) = (words[0] / 256, words[0] % 256);
+    let (c, d) = (words[1] / 256, words[1] % 256);
+    format!(in alloc; "{a}.{b}.{c}.{d}")
+}

@@ -1,0 +1,107 @@
+ghost use Rattle.std.specs.Prelude.{◌≡◌, ◌≤◌, ◌<◌, ◌^◌, ◌*◌, ◌==◌, if◌then◌else◌, length, position, take};
+ghost use Rattle.std.specs.List.{before_first, list_all};
+ghost use Rattle.mb_pdu.specs.Packing.{words_text};
+ghost use Rattle.sunspec.specs.PointType.{IsSized, bits};
+ghost use Rattle.sunspec.specs.Value.{AreRegistersOf, number_meant, register_sum, text_meant, value};
+
+use crate::point_type::{Content, PointType, Row, greatest_of};
+use crate::short_text::ShortText;
+
+/// What the registers of a point mean.
+#[derive(Clone, Copy, Debug, PartialEq, Eq)]
+pub enum Value {
+    Number(i128),
+    Text(ShortText),
+    Unimplemented,
+}
+
+/// What registers of a type mean: as many as the type has, and 0 or 1 for a bit. The most
+/// significant register comes first; signed numbers are two's complement (SunSpec Device
+/// Information Model, point types).
+pub fn read_value(kind: &PointType, words: &[u16]) -> Value
+    requires sized { IsSized kind.now }
+    requires registers { AreRegistersOf kind.now words.now }
+    ensures { result ≡ value kind.now words.now }
+{
+    let row = kind.row();
+    match row.content {
+        Content::Text => text_value(words),
+        content => {
+            let sum = register_sum_of(words);
+            if row.is_unimplemented(sum) {
+                return Value::Unimplemented;
+            }
+            Value::Number(number_of(content, row.bits(), sum))
+        }
+    }
+}
+
+// A string is not implemented where all registers are zero.
+fn text_value(words: &[u16]) -> Value
+    requires { length words.now ≤ 125 }
+    ensures { result ≡ (if register_sum words.now == 0 then Value.Unimplemented else Value.Text (text_meant words.now)) }
+{
+    if are_zero(words) {
+        return Value::Unimplemented;
+    }
+    let bytes = bytes_of(words);
+    Value::Text(text_before_zero(&bytes[..2 * words.len()]))
+}
+
+fn are_zero(words: &[u16]) -> bool
+    ensures { result ≡ list_all (λ word. word == 0) words.now }
+{
+    words.iter().all(|word| *word == 0)
+}
+
+// The bytes of the registers, high byte first, at the front of the array.
+fn bytes_of(words: &[u16]) -> [u8; 250]
+    requires { length words.now ≤ 125 }
+    ensures { take (2 * length words.now) result ≡ words_text words.now }
+{
+    let mut bytes = [0; 250];
+    for (place, word) in words.iter().enumerate() {
+        bytes[2 * place] = (*word / 256) as u8;
+        bytes[2 * place + 1] = (*word % 256) as u8;
+    }
+    bytes
+}
+
+fn text_before_zero(bytes: &[u8]) -> ShortText
+    requires { length bytes.now ≤ 250 }
+    ensures { result ≡ before_first (λ byte. byte == 0) bytes.now }
+{
+    let end = zero_place(bytes).unwrap_or(bytes.len());
+    ShortText::from_bytes(&bytes[..end]).unwrap()
+}
+
+fn zero_place(bytes: &[u8]) -> Option<usize>
+    ensures { result ≡ position (λ byte. byte == 0) bytes.now }
+{
+    bytes.iter().position(|byte| *byte == 0)
+}
+
+fn register_sum_of(words: &[u16]) -> u64
+    requires { length words.now ≤ 4 }
+    ensures { result ≡ register_sum words.now }
+{
+    let mut sum = 0;
+    for word in words {
+        sum = 65536 * sum + *word as u64;
+    }
+    sum
+}
+
+fn number_of(content: Content, bits: u32, sum: u64) -> i128
+    requires some { 0 < bits }
+    requires few { bits ≤ 64 }
+    requires fits { sum < 2 ^ bits }
+    ensures { result ≡ number_meant content bits sum }
+{
+    match content {
+        Content::Signed if sum > greatest_of(bits - 1) => {
+            sum as i128 - greatest_of(bits) as i128 - 1
+        }
+        _ => sum as i128,
+    }
+}
