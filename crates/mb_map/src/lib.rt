@@ -1,0 +1,13 @@
+//! A Modbus device as a program sees it: its four tables, what it answers to a request, and a
+//! simulator that drops, repeats and delays its replies by a script.
+#![tactic(auto)]
+
+mod cells;
+mod device;
+mod error;
+mod mapping;
+mod table;
+
+pub use error::MapError;
+pub use mapping::Mapping;
+pub use table::Table;
