@@ -1,3 +1,10 @@
 pub mod Names
 pub mod Each
 pub mod Differ
+pub mod TextSets
+pub mod Checks
+pub mod Judging
+pub mod Whole
+pub mod DeviceNames
+pub mod Rows
+pub mod Header

@@ -2,3 +2,8 @@ pub mod Name
 pub mod NameFields
 pub mod Sites
 pub mod SiteFile
+pub mod Texts
+pub mod Columns
+pub mod Lists
+pub mod Judged
+pub mod Header

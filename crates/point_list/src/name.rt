@@ -7,9 +7,8 @@ ghost use Rattle.std.specs.Prelude.{nat_eq, refl};
 ghost use Rattle.point_list.specs.Name.{is_name, is_name_byte};
 
 use std::cmp::Ordering;
-use std::fmt;
 use std::marker::Model;
-use std::str;
+use std::{fmt, str};
 
 /// A name: 1 to 64 of `A-Z a-z 0-9 _ - .`, in a fixed array. Contracts see its bytes.
 #[derive(Clone, Copy)]

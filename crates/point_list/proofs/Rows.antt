@@ -1,0 +1,85 @@
+-- A body of records, record by record.
+use Rattle.std.proofs.Common.{◌≡◌, ◌<◌, ◌+◌, ◌||◌, ℕ, zero, suc, List, [], ◌∷◌, ◌++◌, length, map, take, get_or, refl, ap, sym, ◌∙◌, arith, subst, Option, Some, None, Bool, true, false, cond}
+use borrow.Author.Tests.{ltb-true}
+use Rattle.std.proofs.lemmas.List.{take_more, length-map, length-take-le, map-append}
+use Rattle.std.specs.List.{list_any}
+use Rattle.std.specs.Str.{bytes_eq}
+use Rattle.csv.specs.Records.{Row, fields_of}
+use Rattle.point_list.specs.Columns.{Record, field}
+use Rattle.point_list.specs.Lists.{Says, SaysRow, SayRows, fault_below, fault_of, names_of, names_in}
+use Rattle.point_list.specs.declared.error.ListFault.{ListFault}
+use Rattle.point_list.specs.declared.point.ListRow.{ListRow}
+
+-- the record at a place
+pub record_at : (body : List Row) (i : ℕ) (x : Row) → i < length body → x ≡ get_or body i x → get_or (map fields_of body) i [] ≡ fields_of x
+record_at [] i x lt e = absurd (omega arith)
+record_at (b ∷ bs) zero x lt e = ap fields_of (sym e)
+record_at (b ∷ bs) (suc i) x lt e = record_at bs i x (omega arith) e
+
+next_record : (body : List Row) (i : ℕ) (x : Row) → i < length body → x ≡ get_or body i x
+    → take (i + 1) (map fields_of body) ≡ take i (map fields_of body) ++ fields_of x ∷ []
+next_record body i x lt e =
+    let more = take_more (map fields_of body) i [] (omega (arith, length-map body fields_of)) in
+    more ∙ ap (λ (r : Record). take i (map fields_of body) ++ r ∷ []) (record_at body i x lt e)
+
+SayRows-push : (n m : ℕ) (rs : List Record) (rows : List ListRow) (r : Record) (x : ListRow) → m ≡ n + length rs → SayRows n rs rows → SaysRow m r x → SayRows n (rs ++ r ∷ []) (rows ++ x ∷ [])
+SayRows-push n m [] [] r x e say more =
+    let same : m ≡ n = omega arith in
+    let P : ℕ → Type 0 = λ k. SaysRow k r x in
+    (subst P same more, tt)
+SayRows-push n m [] (y ∷ ys) r x e say more = absurd say
+SayRows-push n m (q ∷ qs) [] r x e say more = absurd say
+SayRows-push n m (q ∷ qs) (y ∷ ys) r x e say more = (say.0, SayRows-push (n + 1) m qs ys r x (omega arith) say.1 more)
+
+-- one more row
+pub more_rows : (body : List Row) (i number : ℕ) (x : Row) (rows : List ListRow) (y : ListRow)
+    → i < length body → x ≡ get_or body i x → number ≡ i + 2
+    → SayRows 2 (take i (map fields_of body)) rows → y.row ≡ number → Says (fields_of x) y.point
+    → SayRows 2 (take (i + 1) (map fields_of body)) (rows ++ y ∷ [])
+more_rows body i number x rows y lt e place say row says =
+    let len : length (take i (map fields_of body)) ≡ i = length-take-le i (map fields_of body) (omega (arith, length-map body fields_of)) in
+    rw (next_record body i x lt e) (SayRows-push 2 number (take i (map fields_of body)) rows (fields_of x) y (omega (arith, len)) say (record { row = row; point = says }))
+
+-- one more name
+pub more_names : (body : List Row) (i : ℕ) (x : Row) (rows : List ListRow) (y : ListRow) → i < length body → x ≡ get_or body i x
+    → names_of rows ≡ names_in (take i (map fields_of body)) → Says (fields_of x) y.point
+    → names_of (rows ++ y ∷ []) ≡ names_in (take (i + 1) (map fields_of body))
+more_names body i x rows y lt e same says =
+    rw (
+      next_record body i x lt e,
+      map-append (λ (r : Record). field r 0) (take i (map fields_of body)) (fields_of x ∷ []),
+      map-append (λ (z : ListRow). z.point.name) rows (y ∷ []),
+      same,
+      says.name,
+    ) refl
+
+-- a name that is looked for is the last one or one before
+pub known_more : (rows : List ListRow) (y : ListRow) (text : List ℕ)
+    → list_any (λ name. bytes_eq text name) (names_of (rows ++ y ∷ [])) ≡ (bytes_eq text y.point.name || list_any (λ name. bytes_eq text name) (names_of rows))
+known_more [] y text = refl
+known_more (x ∷ xs) y text = rw (known_more xs y text) (middle (bytes_eq text x.point.name) (bytes_eq text y.point.name) (list_any (λ name. bytes_eq text name) (names_of xs)))
+  where
+    middle : (a b c : Bool) → (a || (b || c)) ≡ (b || (a || c))
+    middle true true c = refl
+    middle true false c = refl
+    middle false true c = refl
+    middle false false c = refl
+
+-- one more faultless record, or the first that has a fault
+pub more_faultless : (known : List ℕ → Bool) (body : List Row) (i : ℕ) (x : Row) (names : List (List ℕ)) (fault : Option (ListFault × ℕ))
+    → i < length body → x ≡ get_or body i x
+    → names ≡ names_in (take i (map fields_of body)) → fault_below known names (fields_of x) ≡ fault
+    → fault_of known (take i (map fields_of body)) (get_or (map fields_of body) i []) ≡ fault
+more_faultless known body i x names fault lt e same h = rw (record_at body i x lt e, ← same) h
+
+passed : {A : Type 0} (b : Bool) (x : Option A) (y : A) → cond b x (Some y) ≡ None → (b ≡ true) × (x ≡ None)
+passed true x y h = (refl, h)
+passed false x y h = cc
+
+-- few points stand below a faultless record
+pub few_names : (known : List ℕ → Bool) (names : List (List ℕ)) (r : Record) → fault_below known names r ≡ None → length names < 10000
+unfolding fault_below
+few_names known names r h =
+    let count = passed _ _ _ h in
+    let few = passed _ _ _ count.1 in
+    ltb-true (length names) 10000 few.0

@@ -1,0 +1,169 @@
+//! What a record of a list says, or its first fault.
+ghost use Rattle.std.specs.Prelude.{◌≡◌, ℕ, List, None, Some, IfOk, IfErr, if◌then◌else◌, true};
+ghost use Rattle.std.specs.List.{list_any};
+ghost use Rattle.std.specs.Str.{bytes_eq};
+ghost use Rattle.csv.specs.Records.{fields_of};
+ghost use Rattle.point_list.specs.Name.{is_name};
+ghost use Rattle.point_list.specs.Texts.{has_text};
+ghost use Rattle.point_list.specs.Lists.{Says, ends_in_time, fault_below, first_failed, meaning_checks, place_checks, names_of, table_in};
+ghost use Rattle.point_list.specs.Judged.{SaysPlace, SaysMeaning};
+
+use crate::columns::{
+    address_in, field_of, is_left_out, role_in, roll_in, scale_in, table_named, type_named,
+    type_sized,
+};
+use crate::error::ListFault;
+use crate::name::Name;
+use crate::point::{ListRow, Point, Role};
+use crate::texts::Texts;
+use csv::ByteRecord;
+use mb_map::Table;
+use sunspec::PointType;
+
+/// Columns 1 to 4: where a point is.
+#[derive(Clone, Copy)]
+pub(crate) struct Place {
+    name: Name,
+    device: Name,
+    table: Table,
+    address: u16,
+}
+
+/// Columns 5 to 9: what a point means.
+#[derive(Clone, Copy)]
+pub(crate) struct Meaning {
+    kind: PointType,
+    scale: i8,
+    role: Role,
+    roll: u64,
+}
+
+/// The device of this name, if there is one.
+fn device_named(devices: &Texts<'_>, text: &[u8]) -> Option<Name>
+    requires { has_text devices.now text.now ≡ true → is_name text.now ≡ true }
+    ensures { result ≡ (if has_text devices.now text.now then Some text.now else None) }
+{
+    if !devices.has(text) {
+        return None;
+    }
+    match Name::new(text) {
+        Some(name) => Some(name),
+        None => unreachable!(),
+    }
+}
+
+#[tactic(auto, unfolding(crate::specs::Lists::table_in, crate::specs::Lists::address_in))]
+fn place_in(
+    devices: &Texts<'_>,
+    before: usize,
+    record: &ByteRecord,
+) -> Result<Place, (ListFault, u8)>
+    requires { (text : List ℕ) → has_text devices.now text ≡ true → is_name text ≡ true }
+    ensures place { IfOk result (λ x. (first_failed (place_checks (has_text devices.now) before (fields_of record.now)) ≡ None)
+        × SaysPlace (fields_of record.now) x) }
+    ensures fault { IfErr result (λ e. first_failed (place_checks (has_text devices.now) before (fields_of record.now)) ≡ Some e) }
+{
+    if record.len() != 9 {
+        return Err((ListFault::BadCsv, 0));
+    }
+    if before >= 10000 {
+        return Err((ListFault::TooManyPoints, 0));
+    }
+    let Some(name) = Name::new(field_of(record, 0)) else {
+        return Err((ListFault::BadName, 1));
+    };
+    let Some(device) = device_named(devices, field_of(record, 1)) else {
+        return Err((ListFault::UnknownDevice, 2));
+    };
+    let Some(table) = table_named(field_of(record, 2)) else {
+        return Err((ListFault::BadTable, 3));
+    };
+    let Some(address) = address_in(field_of(record, 3)) else {
+        return Err((ListFault::BadAddress, 4));
+    };
+    Ok(Place {
+        name,
+        device,
+        table,
+        address,
+    })
+}
+
+#[tactic(auto, unfolding(crate::specs::Lists::name_of_type_in, crate::specs::Lists::type_in, crate::specs::Lists::scale_in, crate::specs::Lists::role_in, crate::specs::Lists::roll_in))]
+fn meaning_in(table: Table, record: &ByteRecord) -> Result<Meaning, (ListFault, u8)>
+    requires { table_in (fields_of record.now) ≡ Some table }
+    ensures meaning { IfOk result (λ x. (first_failed (meaning_checks (fields_of record.now)) ≡ None) × SaysMeaning (fields_of record.now) x) }
+    ensures fault { IfErr result (λ e. first_failed (meaning_checks (fields_of record.now)) ≡ Some e) }
+{
+    if is_left_out(field_of(record, 4)) {
+        return Err((ListFault::LeftOutType, 5));
+    }
+    let Some(kind) = type_named(table, field_of(record, 4)) else {
+        return Err((ListFault::BadType, 5));
+    };
+    let Some(kind) = type_sized(kind, field_of(record, 5)) else {
+        return Err((ListFault::BadLength, 6));
+    };
+    let Some(scale) = scale_in(kind, field_of(record, 6)) else {
+        return Err((ListFault::BadScale, 7));
+    };
+    let Some(role) = role_in(table, kind, field_of(record, 7)) else {
+        return Err((ListFault::BadRole, 8));
+    };
+    let Some(roll) = roll_in(kind, role, field_of(record, 8)) else {
+        return Err((ListFault::BadRoll, 9));
+    };
+    Ok(Meaning {
+        kind,
+        scale,
+        role,
+        roll,
+    })
+}
+
+/// Whether the point ends by the last address.
+fn ends_in_time(address: u16, kind: PointType) -> bool
+    ensures { result ≡ ends_in_time (Some address) (Some kind) }
+{
+    address as u32 + kind.registers() as u32 <= 65536
+}
+
+/// The point of a record below these rows, whose names the set has, or its first fault.
+#[tactic(auto, unfolding(crate::specs::Lists::fault_below))]
+pub(crate) fn point_in(
+    devices: &Texts<'_>,
+    names: &Texts<'_>,
+    rows: &[ListRow],
+    record: &ByteRecord,
+) -> Result<Point, (ListFault, u8)>
+    requires devices { (text : List ℕ) → has_text devices.now text ≡ true → is_name text ≡ true }
+    requires names { (text : List ℕ) → has_text names.now text ≡ list_any (λ name. bytes_eq text name) (names_of rows.now) }
+    ensures point { IfOk result (λ x. (fault_below (has_text devices.now) (names_of rows.now) (fields_of record.now) ≡ None)
+        × Says (fields_of record.now) x) }
+    ensures fault { IfErr result (λ e. fault_below (has_text devices.now) (names_of rows.now) (fields_of record.now) ≡ Some e) }
+{
+    let place = match place_in(devices, rows.len(), record) {
+        Ok(place) => place,
+        Err(e) => return Err(e),
+    };
+    let meaning = match meaning_in(place.table, record) {
+        Ok(meaning) => meaning,
+        Err(e) => return Err(e),
+    };
+    if !ends_in_time(place.address, meaning.kind) {
+        return Err((ListFault::BadAddress, 4));
+    }
+    if names.has(place.name.as_bytes()) {
+        return Err((ListFault::Twice, 1));
+    }
+    Ok(Point {
+        name: place.name,
+        device: place.device,
+        table: place.table,
+        address: place.address,
+        kind: meaning.kind,
+        scale: meaning.scale,
+        role: meaning.role,
+        roll: meaning.roll,
+    })
+}

@@ -1,0 +1,154 @@
+//! Point lists, as CSV.
+ghost use Rattle.std.specs.Prelude.{◌≡◌, ◌≢◌, ◌⊎◌, ◌||◌, ℕ, List, Some, IfOk, IfErr, map, true};
+ghost use Rattle.std.specs.List.{list_any};
+ghost use Rattle.std.specs.Str.{bytes_eq};
+ghost use Rattle.csv.specs.Records.{fields_of};
+ghost use Rattle.point_list.specs.Name.{is_name};
+ghost use Rattle.point_list.specs.Columns.{is_device};
+ghost use Rattle.point_list.specs.Texts.{has_text};
+ghost use Rattle.point_list.specs.Lists.{AreRows, IsFaultOf, FaultlessBelow, IsFirstInBody, IsMemory, SayRows, records_of};
+ghost use Rattle.point_list.specs.Header.{is_header};
+ghost use Rattle.std.specs.Prelude.{length};
+
+use crate::columns::field_of;
+use crate::error::{ListError, ListFault};
+use crate::judge::point_in;
+use crate::point::{ListRow, Point};
+use crate::site::{Device, Site};
+use crate::texts::Texts;
+use csv::{ByteRecord, ErrorKind, ReaderBuilder};
+use std::alloc::{AllocError, Global};
+
+/// Whether a record is the header.
+fn is_header(record: &ByteRecord) -> bool
+    ensures { result ≡ is_header (fields_of record.now) }
+{
+    record.len() == 9
+        && field_of(record, 0) == b"name".as_slice()
+        && field_of(record, 1) == b"device".as_slice()
+        && field_of(record, 2) == b"table".as_slice()
+        && field_of(record, 3) == b"address".as_slice()
+        && field_of(record, 4) == b"type".as_slice()
+        && field_of(record, 5) == b"length".as_slice()
+        && field_of(record, 6) == b"scale".as_slice()
+        && field_of(record, 7) == b"role".as_slice()
+        && field_of(record, 8) == b"roll".as_slice()
+}
+
+/// The records of a text.
+fn records(alloc: Global, bytes: &[u8]) -> Result<Vec<ByteRecord>, AllocError>
+    ensures { IfOk result (λ v. map fields_of v.items ≡ records_of bytes.now) }
+{
+    // Flexible, so that the number of fields is left to the checks.
+    let reader = ReaderBuilder::new()
+        .has_headers(false)
+        .flexible(true)
+        .from_reader(alloc, bytes);
+    let mut rows = Vec::new(alloc);
+    for row in reader.into_byte_records() {
+        let row = match row {
+            Ok(row) => row,
+            Err(e) => match e.into_kind() {
+                ErrorKind::Io(_) => return Err(AllocError),
+                ErrorKind::OutOfMemory => return Err(AllocError),
+                _ => unreachable!(),
+            },
+        };
+        if rows.push(row).is_err() {
+            return Err(AllocError);
+        }
+    }
+    Ok(rows)
+}
+
+/// The names of devices, to look for one in.
+fn names_of_devices<'a>(alloc: Global, devices: &'a [Device]) -> Result<Texts<'a>, AllocError>
+    ensures known { IfOk result (λ names. (text : List ℕ) → has_text names text ≡ list_any (λ d. bytes_eq text d.name) devices.now) }
+    ensures named { IfOk result (λ names. (text : List ℕ) → has_text names text ≡ true → is_name text ≡ true) }
+{
+    let mut names = Texts::new(alloc);
+    for device in devices {
+        if names.add(device.name.as_bytes()).is_err() {
+            return Err(AllocError);
+        }
+    }
+    Ok(names)
+}
+
+/// The rows of a body of records, or its first fault.
+fn rows_of(
+    alloc: Global,
+    devices: &Texts<'_>,
+    body: &[ByteRecord],
+) -> Result<Vec<ListRow>, ListError>
+    requires { (text : List ℕ) → has_text devices.now text ≡ true → is_name text ≡ true }
+    ensures rows { IfOk result (λ v. FaultlessBelow (has_text devices.now) (map fields_of body.now) (length (map fields_of body.now))
+        × SayRows 2 (map fields_of body.now) v.items) }
+    ensures fault { IfErr result (λ e. IsMemory e ⊎ IsFirstInBody (has_text devices.now) (map fields_of body.now) e) }
+{
+    let mut rows = Vec::new(alloc);
+    let mut names = Texts::new(alloc);
+    let mut number = 2;
+    for record in body {
+        let point = match point_in(devices, &names, rows.as_slice(), record) {
+            Ok(point) => point,
+            Err((fault, column)) => return Err(ListError::new(fault, number, column)),
+        };
+        if names.add(field_of(record, 0)).is_err() {
+            return Err(ListError::memory());
+        }
+        if rows.push(ListRow { row: number, point }).is_err() {
+            return Err(ListError::memory());
+        }
+        number += 1;
+    }
+    Ok(rows)
+}
+
+/// The rows of a list of records, or its first fault.
+fn rows_in(alloc: Global, site: &Site, list: &[ByteRecord]) -> Result<Vec<ListRow>, ListError>
+    ensures rows { IfOk result (λ v. AreRows (is_device site.now) (map fields_of list.now) v.items) }
+    ensures fault { IfErr result (λ e. IsMemory e ⊎ IsFaultOf (is_device site.now) (map fields_of list.now) e) }
+{
+    let Some((first, body)) = list.split_first() else {
+        return Err(ListError::new(ListFault::BadHeader, 1, 0));
+    };
+    if !is_header(first) {
+        return Err(ListError::new(ListFault::BadHeader, 1, 0));
+    }
+    let devices = match names_of_devices(alloc, site.devices.as_slice()) {
+        Ok(devices) => devices,
+        Err(_) => return Err(ListError::memory()),
+    };
+    match rows_of(alloc, &devices, body) {
+        Ok(rows) => Ok(rows),
+        Err(e) => Err(e),
+    }
+}
+
+/// The rows of a point list in the order of its records, or the first fault of its first faulty
+/// record. The list is CSV as the crate `csv` reads it by default, a byte order mark in front
+/// dropped; its first record is
+/// `name,device,table,address,type,length,scale,role,roll`. A record is checked for its number of
+/// fields, then for how many points stand before it, then column by column, then for its range of
+/// addresses, then for a name that stands earlier. At most 10,000 points.
+pub fn read_list(alloc: Global, bytes: &[u8], site: &Site) -> Result<Vec<ListRow>, ListError>
+    ensures rows { IfOk result (λ v. AreRows (is_device site.now) (records_of bytes.now) v.items) }
+    ensures fault { IfErr result (λ e. IsMemory e ⊎ IsFaultOf (is_device site.now) (records_of bytes.now) e) }
+{
+    match records(alloc, bytes) {
+        Ok(list) => rows_in(alloc, site, list.as_slice()),
+        Err(_) => Err(ListError::memory()),
+    }
+}
+
+/// The points of a list's rows, in their order.
+pub fn resolve(alloc: Global, rows: Vec<ListRow>) -> Result<Vec<Point>, ListError>
+    ensures points { IfOk result (λ v. v.items ≡ map (λ row. row.point) rows.items) }
+    ensures memory { IfErr result (λ e. IsMemory e) }
+{
+    match rows.iter().map(|row| row.point).collect(alloc) {
+        Ok(points) => Ok(points),
+        Err(_) => Err(ListError::memory()),
+    }
+}

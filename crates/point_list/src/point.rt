@@ -1,0 +1,39 @@
+use crate::name::Name;
+use mb_map::Table;
+use sunspec::PointType;
+
+/// What a point is for.
+#[derive(Clone, Copy, Debug, PartialEq, Eq)]
+pub enum Role {
+    /// A value that goes up and down.
+    Gauge,
+    /// A count that only rises, and begins again at 0 after its roll.
+    Counter,
+    /// A value that orders set.
+    Setting,
+}
+
+/// A point: where a device keeps a value, and what it means.
+#[derive(Clone, Copy, Debug, PartialEq, Eq)]
+pub struct Point {
+    pub name: Name,
+    /// The name of its device.
+    pub device: Name,
+    pub table: Table,
+    /// The address of its first register or of its cell.
+    pub address: u16,
+    pub kind: PointType,
+    /// The power of ten that its number is multiplied by, -10 to 10.
+    pub scale: i8,
+    pub role: Role,
+    /// The greatest value of a counter before it begins again at 0; 0 for other roles.
+    pub roll: u64,
+}
+
+/// A record of a list.
+#[derive(Clone, Copy, Debug, PartialEq, Eq)]
+pub struct ListRow {
+    /// The number of the record, of which the header is 1.
+    pub row: u32,
+    pub point: Point,
+}
