@@ -29,8 +29,8 @@ named-more text name old ok more h = split (bytes_eq text name) refl h
   where
     split : (b : Bool) → bytes_eq text name ≡ b → (b || old) ≡ true → is_name text ≡ true
     split true is k =
-      let P : List ℕ → Type 0 = λ xs. is_name xs ≡ true in
-      subst P (sym ((bytes_eq-Decides text name).0 is)) ok
+        let P : List ℕ → Type 0 = λ xs. is_name xs ≡ true in
+        subst P (sym ((bytes_eq-Decides text name).0 is)) ok
     split false is k = more k
 
 -- what holds where a call succeeded

@@ -19,3 +19,6 @@ pub use name::Name;
 pub use point::{ListRow, Point, Role};
 pub use site::{Address, Device, Line, Site};
 pub use site_file::read_site;
+
+#[cfg(test)]
+mod tests;

@@ -35,7 +35,7 @@ loop-record-preserved c =
       say = rw items (more_rows body i c.loop-record.number x rows y lt c.record-item.is inv.number inv.say refl judged.1);
       named = rw items (more_names body i x rows y lt c.record-item.is inv.named judged.1);
       known = λ text. rw items (
-        added text ∙ ap (λ b. bytes_eq text (field (fields_of x) 0) || b) (inv.known text)
-        ∙ sym (known_more rows y text ∙ ap (λ name. bytes_eq text name || list_any (λ n. bytes_eq text n) (names_of rows)) judged.1.name)
-      );
+          added text ∙ ap (λ b. bytes_eq text (field (fields_of x) 0) || b) (inv.known text)
+          ∙ sym (known_more rows y text ∙ ap (λ name. bytes_eq text name || list_any (λ n. bytes_eq text n) (names_of rows)) judged.1.name)
+          );
     }

@@ -1,0 +1,4 @@
+//! Point lists and site files as operators write them.
+mod columns;
+mod lists;
+mod sites;

@@ -1,0 +1,205 @@
+//! Each column at its limits and one past them, and which fault comes first.
+use crate::{
+    Device, Items, Line, ListError, ListFault, ListRow, Name, Point, Role, Site, read_list,
+};
+use mb_map::Table;
+use std::alloc::{AllocError, Global};
+use std::test::Fail;
+use sunspec::PointType;
+
+const HEADER: &str = "name,device,table,address,type,length,scale,role,roll\n";
+
+/// A site with the device `m1`.
+pub(crate) fn site(alloc: Global) -> Result<Site, AllocError> {
+    let mut devices = Vec::new(alloc);
+    if let Some(name) = Name::new(b"m1") {
+        devices.push(Device {
+            name,
+            line: 0,
+            unit: 17,
+            gap: 8,
+        })?;
+    }
+    Ok(Site {
+        lines: Items::from_vec(Vec::<Line>::new(alloc)),
+        devices: Items::from_vec(devices),
+    })
+}
+
+/// What the list of the header and this text reads as.
+pub(crate) fn read(alloc: Global, body: &str) -> Result<Vec<ListRow>, ListError> {
+    let memory = ListError {
+        fault: ListFault::Memory,
+        row: 0,
+        column: 0,
+    };
+    let Ok(site) = site(alloc) else {
+        return Err(memory);
+    };
+    match format!(in alloc; "{HEADER}{body}") {
+        Ok(text) => read_list(alloc, text.as_bytes(), &site),
+        Err(_) => Err(memory),
+    }
+}
+
+fn fault_of(alloc: Global, record: &str) -> Option<(ListFault, u8)> {
+    match read(alloc, record) {
+        Ok(_) => None,
+        Err(e) => Some((e.fault, e.column)),
+    }
+}
+
+#[test]
+fn what_a_record_says(rt: HostRuntime) -> Result<(), Fail> {
+    let rows = read(rt.alloc(), "lim.x-2_A,m1,coil,65535,bit,1,,setting,\n").ok();
+    let row = rows
+        .as_ref()
+        .and_then(|rows| rows.first().copied())
+        .ok_or("a row")?;
+    assert_eq!(rt; row.row, 2);
+    let name = Name::new(b"lim.x-2_A").ok_or("a name")?;
+    let device = Name::new(b"m1").ok_or("a name")?;
+    let point = Point {
+        name,
+        device,
+        table: Table::Coil,
+        address: 65535,
+        kind: PointType::Bit,
+        scale: 0,
+        role: Role::Setting,
+        roll: 0,
+    };
+    assert_eq!(rt; row.point, point);
+    Ok(())
+}
+
+#[test]
+fn each_column_at_its_limits(rt: HostRuntime) {
+    use ListFault::*;
+    let cases: [(&str, Option<(ListFault, u8)>); 58] = [
+        ("e,m1,holding,107,uint16,,,counter,", None),
+        ("e,m1,holding,107,uint16,,,counter", Some((BadCsv, 0))),
+        ("e,m1,holding,107,uint16,,,counter,,", Some((BadCsv, 0))),
+        // name
+        (",m1,holding,107,uint16,,,gauge,", Some((BadName, 1))),
+        ("a b,m1,holding,107,uint16,,,gauge,", Some((BadName, 1))),
+        (
+            "abcdefghijklmnopqrstuvwxyz0123456789ABCDEFGHIJKLMNOPQRSTUVWXYZ_-,m1,holding,107,uint16,,,gauge,",
+            None,
+        ),
+        (
+            "abcdefghijklmnopqrstuvwxyz0123456789ABCDEFGHIJKLMNOPQRSTUVWXYZ_-.,m1,holding,107,uint16,,,gauge,",
+            Some((BadName, 1)),
+        ),
+        // device, table
+        ("e,m2,holding,107,uint16,,,gauge,", Some((UnknownDevice, 2))),
+        ("e,,holding,107,uint16,,,gauge,", Some((UnknownDevice, 2))),
+        ("e,m1,Holding,107,uint16,,,gauge,", Some((BadTable, 3))),
+        ("e,m1,input,107,uint16,,,gauge,", None),
+        ("e,m1,discrete,107,bit,,,gauge,", None),
+        // address
+        ("e,m1,holding,0,uint16,,,gauge,", None),
+        ("e,m1,holding,00107,uint16,,,gauge,", None),
+        ("e,m1,holding,65535,uint16,,,gauge,", None),
+        ("e,m1,holding,65536,uint16,,,gauge,", Some((BadAddress, 4))),
+        ("e,m1,holding,000107,uint16,,,gauge,", Some((BadAddress, 4))),
+        ("e,m1,holding,,uint16,,,gauge,", Some((BadAddress, 4))),
+        ("e,m1,holding,+1,uint16,,,gauge,", Some((BadAddress, 4))),
+        (
+            "e,m1,holding,m103+24,uint16,,,gauge,",
+            Some((BadAddress, 4)),
+        ),
+        ("e,m1,holding,65534,uint32,,,gauge,", None),
+        ("e,m1,holding,65535,uint32,,,gauge,", Some((BadAddress, 4))),
+        ("e,m1,holding,65412,string,124,,gauge,", None),
+        (
+            "e,m1,holding,65412,string,125,,gauge,",
+            Some((BadAddress, 4)),
+        ),
+        // type
+        ("e,m1,holding,1,uint8,,,gauge,", Some((BadType, 5))),
+        ("e,m1,holding,1,,,,gauge,", Some((BadType, 5))),
+        ("e,m1,holding,1,bit,,,gauge,", Some((BadType, 5))),
+        ("e,m1,coil,1,uint16,,,gauge,", Some((BadType, 5))),
+        ("e,m1,coil,1,float32,,,gauge,", Some((LeftOutType, 5))),
+        // length
+        ("e,m1,holding,1,int64,4,,gauge,", None),
+        ("e,m1,holding,1,int64,004,,gauge,", None),
+        ("e,m1,holding,1,int64,3,,gauge,", Some((BadLength, 6))),
+        ("e,m1,holding,1,string,,,gauge,", Some((BadLength, 6))),
+        ("e,m1,holding,1,string,0,,gauge,", Some((BadLength, 6))),
+        ("e,m1,holding,1,string,1,,gauge,", None),
+        ("e,m1,holding,1,string,126,,gauge,", Some((BadLength, 6))),
+        // scale
+        ("e,m1,holding,1,int16,,-10,gauge,", None),
+        ("e,m1,holding,1,int16,,10,gauge,", None),
+        ("e,m1,holding,1,int16,,-11,gauge,", Some((BadScale, 7))),
+        ("e,m1,holding,1,int16,,11,gauge,", Some((BadScale, 7))),
+        ("e,m1,holding,1,int16,,+1,gauge,", Some((BadScale, 7))),
+        ("e,m1,holding,1,enum16,,-0,gauge,", None),
+        ("e,m1,holding,1,enum16,,1,gauge,", Some((BadScale, 7))),
+        ("e,m1,holding,1,ipaddr,,-1,gauge,", Some((BadScale, 7))),
+        // role
+        ("e,m1,holding,1,int16,,,counter,", Some((BadRole, 8))),
+        ("e,m1,holding,1,int16,,,setting,", None),
+        ("e,m1,input,1,int16,,,setting,", Some((BadRole, 8))),
+        ("e,m1,holding,1,acc16,,,setting,", Some((BadRole, 8))),
+        ("e,m1,holding,1,int16,,,,", Some((BadRole, 8))),
+        // roll
+        ("e,m1,holding,1,uint16,,,counter,65535", None),
+        ("e,m1,holding,1,uint16,,,counter,65536", Some((BadRoll, 9))),
+        ("e,m1,holding,1,uint16,,,counter,0", Some((BadRoll, 9))),
+        ("e,m1,holding,1,uint16,,,counter,1", None),
+        ("e,m1,holding,1,uint16,,,gauge,1", Some((BadRoll, 9))),
+        ("e,m1,holding,1,acc64,,,counter,18446744073709551615", None),
+        (
+            "e,m1,holding,1,acc64,,,counter,18446744073709551616",
+            Some((BadRoll, 9)),
+        ),
+        (
+            "e,m1,holding,1,acc64,,,counter,000000000000000000001",
+            Some((BadRoll, 9)),
+        ),
+        // Of two faults the first in the order of the checks.
+        ("e,m2,wall,1,float32,,,pet,x", Some((UnknownDevice, 2))),
+    ];
+    for (record, fault) in cases {
+        assert_eq!(rt; fault_of(rt.alloc(), record), fault, "{record}");
+    }
+}
+
+#[test]
+fn types_that_are_left_out(rt: HostRuntime) -> Result<(), Fail> {
+    for name in [
+        "float32", "float64", "eui48", "ipv6addr", "count", "raw16", "pad",
+    ] {
+        let record = format!(in rt.alloc(); "e,m1,holding,1,{name},9,99,pet,x")?;
+        assert_eq!(rt;
+            fault_of(rt.alloc(), record.as_str()),
+            Some((ListFault::LeftOutType, 5)),
+            "{name}"
+        );
+    }
+    Ok(())
+}
+
+#[test]
+fn rolls_of_counters(rt: HostRuntime) -> Result<(), Fail> {
+    let cases = [
+        ("uint16", "", u16::MAX as u64),
+        ("acc32", "", u32::MAX as u64),
+        ("uint64", "", u64::MAX),
+        ("acc16", "99", 99),
+    ];
+    for (kind, roll, expected) in cases {
+        let record = format!(in rt.alloc(); "e,m1,input,7,{kind},,-2,counter,{roll}")?;
+        let rows = read(rt.alloc(), record.as_str()).ok();
+        let row = rows
+            .as_ref()
+            .and_then(|rows| rows.first().copied())
+            .ok_or("a row")?;
+        assert_eq!(rt; row.point.roll, expected, "{kind} {roll}");
+        assert_eq!(rt; (row.point.scale, row.point.role), (-2, Role::Counter));
+    }
+    Ok(())
+}

@@ -1,0 +1,165 @@
+//! Site files as operators write them.
+use crate::{ListError, ListFault, Name, read_site};
+use std::alloc::{AllocError, Global};
+use std::test::Fail;
+
+const EXAMPLE: &str = "[[line]]
+name = \"roof\"
+address = \"127.0.0.1:1502\"
+
+[[device]]
+name = \"m1\"
+line = \"roof\"
+unit = 17
+gap = 8
+models = [[1, 40002, 66], [103, 40070, 50]]
+";
+
+const BAD_SITE: ListError = ListError {
+    fault: ListFault::BadSite,
+    row: 0,
+    column: 0,
+};
+
+#[test]
+fn the_example(rt: HostRuntime) -> Result<(), Fail> {
+    let site = read_site(rt.alloc(), EXAMPLE.as_bytes())
+        .ok()
+        .ok_or("a site")?;
+    let roof = Name::new(b"roof").ok_or("a name")?;
+    let m1 = Name::new(b"m1").ok_or("a name")?;
+    match site.lines.as_slice() {
+        [line] => {
+            assert_eq!(rt; line.name, roof);
+            assert_eq!(rt; line.address.as_str(), "127.0.0.1:1502");
+        }
+        _ => assert!(rt; false, "one line"),
+    }
+    match site.devices.as_slice() {
+        [device] => {
+            assert_eq!(rt; device.name, m1);
+            assert_eq!(rt; (device.line, device.unit, device.gap), (0, 17, 8));
+        }
+        _ => assert!(rt; false, "one device"),
+    }
+    Ok(())
+}
+
+/// Where an allocation is refused the answer is `Memory` and nothing else.
+#[test]
+fn refused_memory_is_told(rt: HostRuntime) {
+    match read_site(rt.alloc(), EXAMPLE.as_bytes()) {
+        Ok(site) => assert_eq!(rt; site.devices.as_slice().len(), 1),
+        Err(e) => assert_eq!(rt; (e.fault, e.row, e.column), (ListFault::Memory, 0, 0)),
+    }
+}
+
+/// A site with one line and a device of these members.
+fn with_device(alloc: Global, members: &str) -> Result<String, AllocError> {
+    format!(in alloc; "line = [{{name = \"roof\", address = \"\"}}]\ndevice = [{members}]\n")
+}
+
+#[test]
+fn devices_at_their_limits(rt: HostRuntime) -> Result<(), Fail> {
+    let cases = [
+        (
+            "{name = \"a\", line = \"roof\", unit = 255, gap = 124}",
+            true,
+        ),
+        ("{name = \"a\", line = \"roof\", unit = 0}", true),
+        (
+            "{name = \"roof\", line = \"roof\", unit = 0, else = 1}",
+            true,
+        ),
+        ("{name = \"a\", line = \"roof\", unit = 256}", false),
+        ("{name = \"a\", line = \"roof\", unit = -1}", false),
+        ("{name = \"a\", line = \"roof\", unit = \"1\"}", false),
+        ("{name = \"a\", line = \"roof\"}", false),
+        (
+            "{name = \"a\", line = \"roof\", unit = 1, gap = 125}",
+            false,
+        ),
+        (
+            "{name = \"a\", line = \"roof\", unit = 1, gap = 1.0}",
+            false,
+        ),
+        ("{name = \"a\", line = \"attic\", unit = 1}", false),
+        ("{name = \"a b\", line = \"roof\", unit = 1}", false),
+        ("{name = 1, line = \"roof\", unit = 1}", false),
+        ("{line = \"roof\", unit = 1}", false),
+        ("1", false),
+        (
+            "{name = \"a\", line = \"roof\", unit = 1}, {name = \"b\", line = \"roof\", unit = 2}",
+            true,
+        ),
+        (
+            "{name = \"a\", line = \"roof\", unit = 1}, {name = \"a\", line = \"roof\", unit = 2}",
+            false,
+        ),
+        (
+            "{name = \"a\", line = \"roof\", unit = 1}, {name = \"b\", line = \"roof\", unit = 1}",
+            false,
+        ),
+    ];
+    for (members, fits) in cases {
+        let text = with_device(rt.alloc(), members)?;
+        let read = read_site(rt.alloc(), text.as_bytes());
+        assert_eq!(rt; read.is_ok(), fits, "{members}");
+        if let Err(e) = read {
+            assert_eq!(rt; e, BAD_SITE, "{members}");
+        }
+    }
+    Ok(())
+}
+
+#[test]
+fn texts_that_are_no_site(rt: HostRuntime) {
+    let cases: [&[u8]; 7] = [
+        b"",
+        b"\xFF",
+        b"line = []",
+        b"device = []",
+        b"[line]\nname = \"a\"\naddress = \"b\"\n",
+        b"[[line]]\nname = \"a\"\n[[device]]\nname = \"a\"\nline = \"a\"\nunit = 1\n",
+        b"device = []\nline = [{name = \"a\", address = \"\"}, {name = \"a\", address = \"\"}]",
+    ];
+    for text in cases {
+        assert_eq!(rt;
+            read_site(rt.alloc(), text).err(),
+            Some(BAD_SITE),
+            "{text:?}"
+        );
+    }
+    assert!(rt; read_site(rt.alloc(), b"line = []\ndevice = []").is_ok());
+}
+
+/// So many lines and devices, each device behind the line of its number.
+fn many(alloc: Global, lines: u32, devices: u32) -> Result<String, AllocError> {
+    let mut text = String::new(alloc);
+    for number in 0..lines {
+        let line = format!(in alloc; "[[line]]\nname = \"l{number}\"\naddress = \"\"\n")?;
+        text.push_str(line.as_str())?;
+    }
+    for number in 0..devices {
+        let line = number % 64;
+        let unit = number / 64;
+        let device = format!(in alloc;
+            "[[device]]\nname = \"d{number}\"\nline = \"l{line}\"\nunit = {unit}\n"
+        )?;
+        text.push_str(device.as_str())?;
+    }
+    Ok(text)
+}
+
+#[test]
+fn as_many_as_there_may_be(rt: HostRuntime) -> Result<(), Fail> {
+    for (lines, devices, fits) in [(64u32, 256u32, true), (65, 1, false), (64, 257, false)] {
+        let text = many(rt.alloc(), lines, devices)?;
+        assert_eq!(rt;
+            read_site(rt.alloc(), text.as_bytes()).is_ok(),
+            fits,
+            "{lines} {devices}"
+        );
+    }
+    Ok(())
+}
