@@ -343,3 +343,28 @@ fn errors_have_texts(rt: HostRuntime) {
         }
     }
 }
+
+// Run with each allocation refused in turn: every answer is then the right text or the refusal of
+// memory. That there are texts at all, the tests above show.
+#[test]
+fn refused_memory_is_told(rt: HostRuntime) {
+    let alloc = rt.alloc();
+    for (number, scale, text) in [(-2345, -2, "-23.45"), (5, -3, "0.005"), (12, 2, "1200")] {
+        match scaled_text(alloc, number, scale) {
+            Ok(found) => assert!(rt; found.as_str() == text),
+            Err(e) => assert!(rt; e == SunError::Memory),
+        }
+    }
+    for (kind, text) in [
+        (PointType::Ipaddr, "65.98.67.100"),
+        (PointType::Str(2), "AbCd"),
+        (PointType::Uint32, "1096958.820"),
+    ] {
+        if kind.has_registers([0x4162, 0x4364].as_slice()) && kind.is_sized() {
+            match shown_text(alloc, &kind, [0x4162, 0x4364].as_slice(), -3) {
+                Ok(found) => assert!(rt; found.map_or(false, |found| found.as_str() == text)),
+                Err(e) => assert!(rt; e == SunError::Memory),
+            }
+        }
+    }
+}
