@@ -1,4 +1,4 @@
--- What registers mean.
+-- What registers mean (SunSpec Device Information Model, point types).
 use Rattle.std.specs.Prelude.{◌≡◌, ◌≤◌, ◌<◌, ℕ, ◌+◌, ◌-◌, ◌*◌, ◌^◌, ℤ, pos, ◌-ℤ◌, List, [], ◌∷◌, All, length, nat_lt, ◌==◌, if◌then◌else◌}
 use Rattle.std.specs.List.{before_first}
 use Rattle.mb_pdu.specs.Packing.{words_text}

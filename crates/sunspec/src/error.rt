@@ -16,6 +16,11 @@ pub enum SunError {
 }
 
 impl fmt::Display for SunError {
+    ghost use Rattle.std.specs.Prelude.{Some};
+    ghost use Rattle.sunspec.specs.Refusal.{refusal_text};
+
+    ghost output = { λ e. Some (refusal_text e) };
+
     fn fmt<W: fmt::Write>(&self, f: &mut fmt::Formatter<W>) -> fmt::Result {
         f.write_str(match self {
             SunError::OutOfRange => "out of range",
