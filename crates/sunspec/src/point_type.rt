@@ -1,4 +1,4 @@
-ghost use Rattle.std.specs.Prelude.{◌≡◌, ◌↔◌, ◌^◌, ◌-◌, ◌≤◌, IsTrue};
+ghost use Rattle.std.specs.Prelude.{◌≡◌, ◌↔◌, ◌^◌, ◌-◌, ◌≤◌, IfSome, IsTrue};
 ghost use Rattle.sunspec.specs.Value.{AreRegistersOf};
 ghost use Rattle.sunspec.specs.PointType.{IsSized, bits, bits_of, coded, is_unimplemented, named, resized, row, row_shown};
 
@@ -219,7 +219,8 @@ impl PointType {
     /// The type of this name with so many registers, if there is one: a string of any length from
     /// 1 to 125, every other type with its own number alone.
     pub fn with_registers(&self, registers: u16) -> Option<PointType>
-        ensures { result ≡ resized self.now registers }
+        ensures kind { result ≡ resized self.now registers }
+        ensures sized { IfSome result (λ kind. IsSized kind) }
     {
         match self {
             PointType::Str(_) => {
