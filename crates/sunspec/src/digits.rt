@@ -24,7 +24,8 @@ pub fn within(text: &[u8], limit: u128) -> Option<u128>
 
 // The number with one more digit, if the byte is one and the limit allows it.
 fn more(number: u128, byte: u8, limit: u128) -> Option<u128>
-    ensures { result ≡ (if is_ascii_digit byte && nat_le (10 * number + (byte - 48)) limit then Some (10 * number + (byte - 48)) else None) }
+    ensures { let next = 10 * number + (byte - 48) in
+        result ≡ (if is_ascii_digit byte && nat_le next limit then Some next else None) }
 {
     if !byte.is_ascii_digit() {
         return None;

@@ -13,7 +13,8 @@ pub fn to_registers(kind: &PointType, number: i128) -> Result<Registers, SunErro
     ensures registers { IfOk result (λ words. AreWords words × AreRegistersOf kind.now words) }
     ensures value { IfOk result (λ words. value kind.now words ≡ Value.Number number) }
     ensures refused { IfErr result (λ e. e ≡ SunError.OutOfRange) }
-    ensures none { IfErr result (λ _. (words : List ℕ) → AreWords words → AreRegistersOf kind.now words → value kind.now words ≢ Value.Number number) }
+    ensures none { IfErr result (λ _. (words : List ℕ) → AreWords words
+        → AreRegistersOf kind.now words → value kind.now words ≢ Value.Number number) }
 {
     let row = kind.row();
     match row.content {

@@ -58,7 +58,13 @@ impl Row {
         content: Content,
         unimplemented: Option<u64>,
     ) -> Row
-        ensures { row_shown result ≡ record { code = code; name = name.now; registers = registers; content = content; unimplemented = unimplemented } }
+        ensures { row_shown result ≡ record {
+          code = code;
+          name = name.now;
+          registers = registers;
+          content = content;
+          unimplemented = unimplemented;
+        } }
     {
         Row {
             code,

@@ -13,8 +13,10 @@ pub fn scaled_text(alloc: Global, number: i128, scale: i32) -> Result<String, Su
     ensures text { IfOk result (λ text. string_bytes text ≡ scaled number scale) }
     ensures places { IfOk result (λ text. IsScaledText number scale (string_bytes text)) }
     ensures within { OnOk result (IsScale scale) }
-    ensures bad_scale { IsErrOf result SunError.BadScale ↔ ((scale <ℤ negsuc 9) ⊎ (pos 10 <ℤ scale)) }
-    ensures memory { IfErr result (λ e. (e ≡ SunError.BadScale) ⊎ ((e ≡ SunError.Memory) × IsScale scale)) }
+    ensures bad_scale { IsErrOf result SunError.BadScale
+        ↔ ((scale <ℤ negsuc 9) ⊎ (pos 10 <ℤ scale)) }
+    ensures memory { IfErr result (λ e. (e ≡ SunError.BadScale)
+        ⊎ ((e ≡ SunError.Memory) × IsScale scale)) }
 {
     if !is_scale(scale) {
         return Err(SunError::BadScale);

@@ -23,10 +23,13 @@ pub fn shown_text(
 ) -> Result<Option<String>, SunError>
     requires sized { IsSized kind.now }
     requires registers { AreRegistersOf kind.now words.now }
-    ensures text { IfOk result (λ text. option_map string_bytes text ≡ shown kind.now scale words.now) }
+    ensures text { IfOk result (λ text. option_map string_bytes text
+        ≡ shown kind.now scale words.now) }
     ensures within { OnOk result (IsScale scale) }
-    ensures bad_scale { IsErrOf result SunError.BadScale ↔ ((scale <ℤ negsuc 9) ⊎ (pos 10 <ℤ scale)) }
-    ensures memory { IfErr result (λ e. (e ≡ SunError.BadScale) ⊎ ((e ≡ SunError.Memory) × IsScale scale)) }
+    ensures bad_scale { IsErrOf result SunError.BadScale
+        ↔ ((scale <ℤ negsuc 9) ⊎ (pos 10 <ℤ scale)) }
+    ensures memory { IfErr result (λ e. (e ≡ SunError.BadScale)
+        ⊎ ((e ≡ SunError.Memory) × IsScale scale)) }
 {
     if !is_scale(scale) {
         return Err(SunError::BadScale);
@@ -47,7 +50,8 @@ fn number_text(
 ) -> Result<String, AllocError>
     requires registers { AreRegistersOf kind.now words.now }
     requires scale { IsScale scale }
-    ensures { IfOk result (λ text. string_bytes text ≡ number_shown (row kind.now).content number scale words.now) }
+    ensures { IfOk result (λ text. string_bytes text
+        ≡ number_shown (row kind.now).content number scale words.now) }
 {
     match kind.row().content {
         Content::Address => dotted_text(alloc, words),

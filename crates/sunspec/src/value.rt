@@ -4,14 +4,17 @@ ghost use Rattle.mb_pdu.specs.Packing.{words_text};
 ghost use Rattle.sunspec.specs.PointType.{IsSized, bits};
 ghost use Rattle.sunspec.specs.Value.{AreRegistersOf, number_meant, register_sum, text_meant, value};
 
-use crate::point_type::{Content, PointType, Row, greatest_of};
+use crate::point_type::{Content, PointType, greatest_of};
 use crate::short_text::ShortText;
 
 /// What the registers of a point mean.
 #[derive(Clone, Copy, Debug, PartialEq, Eq)]
 pub enum Value {
+    /// Before any scale.
     Number(i128),
+    /// Before the first zero byte.
     Text(ShortText),
+    /// The registers say that the device doesn't have the point.
     Unimplemented,
 }
 
@@ -39,7 +42,8 @@ pub fn read_value(kind: &PointType, words: &[u16]) -> Value
 // A string is not implemented where all registers are zero.
 fn text_value(words: &[u16]) -> Value
     requires { length words.now ≤ 125 }
-    ensures { result ≡ (if register_sum words.now == 0 then Value.Unimplemented else Value.Text (text_meant words.now)) }
+    ensures { result ≡ (if register_sum words.now == 0 then Value.Unimplemented
+        else Value.Text (text_meant words.now)) }
 {
     if are_zero(words) {
         return Value::Unimplemented;
