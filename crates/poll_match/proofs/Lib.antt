@@ -1,0 +1,7 @@
+pub mod Numbers
+pub mod Windows
+pub mod Valid
+pub mod Connections
+pub mod Naming
+pub mod Places
+pub mod Least

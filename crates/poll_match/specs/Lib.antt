@@ -1,0 +1,3 @@
+pub mod Queries
+pub mod Window
+pub mod ConnectionFields

@@ -1,0 +1,17 @@
+//! The queries of open connections, and which of them a frame answers (Modbus Messaging on TCP/IP
+//! V1.0b, section 4.2: matching by transaction identifier).
+#![tactic(auto)]
+
+mod asked;
+mod conn;
+mod connection;
+mod error;
+mod matcher;
+
+pub use asked::{Asked, Matched};
+pub use conn::Conn;
+pub use error::MatchError;
+pub use matcher::{Found, Matcher};
+
+#[cfg(test)]
+mod tests;
