@@ -36,6 +36,10 @@ impl Conn {
 }
 
 impl fmt::Display for Conn {
+    ghost use Rattle.std.specs.Prelude.{Some, decimal};
+
+    ghost output = { λ conn. Some (decimal conn) };
+
     fn fmt<W: fmt::Write>(&self, f: &mut fmt::Formatter<W>) -> fmt::Result {
         let number = self.number;
         write!(f, "{number}")

@@ -21,15 +21,20 @@ pub enum MatchError {
 }
 
 impl fmt::Display for MatchError {
+    ghost use Rattle.std.specs.Prelude.{Some};
+    ghost use Rattle.poll_match.specs.Texts.{refusal_text};
+
+    ghost output = { λ e. Some (refusal_text e) };
+
     fn fmt<W: fmt::Write>(&self, f: &mut fmt::Formatter<W>) -> fmt::Result {
         f.write_str(match self {
-            MatchError::NoConnection => "NoConnection",
-            MatchError::NoQuery => "NoQuery",
-            MatchError::WrongUnit => "WrongUnit",
-            MatchError::Repeat => "Repeat",
-            MatchError::WrongReply => "WrongReply",
-            MatchError::Memory => "Memory",
-            MatchError::Exhausted => "Exhausted",
+            MatchError::NoConnection => "no such connection",
+            MatchError::NoQuery => "no query has this transaction identifier",
+            MatchError::WrongUnit => "the unit identifier is not the query's",
+            MatchError::Repeat => "the query was answered before",
+            MatchError::WrongReply => "no reply to the query",
+            MatchError::Memory => "out of memory",
+            MatchError::Exhausted => "no query number is left",
         })
     }
 }
