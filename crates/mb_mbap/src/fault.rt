@@ -13,6 +13,11 @@ pub enum FrameFault {
 }
 
 impl fmt::Display for FrameFault {
+    ghost use Rattle.std.specs.Prelude.{Some};
+    ghost use Rattle.mb_mbap.specs.Texts.{fault_text};
+
+    ghost output = { λ e. Some (fault_text e) };
+
     fn fmt<W: fmt::Write>(&self, f: &mut fmt::Formatter<W>) -> fmt::Result {
         f.write_str(match self {
             FrameFault::NotModbus => "the protocol field isn't 0",
