@@ -1,3 +1,6 @@
 pub mod Ranges
 pub mod BitCells
 pub mod Perform
+pub mod Serving
+pub mod Standing
+pub mod Left

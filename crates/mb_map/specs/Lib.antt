@@ -1,2 +1,4 @@
 pub mod Tables
 pub mod Device
+pub mod Schedule
+pub mod Queue

@@ -5,9 +5,14 @@
 mod cells;
 mod device;
 mod error;
+mod held;
 mod mapping;
+mod sim;
+mod step;
 mod table;
 
 pub use error::MapError;
 pub use mapping::Mapping;
+pub use sim::Sim;
+pub use step::Step;
 pub use table::Table;
