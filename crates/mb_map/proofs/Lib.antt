@@ -4,3 +4,4 @@ pub mod Perform
 pub mod Serving
 pub mod Standing
 pub mod Left
+pub mod Once

@@ -6,6 +6,7 @@ mod cells;
 mod device;
 mod error;
 mod held;
+pub mod laws;
 mod mapping;
 mod sim;
 mod step;
