@@ -82,3 +82,10 @@ bits_small (b ∷ bits) (suc k) = bits_small bits k
 pub bits_put : (done : Bool) (old new : Cells) (start : ℕ) (bits : List Bool) → OnTrue done (new ≡ written start (map number_of bits) old) → OnFalse done (new ≡ old) → AreBits old → AreBits new
 bits_put true old new start bits is same before = subst AreBits (sym is) (bits_written start (map number_of bits) old (bits_small bits) before)
 bits_put false old new start bits is same before = subst AreBits (sym same) before
+
+-- cells of numbers that are small
+pub small_cells : (start : ℕ) (numbers : List ℕ) (greatest : ℕ) → All (λ n. n ≤ greatest) numbers → All (λ (c : ℕ × ℕ). c.1 ≤ greatest) (enumerate_from start numbers)
+small_cells start numbers greatest small =
+    All-from_get_or (λ (c : ℕ × ℕ). c.1 ≤ greatest) (enumerate_from start numbers) (0, 0) (λ i lt.
+    let inside : i < length numbers = omega (arith, length-enumerate_from start numbers) in
+    rw (get_or-enumerate_from start numbers i (0, 0) inside) (small i 0 inside))

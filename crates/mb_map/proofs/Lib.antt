@@ -5,3 +5,6 @@ pub mod Serving
 pub mod Standing
 pub mod Left
 pub mod Once
+pub mod Digits
+pub mod Each
+pub mod Differ

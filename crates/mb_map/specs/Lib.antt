@@ -2,3 +2,4 @@ pub mod Tables
 pub mod Device
 pub mod Schedule
 pub mod Queue
+pub mod Image

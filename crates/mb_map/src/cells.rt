@@ -1,4 +1,5 @@
-ghost use Rattle.std.specs.Prelude.{ℕ, map, slice_index, IfSome, IfNone, ◌≡◌, ◌↔◌, ◌≤◌, ◌<◌, ◌+◌, ◌∷◌, [], length, IsTrue, IsSome, IfOk, IfErr};
+ghost use Rattle.std.specs.Prelude.{ℕ, map, slice_index, IfSome, IfNone, ◌≡◌, ◌↔◌, ◌≤◌, ◌<◌, ◌+◌, ◌∷◌, [], length, IsTrue, IsSome, IfOk, IfErr, vec_len};
+ghost use Rattle.std.specs.List.{enumerate_from};
 ghost use Rattle.std.specs.Bool.{OnTrue, OnFalse};
 ghost use Rattle.mb_pdu.specs.Grammar.{IsQuantity};
 ghost use Rattle.mb_map.specs.Tables.{zeros, cell_at, AreBits, IsWhole, Holds, written};
@@ -36,6 +37,14 @@ impl Cells {
     {
         let numbers = vec![in alloc; 0; size as usize]?;
         Ok(Cells { start, numbers })
+    }
+
+    /// Cells that hold these numbers.
+    pub(crate) fn from_numbers(start: u32, numbers: Vec<u16>) -> Cells
+        requires { start + vec_len numbers ≤ 65536 }
+        ensures { result ≡ enumerate_from start numbers.items }
+    {
+        Cells { start, numbers }
     }
 
     /// The number at an address.

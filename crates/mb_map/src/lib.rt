@@ -6,6 +6,7 @@ mod cells;
 mod device;
 mod error;
 mod held;
+mod image;
 pub mod laws;
 mod mapping;
 mod sim;

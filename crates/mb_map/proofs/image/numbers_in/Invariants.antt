@@ -1,0 +1,11 @@
+use Rattle.std.proofs.Common.{◌≡◌, ◌≤◌, All, drop}
+use Rattle.toml.specs.View.{items_view}
+use Rattle.mb_map.specs.Image.{each, number_in}
+use Rattle.mb_map.proofs.Each.{with_front}
+use Rattle.mb_map.proofs.image.numbers_in.Given as goal
+
+abbrev pub invariant-loop-entry : goal.invariant-loop-entry
+invariant-loop-entry l = record {
+  read : with_front l.numbers.items (each (number_in l.greatest) (items_view (drop l.entry-index l.entries))) ≡ each (number_in l.greatest) (items_view l.entries);
+  sound : All (λ n. n ≤ l.greatest) l.numbers.items;
+}

@@ -1,0 +1,12 @@
+use Rattle.std.proofs.Common.{◌≡◌, ◌≢◌, All, drop}
+use Rattle.toml.specs.View.{items_view}
+use Rattle.mb_map.specs.declared.step.Step.TheVariants.{Hold}
+use Rattle.mb_map.specs.Image.{each, step_in}
+use Rattle.mb_map.proofs.Each.{with_front}
+use Rattle.mb_map.proofs.image.script_in.Given as goal
+
+abbrev pub invariant-loop-entry : goal.invariant-loop-entry
+invariant-loop-entry l = record {
+  read : with_front l.script.items (each step_in (items_view (drop l.entry-index l.entries))) ≡ each step_in (items_view l.entries);
+  sound : All (λ step. step ≢ Hold 0) l.script.items;
+}
