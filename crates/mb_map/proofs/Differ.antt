@@ -1,23 +1,21 @@
 -- Unit identifiers that differ.
-use Rattle.std.proofs.Common.{◌≡◌, ◌≢◌, ℕ, zero, suc, ◌<◌, ◌||◌, Bool, true, false, not, eqb, List, [], ◌∷◌, length, get_or, refl, sym, ap, subst, arith}
-use Rattle.std.specs.List.{list_any}
-use Rattle.std.proofs.lemmas.Bool.{and_parts, eqb-false, not-true, true≢false}
-use Rattle.mb_map.specs.Image.{differ}
-use Rattle.mb_map.specs.Queue.{HaveOwnIds}
+use Rattle.std.proofs.Common.{◌≡◌, ◌≢◌, ℕ, zero, suc, ◌<◌, ◌||◌, Bool, true, false, not, eqb, List, [], ◌∷◌, length, get_or, All, ◌∙◌, refl, sym, ap, subst, arith}
+use Rattle.std.specs.List.{list_all, list_any}
+use Rattle.std.proofs.lemmas.Bool.{and_parts, eqb-false, false≢true, not-true, true≢false}
+use Rattle.mb_map.specs.declared.step.Step.{Step}
+use Rattle.mb_map.specs.declared.step.Step.TheVariants.{Hold}
+use Rattle.mb_map.specs.Queue.{HaveOwnIds, differ, is_sound}
 use Rattle.mb_map.specs.Schedule.{Devices}
 use Rattle.mb_map.specs.Tables.{Tables}
 
 pub differ_none : (devices : Devices) → length devices ≡ 0 → differ devices ≡ true
-unfolding differ
 differ_none [] e = refl
 differ_none (d ∷ devices) e = absurd (omega arith)
 
 pub differ_found : (devices : Devices) (first : ℕ × Tables) (rest : Devices) → devices ≡ first ∷ rest → list_any (λ (d : ℕ × Tables). eqb d.0 first.0) rest ≡ true → differ devices ≡ false
-unfolding differ
 differ_found devices first rest e h = rw (e, h) refl
 
 pub differ_more : (devices : Devices) (first : ℕ × Tables) (rest : Devices) → devices ≡ first ∷ rest → list_any (λ (d : ℕ × Tables). eqb d.0 first.0) rest ≡ false → differ devices ≡ differ rest
-unfolding differ
 differ_more devices first rest e h = rw (e, h) refl
 
 neither : (a b : Bool) → (a || b) ≡ false → (a ≡ false) × (b ≡ false)
@@ -38,8 +36,21 @@ own_more e devices none own (suc i) (suc j) d lt below = own i j d (omega arith)
 
 -- then each device is found by its own identifier
 pub own_ids : (devices : Devices) → differ devices ≡ true → HaveOwnIds devices
-unfolding differ
 own_ids [] h = λ i j d lt below. absurd (omega arith)
 own_ids (e ∷ devices) h =
     let parts = and_parts (not (list_any (λ (x : ℕ × Tables). eqb x.0 e.0) devices)) (differ devices) h in
     own_more e devices (not-true _ parts.0) (own_ids devices parts.1)
+
+sound_cons : (s : Step) (script : List Step) → s ≢ Hold 0 → All (λ (x : Step). x ≢ Hold 0) script → All (λ (x : Step). x ≢ Hold 0) (s ∷ script)
+sound_cons s script here rest zero d lt = here
+sound_cons s script here rest (suc k) d lt = rest k d (omega arith)
+
+sound_one : (step : Step) → is_sound step ≡ true → step ≢ Hold 0
+sound_one step h e = false≢true (sym (ap is_sound e) ∙ h)
+
+-- and no step of a sound script holds for nothing
+pub sound_all : (script : List Step) → list_all is_sound script ≡ true → All (λ (s : Step). s ≢ Hold 0) script
+sound_all [] h = λ k d lt. absurd (omega arith)
+sound_all (s ∷ script) h =
+    let parts = and_parts (is_sound s) (list_all is_sound script) h in
+    sound_cons s script (sound_one s parts.0) (sound_all script parts.1)

@@ -10,7 +10,8 @@ use Rattle.mb_map.specs.declared.error.MapError.{MapError}
 use Rattle.mb_map.specs.declared.error.MapError.TheVariants.{BadImage, Memory, TooLarge}
 use Rattle.mb_map.specs.declared.step.Step.{Step}
 use Rattle.mb_map.specs.declared.step.Step.TheVariants.{Drop, Hold, Pass, Twice}
-use Rattle.mb_map.specs.Schedule.{Devices, Simulated, begun}
+use Rattle.mb_map.specs.Queue.{differ}
+use Rattle.mb_map.specs.Schedule.{Simulated, begun}
 use Rattle.mb_map.specs.Tables.{Cells, Tables}
 
 infixl 10 ◌>>=◌
@@ -107,11 +108,6 @@ unfoldable pub step_in : Data → Option Step
 step_in entry = as_str entry >>= step_of
 
 -- ---- the file
-
--- no unit identifier stands twice
-unfoldable pub differ : Devices → Bool
-differ [] = true
-differ (d ∷ devices) = not (list_any (λ (e : ℕ × Tables). e.0 == d.0) devices) && differ devices
 
 -- the simulator of a document, before its first call
 unfoldable pub image_of : Members → Option Simulated

@@ -1,14 +1,25 @@
 -- What a simulator keeps between its calls: devices with their own identifiers, and a queue of held replies.
-use Rattle.std.specs.Prelude.{◌≡◌, ◌≢◌, List, ◌++◌, map, filter, ℕ, ◌-◌, Bool, not, ◌==◌, Option, Some, None, AllPairs}
+use Rattle.std.specs.Prelude.{◌≡◌, ◌≢◌, List, ◌++◌, map, filter, ℕ, ◌-◌, Bool, true, not, ◌&&◌, nat_lt, [], ◌∷◌, ◌==◌, Option, Some, None, AllPairs}
 use Rattle.mb_mbap.specs.declared.frame.Frame.{Frame}
 use Rattle.mb_map.specs.declared.held.Held.{Held}
 use Rattle.mb_map.specs.declared.step.Step.{Step}
 use Rattle.mb_map.specs.declared.step.Step.TheVariants.{Hold}
 use Rattle.mb_map.specs.Schedule.{Devices, Serves, own}
+use Rattle.std.specs.List.{list_any}
 use Rattle.std.specs.Option.{option_to_list}
 use Rattle.mb_map.specs.Tables.{Tables}
 
--- no two devices have one unit identifier
+-- no unit identifier stands twice
+abbrev pub differ : Devices → Bool
+differ [] = true
+differ (d ∷ devices) = not (list_any (λ (e : ℕ × Tables). e.0 == d.0) devices) && differ devices
+
+-- a reply that is held waits for some frames
+abbrev pub is_sound : Step → Bool
+is_sound (Hold frames) = nat_lt 0 frames
+is_sound step = true
+
+-- the same, of any two devices
 abbrev pub HaveOwnIds : Devices → Type 0
 HaveOwnIds devices = AllPairs (λ (a b : ℕ × Tables). a.0 ≢ b.0) devices
 

@@ -4,7 +4,8 @@ ghost use Rattle.std.specs.Str.Parse.{digits_value};
 ghost use Rattle.std.specs.Prelude.{◌==◌, length, true, ◌≡◌, ◌≢◌, ◌≤◌, ◌<◌, option_map, All, IfOk, IfErr, IfSome, IsTrue, Some, None, []};
 ghost use Rattle.toml.specs.Data.{Members, get_member};
 ghost use Rattle.toml.specs.View.{items_view, table_view, view};
-ghost use Rattle.mb_map.specs.Image.{Gives, IsDocument, cells_at, device_in, differ, each, entries_at, frames_of, image_of, number_at, number_in, optional_at, step_in, step_of};
+ghost use Rattle.mb_map.specs.Image.{Gives, IsDocument, cells_at, device_in, each, entries_at, frames_of, image_of, number_at, number_in, optional_at, step_in, step_of};
+ghost use Rattle.mb_map.specs.Queue.{differ, is_sound};
 ghost use Rattle.mb_map.specs.Schedule.{StandsFor};
 
 use crate::cells::Cells;
@@ -124,7 +125,7 @@ fn frames_of(text: &[u8]) -> Option<u8>
 #[tactic(auto, unfolding(crate::specs::Image::step_of))]
 fn step_of(text: &str) -> Option<Step>
     ensures gives { result ≡ step_of text.now }
-    ensures sound { IfSome result (λ step. step ≢ Step.Hold 0) }
+    ensures sound { IfSome result (λ step. IsTrue (is_sound step)) }
 {
     if text == "pass" {
         return Some(Step::Pass);
@@ -147,7 +148,7 @@ fn step_of(text: &str) -> Option<Step>
 #[tactic(auto, unfolding(crate::specs::Image::step_in))]
 fn step_in(entry: &Value) -> Result<Step, MapError>
     ensures gives { Gives (λ s. s) result (step_in (view entry.now)) }
-    ensures sound { IfOk result (λ step. step ≢ Step.Hold 0) }
+    ensures sound { IfOk result (λ step. IsTrue (is_sound step)) }
 {
     match entry.as_str() {
         Some(text) => match step_of(text) {
@@ -160,7 +161,7 @@ fn step_in(entry: &Value) -> Result<Step, MapError>
 
 fn script_in(alloc: Global, entries: &[Value]) -> Result<Vec<Step>, MapError>
     ensures gives { Gives (λ v. v.items) result (each step_in (items_view entries.now)) }
-    ensures sound { IfOk result (λ v. All (λ step. step ≢ Step.Hold 0) v.items) }
+    ensures sound { IfOk result (λ v. IsTrue (list_all is_sound v.items)) }
 {
     let mut script = Vec::new(alloc);
     for entry in entries {

@@ -18,3 +18,6 @@ pub use mapping::Mapping;
 pub use sim::Sim;
 pub use step::Step;
 pub use table::Table;
+
+#[cfg(test)]
+mod tests;

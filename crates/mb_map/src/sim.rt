@@ -1,9 +1,10 @@
-ghost use Rattle.std.specs.Prelude.{ℕ, slice_index_or, IfSome, IfNone, ◌≡◌, ◌≢◌, ◌≤◌, ◌<◌, ◌+◌, ◌∷◌, ◌++◌, [], List, length, map, filter, count_by, vec_len, vec_capacity, All, AllPairs, IfOk, IfErr, OnErr};
+ghost use Rattle.std.specs.Prelude.{ℕ, slice_index_or, IfSome, IfNone, ◌≡◌, ◌≢◌, ◌≤◌, ◌<◌, ◌+◌, ◌∷◌, ◌++◌, [], List, length, map, filter, count_by, vec_len, vec_capacity, All, AllPairs, IfOk, IfErr, OnErr, IsTrue};
 ghost use Rattle.mb_mbap.specs.declared.frame.Frame.{Frame as AFrame};
 ghost use Rattle.mb_map.specs.declared.step.Step.{Step as AStep};
 ghost use Rattle.std.specs.Option.{option_to_list};
 ghost use Rattle.mb_map.specs.declared.held.Held.{Held as AHeld};
-ghost use Rattle.mb_map.specs.Queue.{HaveOwnIds, PassesOn, closer, held_by, held_reply, is_due, is_later};
+ghost use Rattle.std.specs.List.{list_all};
+ghost use Rattle.mb_map.specs.Queue.{differ, is_sound, HaveOwnIds, PassesOn, closer, held_by, held_reply, is_due, is_later};
 ghost use Rattle.mb_map.specs.Schedule.{Call, Devices, Serves, StandsFor, begun, own, step_at};
 ghost use Rattle.mb_map.specs.Tables.{Tables};
 ghost use Rattle.mb_map.specs.Schedule.Call.{Take, Rest};
@@ -207,8 +208,8 @@ impl Sim {
     /// for each frame from the first on, and past its end every step is `Pass`; no step holds a
     /// reply for 0 frames.
     pub fn new(alloc: Global, devices: Vec<(u8, Mapping)>, script: Vec<Step>) -> Sim
-        requires devices { HaveOwnIds devices.items }
-        requires script { All (λ step. step ≢ Step.Hold 0) script.items }
+        requires devices { IsTrue (differ devices.items) }
+        requires script { IsTrue (list_all is_sound script.items) }
         ensures begun { result ≡ begun devices.items script.items }
         ensures stands { StandsFor devices.items script.items [] [] result }
     {

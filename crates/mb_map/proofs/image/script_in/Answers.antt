@@ -1,7 +1,7 @@
-use Rattle.std.proofs.Common.{◌≡◌, ◌≢◌, ◌∙◌, ◌∷◌, [], true, rules, arith, sym}
-use Rattle.std.proofs.lemmas.List.Elements.{All-push}
+use Rattle.std.proofs.Common.{◌≡◌, ◌∙◌, refl, ◌∷◌, [], true, rules, arith, sym}
+use Rattle.std.proofs.lemmas.List.Folds.{list_all-append}
 use Rattle.std.specs.Result.{is_ok}
-use Rattle.mb_map.specs.declared.step.Step.TheVariants.{Hold}
+use Rattle.mb_map.specs.Queue.{is_sound}
 use Rattle.toml.specs.View.{items_view, view}
 use Rattle.mb_map.specs.Image.{each, step_in}
 use Rattle.mb_map.proofs.Each.{each_more, each_fails, each_ends, fails_more}
@@ -21,7 +21,7 @@ loop-entry-preserved c =
     let good : is_ok c.push.result ≡ true = search rules in
     let items = rw good at c.push.ensures.items in
     let more = each_more step_in c.loop-entry.script.items vs i c.entry-item.result c.in-Ok.step (omega arith) c.entry-item.is c.in-Ok.ensures.gives in
-    rw items (record { read = sym more ∙ c.loop-entry.invariant.read; sound = All-push (λ step. step ≢ Hold 0) c.loop-entry.script.items c.in-Ok.step c.loop-entry.invariant.sound c.in-Ok.ensures.sound })
+    rw items (record { read = sym more ∙ c.loop-entry.invariant.read; sound = list_all-append is_sound c.loop-entry.script.items (c.in-Ok.step ∷ []) ∙ rw (c.loop-entry.invariant.sound, c.in-Ok.ensures.sound) refl })
 
 pub returns-clause-gives : goal.returns-clause-gives
 returns-clause-gives c = sym c.loop-entry.invariant.read ∙ each_ends step_in c.loop-entry.script.items c.args.entries.now c.loop-entry.entry-index (omega arith)

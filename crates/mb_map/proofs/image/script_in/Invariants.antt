@@ -1,6 +1,7 @@
-use Rattle.std.proofs.Common.{◌≡◌, ◌≢◌, All, drop}
+use Rattle.std.proofs.Common.{◌≡◌, true, drop}
 use Rattle.toml.specs.View.{items_view}
-use Rattle.mb_map.specs.declared.step.Step.TheVariants.{Hold}
+use Rattle.std.specs.List.{list_all}
+use Rattle.mb_map.specs.Queue.{is_sound}
 use Rattle.mb_map.specs.Image.{each, step_in}
 use Rattle.mb_map.proofs.Each.{with_front}
 use Rattle.mb_map.proofs.image.script_in.Given as goal
@@ -8,5 +9,5 @@ use Rattle.mb_map.proofs.image.script_in.Given as goal
 abbrev pub invariant-loop-entry : goal.invariant-loop-entry
 invariant-loop-entry l = record {
   read : with_front l.script.items (each step_in (items_view (drop l.entry-index l.entries))) ≡ each step_in (items_view l.entries);
-  sound : All (λ step. step ≢ Hold 0) l.script.items;
+  sound : list_all is_sound l.script.items ≡ true;
 }
