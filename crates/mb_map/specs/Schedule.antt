@@ -142,6 +142,13 @@ pub record StandsFor (devices : Devices) (script : List Step) (calls : List Call
   pub unused : sim.script ≡ drop (length (sent script outcomes)) script
   pub held : sim.held ≡ waiting script outcomes
 
+-- one more call: whatever list of calls the simulator stood for, it now stands for that list and the call, and gave
+-- what leaves with it
+abbrev pub Continues : Simulated → Call → List Frame → Simulated → Type 0
+Continues before call given after =
+    (devices : Devices) (script : List Step) (calls : List Call) (answers : List (List Frame))
+    → StandsFor devices script calls answers before → StandsFor devices script (calls ++ call ∷ []) (answers ++ given ∷ []) after
+
 -- a simulator before its first call
 abbrev pub begun : Devices → List Step → Simulated
 begun devices script = record { devices = devices; script = script; held = [] }

@@ -1,14 +1,15 @@
 ghost use Rattle.std.specs.Char.{is_ascii_digit};
-ghost use Rattle.std.specs.List.{list_all, list_any};
+ghost use Rattle.std.specs.List.{list_all};
 ghost use Rattle.std.specs.Str.Parse.{digits_value};
-ghost use Rattle.std.specs.Prelude.{◌==◌, length, true, ◌≡◌, ◌≢◌, ◌≤◌, ◌<◌, option_map, All, IfOk, IfErr, IfSome, IsTrue, Some, None, []};
+ghost use Rattle.std.specs.Prelude.{length, true, ◌≡◌, ◌≢◌, ◌≤◌, ◌<◌, option_map, All, IfOk, IfErr, IfSome, IsTrue, Some, None, []};
 ghost use Rattle.toml.specs.Data.{Members, get_member};
 ghost use Rattle.toml.specs.View.{items_view, table_view, view};
 ghost use Rattle.mb_map.specs.Image.{Gives, IsDocument, cells_at, device_in, each, entries_at, frames_of, image_of, number_at, number_in, optional_at, step_in, step_of};
-ghost use Rattle.mb_map.specs.Queue.{differ, is_sound};
+ghost use Rattle.mb_map.specs.Queue.{is_sound};
 ghost use Rattle.mb_map.specs.Schedule.{StandsFor};
 
 use crate::cells::Cells;
+use crate::devices::ids_differ;
 use crate::error::MapError;
 use crate::mapping::Mapping;
 use crate::sim::Sim;
@@ -232,27 +233,6 @@ fn devices_in(alloc: Global, units: &[Value]) -> Result<Vec<(u8, Mapping)>, MapE
         }
     }
     Ok(devices)
-}
-
-fn has_id(devices: &[(u8, Mapping)], id: u8) -> bool
-    ensures { result ≡ list_any (λ d. d.0 == id) devices.now }
-{
-    devices.iter().any(|device| device.0 == id)
-}
-
-fn ids_differ(devices: &[(u8, Mapping)]) -> bool
-    ensures { result ≡ differ devices.now }
-{
-    match devices.split_first() {
-        None => true,
-        Some((first, rest)) => {
-            if has_id(rest, first.0) {
-                false
-            } else {
-                ids_differ(rest)
-            }
-        }
-    }
 }
 
 // The simulator of a document.

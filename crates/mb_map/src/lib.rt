@@ -4,11 +4,13 @@
 
 mod cells;
 mod device;
+mod devices;
 mod error;
 mod held;
 mod image;
 pub mod laws;
 mod mapping;
+mod queue;
 mod sim;
 mod step;
 mod table;

@@ -1,4 +1,4 @@
-ghost use Rattle.std.specs.Prelude.{◌≡◌, ◌↔◌, ◌≤◌, ◌<◌, ◌+◌, ◌∷◌, [], IsTrue, IsSome, IfOk, IfSome, IsErrOf};
+ghost use Rattle.std.specs.Prelude.{◌≡◌, ◌≢◌, IfErr, ◌↔◌, ◌≤◌, ◌<◌, ◌+◌, ◌∷◌, [], IsTrue, IsSome, IfOk, IfSome, IsErrOf};
 ghost use Rattle.std.specs.Bool.{OnTrue, OnFalse};
 ghost use Rattle.mb_map.specs.Tables.{cell_at, cells_of, greatest, with_cells, written, zero_tables, IsTooLarge};
 
@@ -47,7 +47,7 @@ impl Mapping {
     ) -> Result<Mapping, MapError>
         ensures made { IfOk result (λ mapping. mapping ≡ zero_tables 0 nb_bits 0 nb_input_bits 0 nb_registers 0 nb_input_registers) }
         ensures too_large { IsErrOf result MapError.TooLarge ↔ IsTooLarge 0 nb_bits 0 nb_input_bits 0 nb_registers 0 nb_input_registers }
-        ensures image { ¬ (IsErrOf result MapError.BadImage) }
+        ensures other { IfErr result (λ e. e ≢ MapError.BadImage) }
     {
         Mapping::new_start_address(
             alloc,
@@ -79,7 +79,7 @@ impl Mapping {
     ) -> Result<Mapping, MapError>
         ensures made { IfOk result (λ mapping. mapping ≡ zero_tables start_bits nb_bits start_input_bits nb_input_bits start_registers nb_registers start_input_registers nb_input_registers) }
         ensures too_large { IsErrOf result MapError.TooLarge ↔ IsTooLarge start_bits nb_bits start_input_bits nb_input_bits start_registers nb_registers start_input_registers nb_input_registers }
-        ensures image { ¬ (IsErrOf result MapError.BadImage) }
+        ensures other { IfErr result (λ e. e ≢ MapError.BadImage) }
     {
         if is_too_large(start_bits, nb_bits)
             || is_too_large(start_input_bits, nb_input_bits)

@@ -1,6 +1,6 @@
 use Rattle.std.proofs.Common.{◌≡◌, ◌++◌, ◌+◌, ◌≤◌, map, filter, take, drop, count_by, vec_len, vec_capacity}
 use Rattle.mb_map.specs.Queue.{held_reply, is_due}
-use Rattle.mb_map.proofs.sim.give_due.Given as goal
+use Rattle.mb_map.proofs.queue.give_due.Given as goal
 
 abbrev pub invariant-loop-held : goal.invariant-loop-held
 invariant-loop-held l = record {

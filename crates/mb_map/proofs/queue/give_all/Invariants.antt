@@ -1,6 +1,6 @@
 use Rattle.std.proofs.Common.{◌≡◌, ◌++◌, ◌+◌, ◌≤◌, length, map, take, vec_len, vec_capacity}
 use Rattle.mb_map.specs.Queue.{held_reply}
-use Rattle.mb_map.proofs.sim.give_all.Given as goal
+use Rattle.mb_map.proofs.queue.give_all.Given as goal
 
 abbrev pub invariant-loop-held : goal.invariant-loop-held
 invariant-loop-held l = record {

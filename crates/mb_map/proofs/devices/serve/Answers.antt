@@ -1,8 +1,8 @@
 use Rattle.std.proofs.Common.{◌≡◌, ◌∙◌, ℕ, length, get_or, refl, sym, ap, Some, None}
 use Rattle.mb_map.specs.Schedule.{with_tables}
 use Rattle.mb_map.proofs.Serving.{found, not_found, set_tables}
-use Rattle.mb_map.proofs.sim.serve.Goals as goal
-use Rattle.mb_map.proofs.sim.serve.Goals.{in-Some, in-None}
+use Rattle.mb_map.proofs.devices.serve.Goals as goal
+use Rattle.mb_map.proofs.devices.serve.Goals.{in-Some, in-None}
 
 pub returns-clause-serves : goal.returns-clause-serves
 returns-clause-serves c = (

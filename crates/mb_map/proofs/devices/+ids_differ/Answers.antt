@@ -1,6 +1,6 @@
 use Rattle.std.proofs.Common.{◌∙◌, sym}
 use Rattle.mb_map.proofs.Differ.{differ_none, differ_found, differ_more}
-use Rattle.mb_map.proofs.image.+ids_differ.Goals as goal
+use Rattle.mb_map.proofs.devices.+ids_differ.Goals as goal
 
 pub returns-in-None : goal.returns-in-None
 returns-in-None t c = sym (differ_none c.args.devices.now c.in-None.ensures.cases)

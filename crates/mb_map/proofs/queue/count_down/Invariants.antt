@@ -1,7 +1,7 @@
 use Rattle.std.proofs.Common.{◌≡◌, ◌<◌, ◌≤◌, ℕ, get_or, length}
 use Rattle.mb_map.specs.declared.held.Held.{Held}
 use Rattle.mb_map.specs.Queue.{closer}
-use Rattle.mb_map.proofs.sim.count_down.Given as goal
+use Rattle.mb_map.proofs.queue.count_down.Given as goal
 
 abbrev pub invariant-loop-held : goal.invariant-loop-held
 invariant-loop-held l = record {

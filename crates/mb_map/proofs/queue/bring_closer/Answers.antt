@@ -3,7 +3,7 @@ use Rattle.std.proofs.lemmas.Fn.{filter_same}
 use Rattle.std.proofs.lemmas.List.{length-map, with_items_is}
 use Rattle.mb_map.specs.Queue.{closer, is_later}
 use Rattle.mb_map.proofs.Left.{closer_left, later_left}
-use Rattle.mb_map.proofs.sim.bring_closer.Goals as goal
+use Rattle.mb_map.proofs.queue.bring_closer.Goals as goal
 
 pub count_down-requires : goal.count_down-requires
 count_down-requires c =
