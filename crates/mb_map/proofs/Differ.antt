@@ -1,5 +1,5 @@
 -- Unit identifiers that differ.
-use Rattle.std.proofs.Common.{◌≡◌, ◌≢◌, ℕ, zero, suc, ◌<◌, ◌||◌, Bool, true, false, not, eqb, List, [], ◌∷◌, length, get_or, All, ◌∙◌, refl, sym, ap, subst, arith}
+use Rattle.std.proofs.Common.{◌≡◌, ◌≢◌, ℕ, zero, suc, ◌<◌, ◌||◌, Bool, true, false, not, eqb, List, [], ◌∷◌, length, get_or, All, ◌∙◌, refl, sym, ap, arith}
 use Rattle.std.specs.List.{list_all, list_any}
 use Rattle.std.proofs.lemmas.Bool.{and_parts, eqb-false, false≢true, not-true, true≢false}
 use Rattle.mb_map.specs.declared.step.Step.{Step}

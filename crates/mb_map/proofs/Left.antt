@@ -1,9 +1,8 @@
 -- Held replies that are brought closer.
-use Rattle.std.proofs.Common.{◌≡◌, ℕ, zero, suc, ◌-◌, ◌<◌, ◌≤◌, Bool, true, false, cond, not, eqb, List, [], ◌∷◌, length, get_or, map, filter, All, refl, sym, ap, ◌∙◌, subst, arith}
+use Rattle.std.proofs.Common.{◌≡◌, ℕ, zero, suc, ◌<◌, true, false, cond, not, eqb, List, [], ◌∷◌, length, get_or, map, filter, All, refl, arith}
 use Rattle.std.proofs.lemmas.Bool.{eqb-false}
-use Rattle.std.proofs.lemmas.List.{get_or-map, length-map}
 use Rattle.mb_map.specs.declared.held.Held.{Held}
-use Rattle.mb_map.specs.Queue.{closer, is_due, is_later}
+use Rattle.mb_map.specs.Queue.{closer, is_later}
 
 -- every reply of a list, brought closer
 pub same_held : (new old : List Held) → length new ≡ length old → ((k : ℕ) (d : Held) → k < length old → get_or new k d ≡ closer (get_or old k d)) → new ≡ map closer old

@@ -1,10 +1,10 @@
 -- A device's step has one answer and one outcome, and so have a list of calls and its schedule.
-use Rattle.std.proofs.Common.{◌≡◌, ℕ, ◌+◌, ◌<◌, ◌≤◌, Bool, true, false, List, [], ◌∷◌, length, drop, get_or, map, Option, Some, None, refl, sym, ap, ◌∙◌, subst, arith}
-use Rattle.std.proofs.lemmas.List.{ext_get_or, length-map}
+use Rattle.std.proofs.Common.{◌≡◌, ℕ, Bool, true, false, List, [], ◌∷◌, length, drop, get_or, map, Option, Some, None, refl, sym, ap, ◌∙◌, subst, arith}
+use Rattle.std.proofs.lemmas.List.{ext_get_or}
 use Rattle.mb_mbap.specs.declared.frame.Frame.{Frame}
 use Rattle.mb_pdu.specs.declared.error.UnitError.{UnitError}
 use Rattle.mb_pdu.specs.declared.reply.Reply.{Reply}
-use Rattle.mb_pdu.specs.declared.reply.Reply.TheVariants.{Bits, Registers, Written, Excepted}
+use Rattle.mb_pdu.specs.declared.reply.Reply.TheVariants.{Bits, Registers, Written}
 use Rattle.mb_pdu.specs.declared.request.Request.{Request}
 use Rattle.mb_pdu.specs.declared.request.Request.TheVariants.{ReadCoils, ReadDiscrete, ReadHolding, ReadInput, WriteCoil, WriteRegister, WriteCoils, WriteRegisters, MaskWrite, ReadWrite}
 use Rattle.mb_pdu.specs.declared.request.Span.{Span}
@@ -16,7 +16,7 @@ use Rattle.mb_map.specs.Device.DeviceStep.{faulty, outside, done}
 use Rattle.mb_map.specs.Schedule.{Answers, Call, Devices, Outcome, Run, Serves, Simulated, StandsFor, schedule, sent, tables_at, waiting, with_tables}
 use Rattle.mb_map.specs.Schedule.Call.{Take, Rest}
 use Rattle.mb_map.specs.Schedule.Outcome.{Replied, Rested}
-use Rattle.mb_map.specs.Tables.{Cells, Holds, Tables}
+use Rattle.mb_map.specs.Tables.{Cells, Tables}
 
 some_same : {A : Type 0} (x y : A) → Some x ≡ Some y → x ≡ y
 some_same x y e = cc

@@ -1,5 +1,5 @@
 -- A simulator's queue holds what the schedule says is held: at its start, after a frame and after a rest.
-use Rattle.std.proofs.Common.{◌≡◌, ◌≢◌, All, inl, inr, ℕ, zero, suc, ◌+◌, ◌-◌, ◌*◌, ◌<◌, ◌≤◌, Bool, true, false, cond, not, ◌&&◌, eqb, leb, List, [], ◌∷◌, ◌++◌, length, drop, get_or, map, filter, Option, Some, None, refl, sym, ap, ◌∙◌, subst, arith, append_assoc, length-append, zero-add}
+use Rattle.std.proofs.Common.{◌≡◌, ◌≢◌, All, inl, inr, ℕ, zero, suc, ◌+◌, ◌-◌, ◌<◌, ◌≤◌, true, false, eqb, leb, List, [], ◌∷◌, ◌++◌, length, drop, map, filter, refl, sym, ap, ◌∙◌, subst, arith, append_assoc, length-append, zero-add}
 use Rattle.std.specs.Option.{option_to_list}
 use Rattle.std.proofs.lemmas.Bool.{cases_lt, eq-eqb}
 use Rattle.std.proofs.lemmas.Bool.Decides.{eqb_tells, nat_tests}
@@ -11,7 +11,7 @@ use Rattle.mb_map.specs.declared.held.Held.{Held}
 use Rattle.mb_map.specs.declared.step.Step.{Step}
 use Rattle.mb_map.specs.declared.step.Step.TheVariants.{Pass, Drop, Twice, Hold}
 use Rattle.mb_map.specs.Queue.{PassesOn, closer, held_by, held_reply, is_due, is_later}
-use Rattle.mb_map.specs.Schedule.{Call, Devices, Outcome, Run, Sent, Serves, Simulated, StandsFor, begun, due, due_with, held_at, is_waiting, leaves, own, reply_of, rests_in, schedule, sent, sent_from, step_at, waiting}
+use Rattle.mb_map.specs.Schedule.{Call, Devices, Outcome, Run, Sent, Serves, Simulated, StandsFor, begun, due, due_with, held_at, is_waiting, leaves, own, rests_in, schedule, sent, sent_from, step_at, waiting}
 use Rattle.mb_map.specs.Schedule.Call.{Take, Rest}
 use Rattle.mb_map.specs.Schedule.Outcome.{Replied, Rested}
 

@@ -1,6 +1,6 @@
 -- What a device answers to a request, and what becomes of its tables: a relation by cases, in the order of a
 -- device's checks (Modbus Application Protocol V1.1b3, 6 and 7).
-use Rattle.std.specs.Prelude.{◌≡◌, ℕ, ◌-◌, Bool, cond, List, [], ◌∷◌, length, map, slice_index, Option, Some, bit_and, bit_or}
+use Rattle.std.specs.Prelude.{◌≡◌, ℕ, ◌-◌, Bool, cond, List, [], ◌∷◌, length, map, slice_index, Some, bit_and, bit_or}
 use Rattle.mb_pdu.specs.declared.error.UnitError.{UnitError}
 use Rattle.mb_pdu.specs.declared.error.UnitError.TheVariants.{UnknownFunction}
 use Rattle.mb_pdu.specs.declared.reply.Reply.{Reply}

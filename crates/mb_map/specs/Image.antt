@@ -1,7 +1,7 @@
 -- What a simulator file says: a document of TOML with a table for each unit, and a script.
-use Rattle.std.specs.Prelude.{◌≡◌, ℕ, ◌+◌, pos, List, [], ◌∷◌, ◌++◌, Bool, true, not, ◌&&◌, ◌==◌, nat_le, nat_lt, length, drop, codes, slice_index, Option, Some, None, Result, Ok, Err, ⊤, if◌then◌else◌, option_map, take}
+use Rattle.std.specs.Prelude.{◌≡◌, ℕ, ◌+◌, pos, List, [], ◌∷◌, Bool, not, ◌&&◌, ◌==◌, nat_le, nat_lt, length, drop, codes, slice_index, Option, Some, None, Result, Ok, Err, ⊤, if◌then◌else◌, option_map, take}
 use Rattle.std.specs.Char.{is_ascii_digit}
-use Rattle.std.specs.List.{enumerate_from, list_all, list_any}
+use Rattle.std.specs.List.{enumerate_from, list_all}
 use Rattle.std.specs.Str.{IsUtf8, bytes_eq}
 use Rattle.std.specs.Str.Parse.{digits_value}
 use Rattle.toml.specs.Data.{Data, Items, Members, array, as_str, as_table, get_member, integer, item, no_items}

@@ -1,5 +1,5 @@
 -- A device's four tables, each a finite map from addresses to numbers (Modbus Application Protocol V1.1b3, 4.3).
-use Rattle.std.specs.Prelude.{◌≡◌, ℕ, ◌+◌, ◌-◌, ◌≤◌, ◌<◌, Bool, true, false, cond, ◌&&◌, nat_eq, nat_le, nat_lt, List, [], ◌∷◌, length, map, replicate, slice_index, Option, Some, IsSome, All, ◌⊎◌, if◌then◌else◌}
+use Rattle.std.specs.Prelude.{◌≡◌, ℕ, ◌+◌, ◌-◌, ◌≤◌, ◌<◌, ◌&&◌, nat_eq, nat_le, nat_lt, List, length, map, replicate, slice_index, Option, Some, IsSome, All, ◌⊎◌, if◌then◌else◌}
 use Rattle.std.specs.List.{enumerate_from}
 use Rattle.std.specs.Map.{lookup}
 use Rattle.mb_map.specs.declared.table.Table.{Table}

@@ -11,7 +11,7 @@ use std::alloc::Global;
 use std::marker::Model;
 
 /// The cells of one table: numbers from a start address on, none past the address 65,535.
-#[derive(Drop)]
+#[derive(Debug, Drop)]
 pub(crate) struct Cells {
     start: u32,
     numbers: Vec<u16>,

@@ -1,7 +1,7 @@
 use mb_mbap::Frame;
 
 /// A reply that is held back.
-#[derive(Drop)]
+#[derive(Debug, Drop)]
 pub(crate) struct Held {
     /// How many frames until it leaves, at least 1.
     pub left: u8,

@@ -9,7 +9,7 @@ use std::alloc::Global;
 use std::marker::Model;
 
 /// The four tables of a device. A bit cell holds 0 or 1.
-#[derive(Drop)]
+#[derive(Debug, Drop)]
 pub struct Mapping {
     pub(crate) coils: Cells,
     pub(crate) discrete: Cells,

@@ -14,7 +14,7 @@ use std::alloc::Global;
 use std::marker::Model;
 
 /// Devices behind one connection, whose replies leave by a script.
-#[derive(Drop)]
+#[derive(Debug, Drop)]
 pub struct Sim {
     alloc: Global,
     devices: Vec<(u8, Mapping)>,

@@ -1,4 +1,4 @@
-use Rattle.std.proofs.Common.{◌≡◌, ◌∙◌, ℕ, length, get_or, refl, sym, ap, Some, None}
+use Rattle.std.proofs.Common.{◌∙◌, ℕ, refl, ap}
 use Rattle.mb_map.specs.Schedule.{with_tables}
 use Rattle.mb_map.proofs.Serving.{found, not_found, set_tables}
 use Rattle.mb_map.proofs.devices.serve.Goals as goal

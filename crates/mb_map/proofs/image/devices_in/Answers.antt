@@ -1,4 +1,4 @@
-use Rattle.std.proofs.Common.{◌≡◌, ◌∙◌, ◌∷◌, [], true, rules, arith, sym}
+use Rattle.std.proofs.Common.{◌≡◌, ◌∙◌, true, rules, arith, sym}
 use Rattle.std.specs.Result.{is_ok}
 use Rattle.toml.specs.View.{items_view, view}
 use Rattle.mb_map.specs.Image.{device_in, each}

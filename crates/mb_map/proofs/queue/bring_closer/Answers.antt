@@ -1,4 +1,4 @@
-use Rattle.std.proofs.Common.{◌≡◌, ◌∙◌, length, map, filter, sym, ap, rules, arith}
+use Rattle.std.proofs.Common.{◌≡◌, ◌∙◌, length, map, filter, sym, ap, rules}
 use Rattle.std.proofs.lemmas.Fn.{filter_same}
 use Rattle.std.proofs.lemmas.List.{length-map, with_items_is}
 use Rattle.mb_map.specs.Queue.{closer, is_later}

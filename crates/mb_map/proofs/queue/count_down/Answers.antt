@@ -1,6 +1,4 @@
-use Rattle.std.proofs.Common.{◌≡◌, ◌<◌, ◌∙◌, length, map, sym, ap, arith}
-use Rattle.std.proofs.lemmas.List.{get_or-map, length-map}
-use Rattle.mb_map.specs.Queue.{closer}
+use Rattle.std.proofs.Common.{arith}
 use Rattle.mb_map.proofs.Left.{same_held}
 use Rattle.mb_map.proofs.queue.count_down.Goals as goal
 

@@ -1,4 +1,4 @@
-use Rattle.std.proofs.Common.{◌≡◌, ◌≤◌, sym, arith}
+use Rattle.std.proofs.Common.{arith}
 use Rattle.std.proofs.lemmas.Bool.Decides.{nat_tests}
 use Rattle.mb_map.proofs.Ranges.{whole_begins, whole_ends, whole_between}
 use Rattle.mb_map.proofs.cells.Cells.has.Goals as goal

@@ -1,4 +1,4 @@
-use Rattle.std.proofs.Common.{◌≡◌, ◌≤◌, ◌+◌, ◌-◌, length, ap, arith, rules}
+use Rattle.std.proofs.Common.{◌≡◌, ◌+◌, ◌-◌, length, ap, arith, rules}
 use Rattle.mb_map.proofs.Ranges.{whole_begins, whole_ends, range_holds}
 use Rattle.mb_map.proofs.cells.Cells.range.Goals as goal
 

@@ -1,4 +1,3 @@
-use Rattle.std.proofs.Common.{rules}
 use Rattle.mb_map.proofs.BitCells.{bits_cell}
 use Rattle.mb_map.proofs.mapping.Mapping.get.Goals as goal
 

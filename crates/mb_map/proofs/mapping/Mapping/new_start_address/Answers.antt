@@ -1,4 +1,3 @@
-use Rattle.std.proofs.Common.{sym}
 use Rattle.mb_map.proofs.BitCells.{bits_zeros}
 use Rattle.mb_map.proofs.mapping.Mapping.new_start_address.Goals as goal
 

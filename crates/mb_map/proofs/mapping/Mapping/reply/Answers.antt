@@ -1,9 +1,5 @@
-use Rattle.std.proofs.Common.{◌≡◌, ◌∙◌, subst, sym, refl}
-use Rattle.mb_pdu.specs.Grammar.{spells}
-use Rattle.mb_pdu.specs.Checks.{first_fault}
-use Rattle.mb_pdu.specs.declared.error.UnitError.TheVariants.{UnknownFunction}
+use Rattle.std.proofs.Common.{refl}
 use Rattle.mb_map.specs.Device.DeviceStep.{faulty, outside, done}
-use Rattle.mb_map.specs.Device.{DeviceStep}
 use Rattle.mb_map.proofs.mapping.Mapping.reply.Goals as goal
 
 pub returns-in-Some : goal.returns-in-Some

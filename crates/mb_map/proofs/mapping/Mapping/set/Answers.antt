@@ -1,4 +1,4 @@
-use Rattle.std.proofs.Common.{◌≤◌, ◌∙◌, arith}
+use Rattle.std.proofs.Common.{◌≤◌, arith}
 use Rattle.mb_map.proofs.BitCells.{bits_set}
 use Rattle.mb_map.proofs.mapping.Mapping.set.Goals as goal
 

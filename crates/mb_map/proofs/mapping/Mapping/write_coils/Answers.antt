@@ -1,4 +1,4 @@
-use Rattle.std.proofs.Common.{◌≡◌, ◌∙◌, false, length, map, take, sym, arith}
+use Rattle.std.proofs.Common.{◌≡◌, ◌∙◌, length, map, take, arith}
 use Rattle.std.proofs.lemmas.List.{get_or-take, length-take-le}
 use Rattle.mb_map.specs.Tables.{Tables, written}
 use Rattle.mb_map.proofs.Perform.{coils_done}

@@ -1,4 +1,4 @@
-use Rattle.std.proofs.Common.{◌<◌, List, [], All, arith}
+use Rattle.std.proofs.Common.{◌<◌, [], All, arith}
 use Rattle.mb_map.specs.declared.held.Held.{Held}
 use Rattle.mb_map.proofs.Differ.{own_ids, sound_all}
 use Rattle.mb_map.proofs.Standing.{stands_begun}

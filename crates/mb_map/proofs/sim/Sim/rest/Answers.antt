@@ -1,6 +1,4 @@
-use Rattle.std.proofs.Common.{◌≡◌, ◌∙◌, List, map, drop, ap}
-use Rattle.mb_mbap.specs.declared.frame.Frame.{Frame}
-use Rattle.mb_map.specs.Queue.{held_reply}
+use Rattle.std.proofs.Common.{drop}
 use Rattle.mb_map.specs.Schedule.{Simulated}
 use Rattle.mb_map.proofs.Standing.{stands_rested}
 use Rattle.mb_map.proofs.sim.Sim.rest.Goals as goal

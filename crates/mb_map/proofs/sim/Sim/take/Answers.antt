@@ -1,9 +1,9 @@
-use Rattle.std.proofs.Common.{◌≡◌, ◌≢◌, ◌≤◌, ◌∙◌, ◌+◌, ℕ, List, length, drop, get_or, rules, arith, sym, ap, refl}
+use Rattle.std.proofs.Common.{◌≡◌, ◌≢◌, ◌∙◌, ◌+◌, ℕ, List, length, drop, rules, arith, sym, ap}
 use Rattle.std.proofs.lemmas.List.{get_or-drop, with_items_is}
 use Rattle.mb_map.specs.declared.step.Step.{Step}
 use Rattle.mb_map.specs.declared.step.Step.TheVariants.{Pass, Hold}
 use Rattle.mb_map.specs.Queue.{PassesOn}
-use Rattle.mb_map.specs.Schedule.{Simulated, StandsFor, step_at}
+use Rattle.mb_map.specs.Schedule.{Simulated, step_at}
 use Rattle.mb_map.proofs.Standing.{drop_next, sound_step, stands_passed}
 use Rattle.mb_map.proofs.sim.Sim.take.Goals as goal
 
