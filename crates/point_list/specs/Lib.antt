@@ -7,3 +7,4 @@ pub mod Columns
 pub mod Lists
 pub mod Judged
 pub mod Header
+pub mod FaultTexts

@@ -42,6 +42,11 @@ pub enum ListFault {
 }
 
 impl fmt::Display for ListFault {
+    ghost use Rattle.std.specs.Prelude.{Some};
+    ghost use Rattle.point_list.specs.FaultTexts.{fault_text};
+
+    ghost output = { λ fault. Some (fault_text fault) };
+
     fn fmt<W: fmt::Write>(&self, f: &mut fmt::Formatter<W>) -> fmt::Result {
         f.write_str(match self {
             ListFault::BadCsv => "bad csv",
@@ -95,6 +100,11 @@ impl ListError {
 }
 
 impl fmt::Display for ListError {
+    ghost use Rattle.std.specs.Prelude.{Some};
+    ghost use Rattle.point_list.specs.FaultTexts.{error_text};
+
+    ghost output = { λ e. Some (error_text e) };
+
     fn fmt<W: fmt::Write>(&self, f: &mut fmt::Formatter<W>) -> fmt::Result {
         let fault = self.fault;
         let row = self.row;
