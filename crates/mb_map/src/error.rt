@@ -17,6 +17,11 @@ pub enum MapError {
 }
 
 impl fmt::Display for MapError {
+    ghost use Rattle.std.specs.Prelude.{Some};
+    ghost use Rattle.mb_map.specs.Texts.{text_of};
+
+    ghost output = { λ e. Some (text_of e) };
+
     fn fmt<W: fmt::Write>(&self, f: &mut fmt::Formatter<W>) -> fmt::Result {
         f.write_str(match self {
             MapError::TooLarge => "a table passes the last address",

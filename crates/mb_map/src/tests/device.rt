@@ -191,7 +191,10 @@ fn writes_keep_to_their_limits(rt: HostRuntime) -> Result<(), Fail> {
         (b"\x17\x00\xFF\x00\x01\x01\x00", 1, 2, Some(2)),
     ];
     for (head, quantity, count, wanted) in rows {
-        let asked = write(alloc, head, quantity, count)?;
+        let asked = match write(alloc, head, quantity, count) {
+            Ok(bytes) => bytes,
+            Err(_) => write(alloc, head, quantity, count)?,
+        };
         assert_eq!(rt;
             code(&rt, &mut mapping, asked.as_slice()),
             wanted,

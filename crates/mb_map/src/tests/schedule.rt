@@ -22,17 +22,26 @@ fn frame(rt: &impl Abort, transaction: u16, unit_id: u8, bytes: &[u8]) -> Frame 
 }
 
 /// One device of ten registers at unit identifier 17.
-fn sim(alloc: Global, steps: &[Step]) -> Result<Sim, Fail>
+fn made(alloc: Global, steps: &[Step]) -> Result<Sim, MapError>
     requires { IsTrue (list_all is_sound steps.now) }
 {
-    let mapping = match Mapping::new(alloc, 10, 10, 10, 10) {
-        Err(MapError::Memory) => Mapping::new(alloc, 10, 10, 10, 10)?,
-        other => other?,
-    };
+    let mapping = Mapping::new(alloc, 10, 10, 10, 10)?;
     let mut devices = Vec::new(alloc);
-    devices.push((17, mapping))?;
+    if devices.push((17, mapping)).is_err() {
+        return Err(MapError::Memory);
+    }
     let script = Vec::from_slice(alloc, steps)?;
     Ok(Sim::new(alloc, devices, script))
+}
+
+/// The same, and once more where memory was refused.
+fn sim(alloc: Global, steps: &[Step]) -> Result<Sim, MapError>
+    requires { IsTrue (list_all is_sound steps.now) }
+{
+    match made(alloc, steps) {
+        Err(MapError::Memory) => made(alloc, steps),
+        other => other,
+    }
 }
 
 /// Takes a frame, and once more where memory was refused: then nothing had happened.
