@@ -6,16 +6,20 @@ use anyhow::{Result, bail};
 use std::env;
 
 mod frames;
+mod lists;
+mod map;
 mod pace;
 mod units;
 
-const WORDS: &str = "units frames";
+const WORDS: &str = "units frames map lists";
 
 fn main(rt: HostRuntime) -> Result<()> {
     for word in env::args(&rt)?.skip(1) {
         match word.as_str() {
             "units" => units::measure(&rt)?,
             "frames" => frames::measure(&rt)?,
+            "map" => map::measure(&rt)?,
+            "lists" => lists::measure(&rt)?,
             other => bail!("no measure '{other}'; there are: {WORDS}"),
         }
     }

@@ -1,11 +1,11 @@
 -- The fault of a record, from its halves.
-use Rattle.std.proofs.Common.{◌≡◌, ℕ, List, ◌++◌, Bool, true, false, Option, Some, None, length, refl, sym, ◌∙◌, ap}
+use Rattle.std.proofs.Common.{◌≡◌, ℕ, List, ◌++◌, Bool, true, false, Some, None, length, refl, ◌∙◌}
 use Rattle.std.proofs.lemmas.List.{length-map}
 use Rattle.std.specs.List.{list_any}
 use Rattle.std.specs.Str.{bytes_eq}
 use Rattle.sunspec.specs.declared.point_type.PointType.{PointType}
 use Rattle.point_list.specs.Columns.{Record, field}
-use Rattle.point_list.specs.Lists.{Check, first_failed, place_checks, meaning_checks, whole_checks, fault_below, names_of, address_in, type_in, ends_in_time}
+use Rattle.point_list.specs.Lists.{first_failed, place_checks, meaning_checks, whole_checks, fault_below, names_of, address_in, type_in, ends_in_time}
 use Rattle.point_list.specs.declared.error.ListFault.{ListFault}
 use Rattle.point_list.specs.declared.error.ListFault.TheVariants.{Twice}
 use Rattle.point_list.specs.declared.point.ListRow.{ListRow}

@@ -1,6 +1,6 @@
 -- What a document of TOML says of a site.
-use Rattle.std.specs.Prelude.{◌≡◌, ℕ, pos, List, [], ◌∷◌, Bool, true, not, ◌&&◌, ◌==◌, Option, Some, None, Result, Ok, Err, if◌then◌else◌, nat_le, length, codes, ⊤}
-use Rattle.std.specs.List.{list_any, position}
+use Rattle.std.specs.Prelude.{◌≡◌, ℕ, pos, List, [], ◌∷◌, Option, Some, None, Result, Ok, Err, if◌then◌else◌, nat_le, length, codes, ⊤}
+use Rattle.std.specs.List.{position}
 use Rattle.std.specs.Str.{bytes_eq, IsUtf8}
 use Rattle.toml.specs.Data.{Data, Items, no_items, item, Members, integer, array, as_str, as_table, get_member}
 use Rattle.toml.specs.Parse.{parse_document}

@@ -1,7 +1,7 @@
 use Rattle.std.proofs.Common.{◌≡◌, ◌≢◌, ◌∷◌, ℕ, List, Bool, refl, inl, inr, rules, map, subst}
 use Rattle.csv.specs.Records.{fields_of}
 use Rattle.point_list.specs.Columns.{Record, is_device}
-use Rattle.point_list.specs.Lists.{header, AreRows, IsFaultOf, IsMemory, IsFirstInBody, FaultlessBelow}
+use Rattle.point_list.specs.Lists.{header, AreRows, IsFirstInBody}
 use Rattle.point_list.specs.Texts.{has_text}
 use Rattle.point_list.proofs.Header.{list_is, no_header}
 use Rattle.point_list.proofs.list.rows_in.Goals as goal

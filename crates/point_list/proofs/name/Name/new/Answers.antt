@@ -1,5 +1,4 @@
-use Rattle.std.proofs.Common.{◌≡◌, ◌∙◌, sym, length, arith, ap, true}
-use Rattle.point_list.specs.Name.{is_name}
+use Rattle.std.proofs.Common.{◌∙◌, sym, length, arith, ap}
 use Rattle.point_list.proofs.Names.{over_zeros}
 use Rattle.point_list.proofs.name.Name.new.Goals as goal
 

@@ -1,4 +1,3 @@
-use Rattle.std.proofs.Common.{arith}
 use Rattle.point_list.proofs.TextSets.{any_added}
 use Rattle.point_list.proofs.texts.Texts.add.Goals as goal
 
