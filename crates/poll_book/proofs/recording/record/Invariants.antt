@@ -1,0 +1,14 @@
+use Rattle.std.proofs.Common.{◌≡◌, ◌≤◌, take, vec_len}
+use Rattle.poll_book.specs.Tables.{Tables, Within, new_rows}
+use Rattle.poll_book.specs.Changes.{as_rows, keyed}
+use Rattle.poll_book.proofs.recording.record.Given as goal
+
+abbrev pub invariant-loop-entry : goal.invariant-loop-entry
+invariant-loop-entry g l = record {
+  value : g.N.Neighbours.is_clean l.keeper → (kept : Tables) → g.N.Neighbours.holds l.fn.keeper kept
+      → as_rows l.rows.items ≡ new_rows kept.readings (keyed l.slot (take l.entry-index l.covered));
+  few : vec_len l.rows ≤ l.entry-index;
+  same : Within (g.N.Neighbours.holds l.fn.keeper) (g.N.Neighbours.holds l.keeper);
+  clean : g.N.Neighbours.is_clean l.keeper → g.N.Neighbours.is_clean l.fn.keeper;
+  crash : g.N.Neighbours.is_clean l.keeper → Within (g.N.Neighbours.may_leave l.keeper) (g.N.Neighbours.may_leave l.fn.keeper);
+}

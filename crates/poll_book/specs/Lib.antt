@@ -1,0 +1,5 @@
+pub mod Words
+pub mod Fault
+pub mod Tables
+pub mod Totals
+pub mod Changes

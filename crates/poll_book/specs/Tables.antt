@@ -1,0 +1,51 @@
+-- The tables of an office, the readings as a finite map: the list of its rows in the order of their keys.
+use Rattle.std.specs.Prelude.{ℕ, Bool, ◌&&◌, ◌==◌, nat_le, List, [], ◌∷◌, filter, Option, is_none}
+use Rattle.std.specs.Ordering.{nat_cmp, ordering_then}
+use Rattle.std.specs.declared.cmp.Ordering.{Ordering}
+use Rattle.std.specs.FinMap.Entries as rows
+use Rattle.poll_book.specs.declared.rows.PointRow.{PointRow}
+use Rattle.poll_book.specs.declared.rows.Reading.{Reading}
+
+-- a point's number and a slot
+abbrev pub Key : Type 0
+Key = ℕ × ℕ
+
+-- by point, and then by slot
+abbrev pub key_cmp : Key → Key → Ordering
+key_cmp a b = ordering_then (nat_cmp a.0 b.0) (nat_cmp a.1 b.1)
+
+abbrev pub Readings : Type 0
+Readings = List (Key × Reading)
+
+-- what is there of a point in a slot
+abbrev pub reading_at : Readings → Key → Option Reading
+reading_at table key = rows.find key_cmp key table
+
+-- a table with these rows put in. Of two rows with one key the first decides
+abbrev pub with_rows : Readings → Readings → Readings
+with_rows [] table = table
+with_rows (row ∷ added) table = rows.put key_cmp row.0 row.1 (with_rows added table)
+
+-- those of the rows that the table lacks
+abbrev pub new_rows : Readings → Readings → Readings
+new_rows table given = filter (λ row. is_none (reading_at table row.0)) given
+
+abbrev pub is_between : ℕ → ℕ → ℕ → Key → Bool
+is_between point from to key = key.0 == point && nat_le from key.1 && nat_le key.1 to
+
+-- the readings of a point in the slots from the one to the other
+abbrev pub readings_between : ℕ → ℕ → ℕ → Readings → Readings
+readings_between point from to table = filter (λ row. is_between point from to row.0) table
+
+-- what an office keeps
+pub record Tables : Type 0 where
+  pub points : List PointRow
+  pub readings : Readings
+  pub connections : ℕ
+
+abbrev pub no_tables : Tables
+no_tables = record { points = []; readings = []; connections = 0 }
+
+-- what is held in the one is held in the other
+abbrev pub Within : (Tables → Type 0) → (Tables → Type 0) → Type 0
+Within old new = (kept : Tables) → old kept → new kept

@@ -1,0 +1,34 @@
+ghost use Rattle.std.specs.Prelude.{◌≡◌, ◌≤◌, ◌<◌, ◌+◌, ◌-◌, ◌%◌, IfSome};
+ghost use Rattle.poll_book.specs.Totals as counting;
+
+use point_list::{Point, Role};
+use sunspec::{Value, read_value};
+
+/// The number of a reading that counts for its point's total: the point is a counter, the registers
+/// are as its type has them, they don't mean unimplemented, and the number is at most the roll.
+#[tactic(auto, unfolding(sunspec::specs::PointType::row))]
+pub fn counted_number(point: &Point, words: &[u16]) -> Option<u64>
+    ensures number { result ≡ counting.counted_number point.now words.now }
+    ensures bound { IfSome result (λ number. number ≤ point.now.roll) }
+{
+    let Role::Counter = point.role else {
+        return None;
+    };
+    if !point.kind.is_sized() || !point.kind.has_registers(words) {
+        return None;
+    }
+    match read_value(&point.kind, words) {
+        Value::Number(number) if 0 <= number && number <= point.roll as i128 => Some(number as u64),
+        _ => None,
+    }
+}
+
+/// How far a counter that begins again at 0 after `roll` went from a to b at least: (b - a) modulo
+/// roll + 1.
+pub fn step_between(a: u64, b: u64, roll: u64) -> u64
+    requires first { a ≤ roll }
+    requires second { b ≤ roll }
+    ensures { result ≡ (b + (roll + 1) - a) % (roll + 1) }
+{
+    if a <= b { b - a } else { roll - (a - b) + 1 }
+}

@@ -1,0 +1,88 @@
+ghost use Rattle.std.specs.Prelude.{◌≡◌, ◌⊎◌, IfOk, OnOk, OnErr, option_map};
+ghost use Rattle.poll_book.specs.Tables.{Tables, Within, reading_at, readings_between};
+ghost use Rattle.poll_book.specs.Changes.{IsNew, applied, as_rows};
+ghost use Rattle.poll_book.specs.Totals.{total};
+
+use crate::fault::StoreFault;
+use crate::rows::{Change, PointRow, Reading, ReadingRow};
+use std::alloc::Global;
+
+/// A keeper's tables, seen from the points of a reply.
+pub trait Neighbours {
+    /// As far as it can still be read, it holds these tables.
+    ghost holds: { Self → Tables → Type 0 };
+
+    /// No wrong answer of a disk was taken as true. Memory is always clean.
+    ghost is_clean: { Self → Type 0 };
+
+    /// What a crash at this moment may leave.
+    ghost may_leave: { Self → Tables → Type 0 };
+
+    /// The reading of a point in a slot, if there is one.
+    fn reading(&mut self, point: &PointRow, slot: u32) -> Result<Option<Reading>, StoreFault>
+        ensures value { is_clean self.new → (kept : Tables) → holds self.old kept
+            → IfOk result (λ found. found ≡ reading_at kept.readings (point.now.number, slot)) }
+        ensures same { Within (holds self.old) (holds self.new) }
+        ensures clean { is_clean self.new → is_clean self.old }
+        ensures crash { is_clean self.new → Within (may_leave self.new) (may_leave self.old) };
+
+    /// How far a counter went by its counted readings; 0 for a point that is no counter.
+    fn total(&mut self, point: &PointRow) -> Result<u128, StoreFault>
+        ensures value { is_clean self.new → (kept : Tables) → holds self.old kept
+            → IfOk result (λ sum. sum ≡ total point.now kept.readings) }
+        ensures same { Within (holds self.old) (holds self.new) }
+        ensures clean { is_clean self.new → is_clean self.old }
+        ensures crash { is_clean self.new → Within (may_leave self.new) (may_leave self.old) };
+}
+
+/// What keeps an office's tables.
+pub trait Keeper: Neighbours {
+    /// The known points, by their numbers.
+    fn points(&mut self, alloc: Global) -> Result<Vec<PointRow>, StoreFault>
+        ensures value { Self.is_clean self.new → (kept : Tables) → Self.holds self.old kept
+            → IfOk result (λ points. points.items ≡ kept.points) }
+        ensures same { Within (Self.holds self.old) (Self.holds self.new) }
+        ensures clean { Self.is_clean self.new → Self.is_clean self.old }
+        ensures crash { Self.is_clean self.new
+            → Within (Self.may_leave self.new) (Self.may_leave self.old) };
+
+    /// The readings of the point of this number in the slots `from` to `to`, by slot.
+    fn readings(
+        &mut self,
+        alloc: Global,
+        point: u32,
+        from: u32,
+        to: u32,
+    ) -> Result<Vec<ReadingRow>, StoreFault>
+        ensures value { Self.is_clean self.new → (kept : Tables) → Self.holds self.old kept
+            → IfOk result (λ rows. as_rows rows.items ≡ readings_between point from to kept.readings) }
+        ensures same { Within (Self.holds self.old) (Self.holds self.new) }
+        ensures clean { Self.is_clean self.new → Self.is_clean self.old }
+        ensures crash { Self.is_clean self.new
+            → Within (Self.may_leave self.new) (Self.may_leave self.old) };
+
+    /// The number of the last connection, 0 before the first.
+    fn connections(&mut self) -> Result<u32, StoreFault>
+        ensures value { Self.is_clean self.new → (kept : Tables) → Self.holds self.old kept
+            → IfOk result (λ connections. connections ≡ kept.connections) }
+        ensures same { Within (Self.holds self.old) (Self.holds self.new) }
+        ensures clean { Self.is_clean self.new → Self.is_clean self.old }
+        ensures crash { Self.is_clean self.new
+            → Within (Self.may_leave self.new) (Self.may_leave self.old) };
+
+    /// Writes the whole change or nothing.
+    fn apply(&mut self, change: &Change) -> Result<(), StoreFault>
+        ensures ok { (kept : Tables) → Self.holds self.old kept → IsNew change.now kept
+            → OnOk result (Self.holds self.new (applied change.now kept)) }
+        ensures err { OnErr result (Within (Self.holds self.old) (Self.holds self.new)) }
+        ensures clean { Self.is_clean self.new → Self.is_clean self.old }
+
+        // A crash leaves what it could leave before, or the whole change; after `Ok` the change alone.
+        ensures crash { Self.is_clean self.new
+            → (kept : Tables) → Self.holds self.old kept → IsNew change.now kept
+            → (left : Tables) → Self.may_leave self.new left
+            → Self.may_leave self.old left ⊎ (left ≡ applied change.now kept) }
+        ensures durable { Self.is_clean self.new
+            → (kept : Tables) → Self.holds self.old kept → IsNew change.now kept
+            → OnOk result ((left : Tables) → Self.may_leave self.new left → left ≡ applied change.now kept) };
+}
