@@ -3,3 +3,4 @@ pub mod Fault
 pub mod Tables
 pub mod Totals
 pub mod Changes
+pub mod Histories

@@ -21,10 +21,14 @@ Readings = List (Key × Reading)
 abbrev pub reading_at : Readings → Key → Option Reading
 reading_at table key = rows.find key_cmp key table
 
+-- a table with the row put in
+abbrev pub with_row : Key → Reading → Readings → Readings
+with_row key reading table = rows.put key_cmp key reading table
+
 -- a table with these rows put in. Of two rows with one key the first decides
 abbrev pub with_rows : Readings → Readings → Readings
 with_rows [] table = table
-with_rows (row ∷ added) table = rows.put key_cmp row.0 row.1 (with_rows added table)
+with_rows (row ∷ added) table = with_row row.0 row.1 (with_rows added table)
 
 -- those of the rows that the table lacks
 abbrev pub new_rows : Readings → Readings → Readings

@@ -56,6 +56,11 @@ steps roll [] = 0
 steps roll (v ∷ []) = 0
 steps roll (v ∷ w ∷ rest) = (w + (roll + 1) - v) % (roll + 1) + steps roll (w ∷ rest)
 
+-- the step to a number from the last one, if there is one
+abbrev pub step_from : ℕ → Option ℕ → ℕ → ℕ
+step_from roll None w = 0
+step_from roll (Some v) w = (w + (roll + 1) - v) % (roll + 1)
+
 -- how far a counter went by its readings
 abbrev pub total : PointRow → Readings → ℕ
 total known table = steps known.point.roll (counted_numbers known table)

@@ -4,7 +4,10 @@
 
 mod counting;
 mod fault;
+mod histories;
+mod history;
 mod keeper;
+mod mem_keeper;
 mod recording;
 mod rows;
 mod words;
@@ -12,6 +15,7 @@ mod words;
 pub use counting::{counted_number, step_between};
 pub use fault::StoreFault;
 pub use keeper::{Keeper, Neighbours};
+pub use mem_keeper::MemKeeper;
 pub use recording::record;
 pub use rows::{Change, PointRow, Reading, ReadingRow};
 pub use words::Words;

@@ -1,5 +1,4 @@
 ghost use Rattle.std.specs.Prelude.{◌≡◌, ◌≤◌, ◌<◌, IfOk, length};
-ghost use Rattle.poll_book.specs.Words.{held_words};
 
 use std::alloc::{AllocError, Global};
 use std::fmt;
@@ -60,6 +59,23 @@ impl Words {
             Held::Few { words, count } => &words[..*count],
             Held::Many(words) => words.as_slice(),
         }
+    }
+}
+
+impl Clone for Words {
+    ghost use Rattle.std.specs.Prelude.{◌≡◌};
+
+    ghost is_clone = { λ words copy. copy ≡ words };
+
+    fn clone(&self) -> Result<Words, AllocError> {
+        let held = match &self.held {
+            Held::Few { words, count } => Held::Few {
+                words: *words,
+                count: *count,
+            },
+            Held::Many(words) => Held::Many(words.clone()?),
+        };
+        Ok(Words { held })
     }
 }
 

@@ -1,0 +1,59 @@
+ghost use Rattle.std.specs.Prelude.{◌≡◌, ◌+◌, ◌<◌, ◌≤◌, map, Contains, IsOk, IfOk, IfErr, vec_len, vec_capacity};
+ghost use Rattle.poll_book.specs.Tables.{with_row};
+ghost use Rattle.poll_book.specs.Histories.{IsAt, IsGap, IsRising, point_of, slot_of, slots_of};
+
+use crate::rows::Reading;
+
+/// What is kept of a point in a slot.
+#[derive(Drop)]
+pub(crate) struct SlotRow {
+    pub slot: u32,
+    pub reading: Reading,
+}
+
+/// The readings of a point, by slot.
+#[derive(Drop)]
+pub(crate) struct History {
+    pub point: u32,
+    pub slots: Vec<SlotRow>,
+}
+
+/// Where the slot stands, or where it would go.
+pub(crate) fn slot_place(slots: &[SlotRow], slot: u32) -> Result<usize, usize>
+    requires { IsRising slot_of slots.now }
+    ensures found { IfOk result (IsAt slot_of slots.now slot) }
+    ensures absent { IfErr result (IsGap slot_of slots.now slot) }
+{
+    slots.binary_search_by_key(&slot, |row| row.slot)
+}
+
+/// Where the point's history stands, or where it would go.
+pub(crate) fn history_place(histories: &[History], point: u32) -> Result<usize, usize>
+    requires { IsRising point_of histories.now }
+    ensures found { IfOk result (IsAt point_of histories.now point) }
+    ensures absent { IfErr result (IsGap point_of histories.now point) }
+    ensures known { Contains (map point_of histories.now) point → IsOk result }
+{
+    histories.binary_search_by_key(&point, |history| history.point)
+}
+
+impl History {
+    /// Puts a reading under its slot. There is room for one more.
+    pub(crate) fn put(&mut self, slot: u32, reading: Reading)
+        requires rising { IsRising slot_of self.old.slots.items }
+        requires room { vec_len self.old.slots < vec_capacity self.old.slots }
+        ensures rising { IsRising slot_of self.new.slots.items }
+        ensures put { slots_of self.new.point self.new.slots.items
+            ≡ with_row (self.old.point, slot) reading (slots_of self.old.point self.old.slots.items) }
+        ensures point { self.new.point ≡ self.old.point }
+        ensures longer { vec_len self.new.slots ≤ vec_len self.old.slots + 1 }
+        ensures capacity { vec_capacity self.old.slots ≤ vec_capacity self.new.slots }
+    {
+        match slot_place(&self.slots, slot) {
+            Ok(place) => self.slots[place] = SlotRow { slot, reading },
+            Err(place) => {
+                let _ = self.slots.insert(place, SlotRow { slot, reading });
+            }
+        }
+    }
+}
