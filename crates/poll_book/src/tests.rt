@@ -1,0 +1,47 @@
+mod keeping;
+mod totals;
+
+use crate::{Change, Keeper, MemKeeper, PointRow, StoreFault, record};
+use mb_map::Table;
+use mb_pdu::Registers;
+use point_list::{Items, Name, Point, Role};
+use std::alloc::Global;
+use sunspec::PointType;
+
+/// A counter of the roof's meter.
+fn counter(number: u32, kind: PointType, roll: u64) -> Option<PointRow> {
+    Some(PointRow {
+        number,
+        point: Point {
+            name: Name::new(b"energy")?,
+            device: Name::new(b"m1")?,
+            table: Table::Holding,
+            address: 107,
+            kind,
+            scale: 0,
+            role: Role::Counter,
+            roll,
+        },
+    })
+}
+
+/// Records these registers of the point in the slot, and says how many readings were new.
+fn store(
+    alloc: Global,
+    keeper: &mut MemKeeper,
+    point: PointRow,
+    slot: u32,
+    words: &[u16],
+) -> Result<usize, StoreFault> {
+    let Some(registers) = Registers::from_slice(words) else {
+        return Err(StoreFault::Other);
+    };
+    let rows = record(alloc, keeper, &[(point, registers)], slot)?;
+    let count = rows.len();
+    keeper.apply(&Change {
+        points: Items::from_vec(Vec::new(alloc)),
+        readings: Items::from_vec(rows),
+        connections: None,
+    })?;
+    Ok(count)
+}
