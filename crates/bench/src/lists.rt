@@ -7,20 +7,26 @@ use std::rt::Clock;
 use std::time::Instant;
 
 const POINTS: u32 = 10_000;
+
 const LINES: u32 = 64;
+
 const DEVICES: u32 = 256;
 
 /// A site file of as many lines and devices as there may be.
 fn site_text(alloc: Global) -> Result<String, AllocError> {
     let mut text = String::new(alloc);
     for number in 0..LINES {
-        let line = format!(in alloc; "[[line]]\nname = \"line-{number}\"\naddress = \"127.0.0.1:1502\"\n")?;
+        let line = format!(in alloc;
+            "[[line]]\nname = \"line-{number}\"\naddress = \"127.0.0.1:1502\"\n"
+        )?;
         text.push_str(line.as_str())?;
     }
     for number in 0..DEVICES {
         let line = number % LINES;
         let unit = number / LINES;
-        let device = format!(in alloc; "[[device]]\nname = \"meter-{number}\"\nline = \"line-{line}\"\nunit = {unit}\ngap = 8\n")?;
+        let device = format!(in alloc;
+            "[[device]]\nname = \"meter-{number}\"\nline = \"line-{line}\"\nunit = {unit}\ngap = 8\n"
+        )?;
         text.push_str(device.as_str())?;
     }
     Ok(text)
@@ -35,17 +41,15 @@ fn list_text(alloc: Global) -> Result<String, AllocError> {
     for number in 0..POINTS {
         let device = number % DEVICES;
         let address = number / DEVICES * 2;
-        let record = format!(in alloc; "meter-{device}.energy-{number},meter-{device},holding,{address},acc32,2,-1,counter,\n")?;
+        let record = format!(in alloc;
+            "meter-{device}.energy-{number},meter-{device},holding,{address},acc32,2,-1,counter,\n"
+        )?;
         text.push_str(record.as_str())?;
     }
     Ok(text)
 }
 
-fn measure_list<R: Print + Clock + AllocGlobal>(
-    rt: &R,
-    site: &Site,
-    text: &str,
-) -> io::Result<()> {
+fn measure_list<R: Print + Clock + AllocGlobal>(rt: &R, site: &Site, text: &str) -> io::Result<()> {
     let start = Instant::now(rt)?;
     let rows = match read_list(rt.alloc(), text.as_bytes(), site) {
         Ok(rows) => rows.len(),
@@ -64,7 +68,10 @@ pub fn measure<R: Print + Clock + AllocGlobal>(rt: &R) -> io::Result<()> {
         Err(e) => return println!(rt; "the site was refused: {e}"),
     };
     let took = start.elapsed(rt)?;
-    println!(rt; "a site of {LINES} lines and {DEVICES} devices read in {} us", took.as_micros())?;
+    println!(rt;
+        "a site of {LINES} lines and {DEVICES} devices read in {} us",
+        took.as_micros()
+    )?;
     let list = list_text(rt.alloc())?;
     measure_list(rt, &site, list.as_str())
 }
