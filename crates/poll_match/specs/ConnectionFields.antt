@@ -1,4 +1,4 @@
--- How a connection is kept: with all its queries, for now.
+-- How a connection is kept: with all its queries.
 use Rattle.std.specs.Prelude.{◌≡◌, ◌≤◌, true, length}
 use Rattle.std.specs.List.{list_all}
 use Rattle.poll_match.specs.declared.asked.Matched.{Matched}
