@@ -44,7 +44,7 @@ words r h =
       w8 = (bytes_eq-Decides _ _).0 p7.1;
     }
 
-header_is : (r : Record) → is_header r ≡ true → r ≡ header
+pub header_is : (r : Record) → is_header r ≡ true → r ≡ header
 unfolding field_at
 header_is (a ∷ b ∷ c ∷ d ∷ e ∷ f ∷ g ∷ h ∷ i ∷ []) p =
     let w = words (a ∷ b ∷ c ∷ d ∷ e ∷ f ∷ g ∷ h ∷ i ∷ []) p in
@@ -60,7 +60,7 @@ header_is (a ∷ b ∷ c ∷ d ∷ e ∷ f ∷ g ∷ []) p = absurd (let e = nin
 header_is (a ∷ b ∷ c ∷ d ∷ e ∷ f ∷ g ∷ h ∷ []) p = absurd (let e = nine (a ∷ b ∷ c ∷ d ∷ e ∷ f ∷ g ∷ h ∷ []) p in omega arith)
 header_is (a ∷ b ∷ c ∷ d ∷ e ∷ f ∷ g ∷ h ∷ i ∷ j ∷ rest) p = absurd (let n = nine (a ∷ b ∷ c ∷ d ∷ e ∷ f ∷ g ∷ h ∷ i ∷ j ∷ rest) p in omega arith)
 
-header_passes : is_header header ≡ true
+pub header_passes : is_header header ≡ true
 unfolding field_at
 header_passes = refl
 

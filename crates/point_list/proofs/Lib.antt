@@ -8,3 +8,6 @@ pub mod Whole
 pub mod DeviceNames
 pub mod Rows
 pub mod Header
+pub mod OneMeaning
+pub mod OnLiterals
+pub mod ExampleList

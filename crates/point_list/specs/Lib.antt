@@ -8,3 +8,4 @@ pub mod Lists
 pub mod Judged
 pub mod Header
 pub mod FaultTexts
+pub mod ListMeaning

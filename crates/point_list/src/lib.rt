@@ -5,6 +5,7 @@ mod columns;
 mod error;
 mod items;
 mod judge;
+pub mod laws;
 mod list;
 mod name;
 mod point;
