@@ -1,0 +1,4 @@
+pub mod Cells
+pub mod Numbering
+pub mod Finding
+pub mod Loading

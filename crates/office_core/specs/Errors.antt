@@ -1,0 +1,15 @@
+-- How a refused query is told.
+use Rattle.poll_book.specs.declared.fault.StoreFault.TheVariants as fault
+use Rattle.poll_match.specs.declared.error.MatchError.{MatchError}
+use Rattle.poll_match.specs.declared.error.MatchError.TheVariants as matching
+use Rattle.office_core.specs.declared.error.OfficeError.{OfficeError}
+use Rattle.office_core.specs.declared.error.OfficeError.TheVariants as error
+
+abbrev pub refused_by : MatchError → OfficeError
+refused_by matching.NoConnection = error.NoConnection
+refused_by matching.NoQuery = error.NoQuery
+refused_by matching.WrongUnit = error.WrongUnit
+refused_by matching.Repeat = error.Repeat
+refused_by matching.WrongReply = error.WrongReply
+refused_by matching.Exhausted = error.Exhausted
+refused_by matching.Memory = error.Store fault.Memory

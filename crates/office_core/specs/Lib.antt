@@ -1,0 +1,9 @@
+pub mod Texts
+pub mod Errors
+pub mod Sites
+pub mod Cover
+pub mod Loads
+pub mod History
+pub mod Answers
+pub mod Legal
+pub mod Standing

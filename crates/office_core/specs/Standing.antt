@@ -1,0 +1,101 @@
+-- How an office stands for a history, and what it sees of one.
+use Rattle.std.specs.Prelude.{◌≡◌, ℕ, ◌+◌, Bool, true, false, if◌then◌else◌, List, [], ◌∷◌, length, Option, Some, None, option_map, slice_get, ⊤}
+use Rattle.mb_mbap.specs.declared.frame.Frame.{Frame}
+use Rattle.point_list.specs.declared.site.Site.{Site}
+use Rattle.read_planner.specs.declared.Read.{Read}
+use Rattle.poll_match.specs.declared.asked.Matched.{Matched}
+use Rattle.poll_match.specs.Window.{Open as OpenOne, held, last_of}
+use Rattle.poll_book.specs.declared.rows.PointRow.{PointRow}
+use Rattle.poll_book.specs.Tables.{Tables}
+use Rattle.office_core.specs.declared.error.OfficeError.{OfficeError}
+use Rattle.office_core.specs.declared.error.OfficeError.TheVariants as error
+use Rattle.office_core.specs.declared.event.Event.{Event}
+use Rattle.office_core.specs.declared.event.Event.TheVariants as event
+use Rattle.office_core.specs.declared.event.EventAnswer.{EventAnswer}
+use Rattle.office_core.specs.declared.event.EventAnswer.TheVariants as answer
+use Rattle.office_core.specs.declared.event.Outcome.TheVariants.{RefusedFor}
+use Rattle.office_core.specs.Cover.{Question, asked_of}
+use Rattle.office_core.specs.History.{Happening, Restart, Load, Open, Ask, Reply, Noise, History, after, tables, site_of, points, open_line, asked, is_answered}
+use Rattle.office_core.specs.Answers.{answer_of, answers_of, reply_frame}
+use Rattle.office_core.specs.Legal.{MayHappen, Legal}
+
+-- ---- what the matcher knows
+
+-- the queries from this number on, each with whether it was answered
+abbrev pub queries_from : History → ℕ → ℕ → List Question → List Matched
+queries_from before conn n [] = []
+queries_from before conn n (q ∷ qs) =
+    record { asked = asked_of q; settled = is_answered before conn n } ∷ queries_from before conn (n + 1) qs
+
+abbrev pub queries : History → ℕ → List Matched
+queries before conn = queries_from before conn 0 (asked before conn)
+
+-- a connection of this line that made these queries
+abbrev pub open_one : ℕ → List Matched → ℕ → OpenOne
+open_one conn all line = record { number = conn; line = line; made = length all; last = last_of all }
+
+-- what is known of a connection: its line if it is open, how many queries it made, and of each of the
+-- last 65,536 what was asked and whether it was answered
+abbrev pub open_of : History → ℕ → Option OpenOne
+open_of before conn = option_map (open_one conn (queries before conn)) (open_line before conn)
+
+-- ---- standing for a history
+
+-- a keeper that holds the history's tables, its site, a copy of its points, and its open connections
+pub record StandsFor (holds : Tables → Type 0) (now : Site) (known : List PointRow) (all : List OpenOne) (before : History) : Type 0 where
+  pub tables : holds (tables before)
+  pub site : now ≡ site_of before
+  pub points : known ≡ points before
+  pub connections : (conn : ℕ) → held conn all ≡ open_of before conn
+
+-- ---- what the office sees of what happens
+
+abbrev pub Sees : History → Happening → Event → Type 0
+Sees before (Restart site) event.Restart = site ≡ site_of before
+Sees before (Load list) (event.Load seen) = seen ≡ list
+Sees before (Open line) (event.Open seen) = seen ≡ line
+Sees before (Ask c device slot read) (event.Ask conn name s r) = (conn ≡ c) × (name ≡ device) × (s ≡ slot) × (r ≡ read)
+Sees before (Reply c n unit) (event.Arrive conn frame) = (conn ≡ c) × (frame ≡ reply_frame n (slice_get (asked before c) n) unit)
+Sees before (Noise c noise) (event.Arrive conn frame) = (conn ≡ c) × (frame ≡ noise)
+Sees before happening seen = ⊥
+
+-- the events are what the office sees of what happens from there on
+abbrev pub SeesAll : History → List Happening → List Event → Type 0
+SeesAll before [] [] = ⊤
+SeesAll before (happening ∷ rest) (seen ∷ more) = Sees before happening seen × SeesAll (happening ∷ before) rest more
+SeesAll before [] (seen ∷ more) = ⊥
+SeesAll before (happening ∷ rest) [] = ⊥
+
+-- ---- one event, which is refused by the store or happens
+
+abbrev pub is_store : EventAnswer → Bool
+is_store (answer.Refused (error.Store fault)) = true
+is_store _ = false
+
+abbrev pub is_refusal : EventAnswer → Bool
+is_refusal (answer.Refused fault) = true
+is_refusal (answer.Judged (RefusedFor reason)) = true
+is_refusal _ = false
+
+-- the events that the store didn't refuse, and their answers
+abbrev pub taken : List Event → List EventAnswer → List Event
+taken [] told = []
+taken (seen ∷ more) [] = []
+taken (seen ∷ more) (a ∷ told) = if is_store a then taken more told else seen ∷ taken more told
+
+abbrev pub heard : List EventAnswer → List EventAnswer
+heard [] = []
+heard (a ∷ told) = if is_store a then heard told else a ∷ heard told
+
+-- An event that the store refuses didn't happen. Else it is what happened, and is answered so
+pub record Goes (old new : History → Type 0) (seen : Event) (told : EventAnswer) : Type 0 where
+  pub refused : (before : History) → old before → is_store told ≡ true → new before
+  pub happened : (before : History) (happening : Happening) → old before → MayHappen before happening → Sees before happening seen → is_store told ≡ false
+      → new (happening ∷ before) × (told ≡ answer_of before happening)
+
+-- Whatever the office stood for, and whatever it sees as the events that the store didn't refuse: where that is legal,
+-- the office stands for the one followed by the other, and the answers are those to it
+abbrev pub Runs : (History → Type 0) → (History → Type 0) → List Event → List EventAnswer → Type 0
+Runs old new events told =
+    (before : History) (rest : List Happening) → old before → SeesAll before rest (taken events told) → Legal (after before rest)
+    → new (after before rest) × (heard told ≡ answers_of before rest)

@@ -1,0 +1,124 @@
+//! Which points a read covers, and what a reply gives to them.
+ghost use Rattle.std.specs.Prelude.{◌≡◌, ◌≤◌, ◌<◌, ◌+◌, ◌∷◌, [], true, false, IfOk, length, take, drop, get_or};
+ghost use Rattle.office_core.specs.Cover as cover;
+ghost use Rattle.office_core.specs.Cover.{Brings};
+
+use mb_map::Table;
+use mb_pdu::{Bits, Registers, Reply};
+use point_list::{Name, Point};
+use poll_book::PointRow;
+use read_planner::Read;
+use std::alloc::{AllocError, Global};
+
+fn reads_table(function: u8, table: Table) -> bool
+    ensures { result ≡ cover.reads_table function table }
+{
+    match table {
+        Table::Coil => function == 1,
+        Table::Discrete => function == 2,
+        Table::Holding => function == 3,
+        Table::Input => function == 4,
+    }
+}
+
+fn has_size(table: Table, count: u16) -> bool
+    ensures { result ≡ cover.has_size table count }
+{
+    match table {
+        Table::Coil | Table::Discrete => count == 1,
+        Table::Holding | Table::Input => count >= 1,
+    }
+}
+
+fn lies_in(read: &Read, address: u16, count: u16) -> bool
+    ensures { result ≡ cover.lies_in read.now address count }
+{
+    let end = read.span.start as u32 + read.span.quantity as u32;
+    read.span.start <= address && address as u32 + count as u32 <= end
+}
+
+/// The point is of the device and of the table that is read, and lies whole in the read.
+pub(crate) fn covers(device: &[u8], read: &Read, point: &Point) -> bool
+    ensures { result ≡ cover.covers device.now read.now point.now }
+{
+    let count = point.kind.registers();
+    point.device.as_bytes() == device
+        && reads_table(read.function, point.table)
+        && has_size(point.table, count)
+        && lies_in(read, point.address, count)
+}
+
+fn ends_in_time(read: &Read) -> bool
+    ensures { result ≡ cover.ends_in_time read.now }
+{
+    read.span.start as u32 + read.span.quantity as u32 <= 65536
+}
+
+fn is_covered(known: &[PointRow], device: &[u8], read: &Read) -> bool
+    ensures { result ≡ cover.some_covered known.now device.now read.now }
+{
+    known.iter().any(|point| covers(device, read, &point.point))
+}
+
+/// A valid read that ends by the last address and holds a known point of the device whole.
+pub(crate) fn is_readable(known: &[PointRow], device: &[u8], read: &Read) -> bool
+    ensures { result ≡ cover.is_readable known.now device.now read.now }
+{
+    read.is_valid() && ends_in_time(read) && is_covered(known, device, read)
+}
+
+fn registers_at(words: &Registers, start: usize, count: usize) -> Registers
+    requires some { 0 < count }
+    requires within { start + count ≤ length words.now }
+    ensures { result ≡ take count (drop start words.now) }
+{
+    match Registers::from_slice(&words.as_slice()[start..start + count]) {
+        Some(words) => words,
+        None => unreachable!(),
+    }
+}
+
+fn cell_at(bits: &Bits, place: usize) -> Registers
+    requires { place < length bits.now }
+    ensures { result ≡ cover.one_or_zero (get_or bits.now place false) ∷ [] }
+{
+    match Registers::from_slice(&[bits.as_slice()[place] as u16]) {
+        Some(words) => words,
+        None => unreachable!(),
+    }
+}
+
+/// A point's words at its place in a reply.
+fn words_in(read: &Read, reply: &Reply, point: &Point) -> Registers
+    requires brings { Brings read.now reply.now }
+    requires covered { cover.covers point.now.device read.now point.now ≡ true }
+    ensures { result ≡ cover.words_in read.now (cover.reply_cells reply.now) point.now }
+{
+    let start = (point.address - read.span.start) as usize;
+    match reply {
+        Reply::Registers(words) => registers_at(words, start, point.kind.registers() as usize),
+        Reply::Bits(bits) => cell_at(bits, start),
+        _ => unreachable!(),
+    }
+}
+
+/// What a reply gives to the points that its query covers, of those the first ones that were known.
+pub(crate) fn covered(
+    alloc: Global,
+    known: &[PointRow],
+    device: &[u8],
+    read: &Read,
+    reply: &Reply,
+) -> Result<Vec<(PointRow, Registers)>, AllocError>
+    requires { Brings read.now reply.now }
+    ensures rows { IfOk result (λ rows. rows.items ≡ cover.given_of known.now device.now read.now (cover.reply_cells reply.now)) }
+    ensures few { IfOk result (λ rows. length rows.items ≤ length known.now) }
+{
+    let mut rows = Vec::new(alloc);
+    for point in known {
+        if covers(device, read, &point.point) {
+            rows.push((*point, words_in(read, reply, &point.point)))?;
+        }
+    }
+    Ok(rows)
+}

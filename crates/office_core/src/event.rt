@@ -1,0 +1,70 @@
+use crate::error::OfficeError;
+use crate::text::Text;
+use mb_mbap::Frame;
+use point_list::{Items, ListFault};
+use poll_match::Conn;
+use read_planner::Read;
+
+/// What happens to an office.
+#[derive(Debug, Drop)]
+pub enum Event {
+    /// The bytes of a point list.
+    Load(Items<u8>),
+    /// A line by its name.
+    Open(Text),
+    /// A read of a device, by its name, for a slot.
+    Ask(Conn, Text, u32, Read),
+    /// A frame that came over a connection.
+    Arrive(Conn, Frame),
+    /// The office begins anew, with the same site.
+    Restart,
+}
+
+/// Why a list isn't taken, by its place.
+#[derive(Clone, Copy, Debug, PartialEq, Eq)]
+pub struct Reason {
+    pub fault: LoadFault,
+    /// The number of the record, of which the header is 1, or 0 where no record is at fault.
+    pub row: u32,
+    /// The column, from 1, or 0 where no column is at fault.
+    pub column: u8,
+}
+
+/// What is wrong with a list that is loaded.
+#[derive(Clone, Copy, Debug, PartialEq, Eq)]
+pub enum LoadFault {
+    /// A fault of the list by itself; `TooManyPoints` at row 0 where more than 10,000 would be known.
+    List(ListFault),
+    /// A point of this name is known with another definition.
+    PointDiffers,
+}
+
+/// What became of a list.
+#[derive(Clone, Copy, Debug, PartialEq, Eq)]
+pub enum Outcome {
+    /// All points of the list are known now. It counts the rows, also those that were known before.
+    Loaded(u32),
+    /// No point of the list was taken.
+    RefusedFor(Reason),
+}
+
+/// What a frame brought.
+#[derive(Clone, Copy, Debug, PartialEq, Eq)]
+pub enum Arrival {
+    /// A normal reply to a read, and how many new readings it gave.
+    Recorded(u32),
+    /// An exception with its code. It changes no table.
+    Excepted(u8),
+}
+
+/// The answer to an event.
+#[derive(Debug, Drop)]
+pub enum EventAnswer {
+    Judged(Outcome),
+    Opened(Conn),
+    /// The frame of the query, to be sent.
+    Query(Frame),
+    Arrived(Arrival),
+    Restarted,
+    Refused(OfficeError),
+}

@@ -1,0 +1,14 @@
+//! The office: what it keeps of lists, connections, queries and replies, whatever is lost, late,
+//! repeated or reordered.
+#![tactic(auto)]
+
+mod cover;
+mod error;
+mod event;
+mod loads;
+mod site;
+mod text;
+
+pub use error::OfficeError;
+pub use event::{Arrival, Event, EventAnswer, LoadFault, Outcome, Reason};
+pub use text::Text;

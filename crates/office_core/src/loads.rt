@@ -1,0 +1,189 @@
+//! What becomes of a list that is loaded.
+ghost use Rattle.std.specs.Prelude.{◌≡◌, ◌≢◌, ◌≤◌, [], is_none, length, option_map, IfOk, IfErr, OnOk, Ok};
+ghost use Rattle.std.specs.List.{position};
+ghost use Rattle.std.specs.Str.{bytes_eq};
+ghost use Rattle.office_core.specs.Loads as loads;
+
+use crate::event::{LoadFault, Outcome, Reason};
+use mb_map::Table;
+use point_list::{ListError, ListFault, ListRow, Point, Role, Site, read_list, resolve};
+use poll_book::{PointRow, StoreFault};
+use std::alloc::{AllocError, Global};
+
+fn place_named(known: &[PointRow], name: &[u8]) -> Option<usize>
+    ensures { result ≡ position (λ point. bytes_eq point.point.name name.now) known.now }
+{
+    known
+        .iter()
+        .position(|point| point.point.name.as_bytes() == name)
+}
+
+/// The known point of a name.
+pub(crate) fn known_named(known: &[PointRow], name: &[u8]) -> Option<PointRow>
+    ensures { result ≡ loads.known_named known.now name.now }
+{
+    match place_named(known, name) {
+        Some(place) => Some(known[place]),
+        None => None,
+    }
+}
+
+fn is_same_table(a: Table, b: Table) -> bool
+    ensures { result ≡ loads.same_table a b }
+{
+    match (a, b) {
+        (Table::Coil, Table::Coil)
+        | (Table::Discrete, Table::Discrete)
+        | (Table::Holding, Table::Holding)
+        | (Table::Input, Table::Input) => true,
+        _ => false,
+    }
+}
+
+fn is_same_role(a: Role, b: Role) -> bool
+    ensures { result ≡ loads.same_role a b }
+{
+    match (a, b) {
+        (Role::Gauge, Role::Gauge)
+        | (Role::Counter, Role::Counter)
+        | (Role::Setting, Role::Setting) => true,
+        _ => false,
+    }
+}
+
+fn is_same_point(a: &Point, b: &Point) -> bool
+    ensures { result ≡ loads.same_point a.now b.now }
+{
+    a.name == b.name
+        && a.device == b.device
+        && is_same_table(a.table, b.table)
+        && a.address == b.address
+        && a.kind.code() == b.kind.code()
+        && a.kind.registers() == b.kind.registers()
+        && a.scale == b.scale
+        && is_same_role(a.role, b.role)
+        && a.roll == b.roll
+}
+
+/// No point of that name is known, or it is this point.
+fn agrees(known: &[PointRow], point: &Point) -> bool
+    ensures { result ≡ loads.agrees point.now (loads.known_named known.now point.now.name) }
+{
+    match known_named(known, point.name.as_bytes()) {
+        None => true,
+        Some(there) => is_same_point(&there.point, point),
+    }
+}
+
+fn is_unknown(known: &[PointRow], point: &Point) -> bool
+    ensures { result ≡ is_none (loads.known_named known.now point.now.name) }
+{
+    known_named(known, point.name.as_bytes()).is_none()
+}
+
+fn place_differing(known: &[PointRow], rows: &[ListRow]) -> Option<usize>
+    ensures { result ≡ position (loads.differs known.now) rows.now }
+{
+    rows.iter().position(|row| !agrees(known, &row.point))
+}
+
+/// The number of the first row whose name is known with another definition.
+fn first_differing(known: &[PointRow], rows: &[ListRow]) -> Option<u32>
+    ensures { result ≡ option_map (λ row. row.row) (loads.differing known.now rows.now) }
+{
+    match place_differing(known, rows) {
+        Some(place) => Some(rows[place].row),
+        None => None,
+    }
+}
+
+/// The rows of the points that aren't known, numbered on.
+fn new_points(
+    alloc: Global,
+    known: &[PointRow],
+    points: &[Point],
+) -> Result<Vec<PointRow>, AllocError>
+    requires many { length known.now ≤ 10000 }
+    requires few { length points.now ≤ 10000 }
+    ensures rows { IfOk result (λ rows. rows.items ≡ loads.numbered_on (length known.now) (loads.unknown_of known.now points.now)) }
+{
+    let mut rows = Vec::new(alloc);
+    for point in points {
+        if is_unknown(known, point) {
+            let number = (known.len() + rows.len()) as u32 + 1;
+            rows.push(PointRow {
+                number,
+                point: *point,
+            })?;
+        }
+    }
+    Ok(rows)
+}
+
+fn refused(fault: LoadFault, row: u32, column: u8) -> Outcome
+    ensures { result ≡ loads.outcome (loads.Refused (record { fault = fault; row = row; column = column })) }
+{
+    Outcome::RefusedFor(Reason { fault, row, column })
+}
+
+/// What becomes of a list of these rows, and the rows of the points that it adds.
+fn judge_rows(
+    alloc: Global,
+    known: &[PointRow],
+    rows: Vec<ListRow>,
+) -> Result<(Outcome, Vec<PointRow>), StoreFault>
+    requires many { length known.now ≤ 10000 }
+    requires few { length rows.items ≤ 10000 }
+    ensures outcome { IfOk result (λ x. x.0 ≡ loads.outcome (loads.loading_of known.now (Ok rows.items))) }
+    ensures added { IfOk result (λ x. x.1.items ≡ loads.added (length known.now) (loads.loading_of known.now (Ok rows.items))) }
+    ensures memory { IfErr result (λ e. e ≡ StoreFault.Memory) }
+{
+    let count = rows.len() as u32;
+    let differing = first_differing(known, &rows);
+    let Ok(points) = resolve(alloc, rows) else {
+        return Err(StoreFault::Memory);
+    };
+    if let Some(row) = differing {
+        return Ok((refused(LoadFault::PointDiffers, row, 1), Vec::new(alloc)));
+    }
+    let new = new_points(alloc, known, &points)?;
+    if known.len() + new.len() > 10000 {
+        let fault = LoadFault::List(ListFault::TooManyPoints);
+        return Ok((refused(fault, 0, 0), Vec::new(alloc)));
+    }
+    Ok((Outcome::Loaded(count), new))
+}
+
+fn judge_fault(alloc: Global, error: ListError) -> Result<(Outcome, Vec<PointRow>), StoreFault>
+    ensures outcome { IfOk result (λ x. x.0 ≡ loads.outcome (loads.Refused (loads.list_reason error))) }
+    ensures added { IfOk result (λ x. x.1.items ≡ []) }
+    ensures fault { OnOk result (error.fault ≢ ListFault.Memory) }
+    ensures memory { IfErr result (λ e. e ≡ StoreFault.Memory) }
+{
+    match error.fault {
+        ListFault::Memory => Err(StoreFault::Memory),
+        fault => {
+            let outcome = refused(LoadFault::List(fault), error.row, error.column);
+            Ok((outcome, Vec::new(alloc)))
+        }
+    }
+}
+
+/// What becomes of a list by a site and the points that are known, and the rows of the points that
+/// it adds.
+pub(crate) fn judge(
+    alloc: Global,
+    site: &Site,
+    known: &[PointRow],
+    list: &[u8],
+) -> Result<(Outcome, Vec<PointRow>), StoreFault>
+    requires { length known.now ≤ 10000 }
+    ensures outcome { IfOk result (λ x. x.0 ≡ loads.outcome (loads.loading site.now known.now list.now)) }
+    ensures added { IfOk result (λ x. x.1.items ≡ loads.added (length known.now) (loads.loading site.now known.now list.now)) }
+    ensures memory { IfErr result (λ e. e ≡ StoreFault.Memory) }
+{
+    match read_list(alloc, list, site) {
+        Ok(rows) => judge_rows(alloc, known, rows),
+        Err(error) => judge_fault(alloc, error),
+    }
+}

@@ -1,0 +1,75 @@
+//! Lines and devices of a site, by their names.
+ghost use Rattle.std.specs.Prelude.{◌≡◌};
+ghost use Rattle.std.specs.List.{position};
+ghost use Rattle.std.specs.Str.{bytes_eq};
+ghost use Rattle.point_list.specs.Columns.{is_device};
+ghost use Rattle.point_list.specs.Sites.{IsSound};
+ghost use Rattle.office_core.specs.Sites as sites;
+
+use point_list::{Device, Line, Site};
+use poll_book::PointRow;
+
+/// A device to be asked: its place in the site, its line's place, and its unit identifier.
+#[derive(Clone, Copy)]
+pub(crate) struct Target {
+    pub(crate) place: u16,
+    pub(crate) line: u16,
+    pub(crate) unit_id: u8,
+}
+
+fn place_of_line(lines: &[Line], name: &[u8]) -> Option<usize>
+    ensures { result ≡ position (λ line. bytes_eq line.name name.now) lines.now }
+{
+    lines.iter().position(|line| line.name.as_bytes() == name)
+}
+
+fn place_of_device(devices: &[Device], name: &[u8]) -> Option<usize>
+    ensures { result ≡ position (λ device. bytes_eq device.name name.now) devices.now }
+{
+    devices
+        .iter()
+        .position(|device| device.name.as_bytes() == name)
+}
+
+/// The place of the line of a name.
+pub(crate) fn line_place(site: &Site, name: &[u8]) -> Option<u16>
+    requires { IsSound site.now }
+    ensures { result ≡ sites.line_place site.now name.now }
+{
+    match place_of_line(site.lines.as_slice(), name) {
+        Some(place) => Some(place as u16),
+        None => None,
+    }
+}
+
+/// The device of a name.
+pub(crate) fn find_target(site: &Site, name: &[u8]) -> Option<Target>
+    requires { IsSound site.now }
+    ensures { result ≡ sites.target site.now name.now }
+{
+    let devices = site.devices.as_slice();
+    match place_of_device(devices, name) {
+        Some(place) => Some(Target {
+            place: place as u16,
+            line: devices[place].line,
+            unit_id: devices[place].unit,
+        }),
+        None => None,
+    }
+}
+
+fn has_device(site: &Site, point: &PointRow) -> bool
+    ensures { result ≡ is_device site.now point.now.point.device }
+{
+    let devices = site.devices.as_slice();
+    devices
+        .iter()
+        .any(|device| point.point.device == device.name)
+}
+
+/// Whether a site has the devices of these points.
+pub(crate) fn has_devices(site: &Site, known: &[PointRow]) -> bool
+    ensures { result ≡ sites.has_devices site.now known.now }
+{
+    known.iter().all(|point| has_device(site, point))
+}
