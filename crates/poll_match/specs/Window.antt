@@ -145,6 +145,14 @@ pub record IsLeastOf (line : ℕ) (all : List Open) (conn : ℕ) : Type 0 where
   pub there : line_of (held conn all) ≡ Some line
   pub least : (other : ℕ) → line_of (held other all) ≡ Some line → conn ≤ other
 
+abbrev pub greater : ℕ → ℕ → ℕ
+greater a b = if nat_le a b then b else a
+
+-- the greatest number of these connections, 0 where there is none
+abbrev pub greatest_of : List Open → ℕ
+greatest_of [] = 0
+greatest_of (on ∷ rest) = greater on.number (greatest_of rest)
+
 -- the place of the open connection of this number
 abbrev pub place : ℕ → List Open → Option ℕ
 place conn all = position (λ (on : Open). on.number == conn) all

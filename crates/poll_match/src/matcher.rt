@@ -1,7 +1,7 @@
 //! The open connections and their queries.
 ghost use Rattle.std.specs.Prelude.{◌≡◌, ◌⊎◌, ℕ, [], IfOk, IfErr, OnOk, OnErr, IfSome, IfNone, Some, None, true, ◌==◌, if◌then◌else◌};
 ghost use Rattle.poll_match.specs.Queries.{is_valid};
-ghost use Rattle.poll_match.specs.Window.{Changes, IsLeastOf, IsNextFrame, KeepsQuery, LeastIn, Names, closed, fresh, held, lesser, line_of, made_of, next_refusal, place, refusal, with_answer, with_query};
+ghost use Rattle.poll_match.specs.Window.{Changes, IsLeastOf, IsNextFrame, KeepsQuery, LeastIn, Names, closed, fresh, greater, greatest_of, held, lesser, line_of, made_of, next_refusal, place, refusal, with_answer, with_query};
 
 use crate::asked::Asked;
 use crate::conn::Conn;
@@ -81,6 +81,23 @@ fn least_of(connections: &[Connection], line: u16) -> Option<u32>
     least
 }
 
+fn greater(a: u32, b: u32) -> u32
+    ensures { result ≡ greater a b }
+{
+    if a <= b { b } else { a }
+}
+
+/// The greatest number of these connections.
+fn greatest_in(connections: &[Connection]) -> u32
+    ensures { result ≡ greatest_of connections.now }
+{
+    let mut greatest = 0;
+    for connection in connections {
+        greatest = greater(greatest, connection.conn().number());
+    }
+    greatest
+}
+
 impl Matcher {
     /// No connection is open.
     pub fn new(alloc: Global) -> Matcher
@@ -139,6 +156,13 @@ impl Matcher {
             Some(place) => Some(self.connections[place].made()),
             None => None,
         }
+    }
+
+    /// The greatest number of an open connection, 0 where none is open.
+    pub fn greatest(&self) -> u32
+        ensures { result ≡ greatest_of self.now }
+    {
+        greatest_in(&self.connections)
     }
 
     /// The open connection of a line of least number.
