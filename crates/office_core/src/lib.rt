@@ -6,6 +6,7 @@ mod cover;
 mod error;
 mod event;
 mod loads;
+mod office;
 mod site;
 mod text;
 
