@@ -3,3 +3,4 @@ pub mod Numbering
 pub mod Finding
 pub mod Loading
 pub mod Newness
+pub mod Given

@@ -1,6 +1,6 @@
 -- What is written is new.
 use Rattle.std.proofs.Common.{◌≡◌, ◌⊎◌, inl, inr, ℕ, zero, suc, ◌+◌, ◌<◌, ◌≤◌, Bool, true, false, cond, List, [], ◌∷◌, ◌++◌, map, length, Some, None, Option, Result, Ok, Err, refl, sym, ap, ◌∙◌, arith, subst, eqb}
-use Rattle.std.specs.Prelude.{filter, is_none, unwrap_or, OnOk, OnErr, MatchResult}
+use Rattle.std.specs.Prelude.{filter, is_none, unwrap_or, OnOk, OnErr, IfOk, MatchResult}
 use Rattle.std.specs.Result.{IsErr}
 use Rattle.std.specs.Ordering.{eq_by_cmp}
 use Rattle.std.proofs.lemmas.List.{append-nil}
@@ -13,7 +13,7 @@ use Rattle.poll_book.specs.Tables.{Tables, Within, Key, key_cmp, Readings, readi
 use Rattle.poll_book.specs.Changes.{applied, as_rows, AreNumbered, AreNew, IsNew}
 use Rattle.poll_book.proofs.Tabled.{exact_keys}
 use Rattle.office_core.specs.Loads.{numbered_on}
-use Rattle.office_core.specs.Offices.{Endures, IsCounted, Rises, with_given}
+use Rattle.office_core.specs.Keeping.{Endures, IsCounted, Rises, with_given}
 
 -- ---- points
 
@@ -128,3 +128,11 @@ committed holds may holds' may' change kept e new (Err x) ok err crash durable =
 pub on_refusal : {X E P : Type 0} (Q : X → Type 0) (told : Result X E) → IsErr told → P → MatchResult told Q (λ _. P)
 on_refusal Q (Ok x) e p = absurd (cc)
 on_refusal Q (Err x) e p = p
+
+pub unmet : {X E : Type 0} (P : X → Type 0) (told : Result X E) → IsErr told → IfOk told P
+unmet P (Ok x) e = absurd (cc)
+unmet P (Err x) e = tt
+
+pub on_err : {X E P : Type 0} (told : Result X E) → P → OnErr told P
+on_err (Ok x) p = tt
+on_err (Err x) p = p

@@ -1,5 +1,5 @@
 -- Which points a read covers, and what a reply gives to them.
-use Rattle.std.specs.Prelude.{ℕ, ◌+◌, ◌-◌, Bool, true, false, ◌&&◌, ◌==◌, cond, nat_le, List, [], ◌∷◌, map, filter, take, drop, slice_index, if◌then◌else◌}
+use Rattle.std.specs.Prelude.{ℕ, ◌+◌, ◌-◌, Bool, true, false, ◌&&◌, ◌==◌, cond, nat_le, List, [], ◌∷◌, map, filter, take, drop, slice_index, ⊤, Option, Some, None, if◌then◌else◌}
 use Rattle.std.specs.List.{list_any}
 use Rattle.std.specs.Str.{bytes_eq}
 use Rattle.mb_pdu.specs.Packing.{unworded, unpacked}
@@ -16,6 +16,8 @@ use Rattle.read_planner.specs.declared.Read.{Read}
 use Rattle.read_planner.specs.Read.{read_request, is_valid_read}
 use Rattle.poll_match.specs.declared.asked.Asked.{Asked}
 use Rattle.poll_match.specs.declared.asked.Asked.TheVariants as asked
+use Rattle.point_list.specs.declared.site.Site.{Site}
+use Rattle.office_core.specs.Sites.{device_name}
 use Rattle.poll_book.specs.declared.rows.PointRow.{PointRow}
 use Rattle.poll_book.specs.Tables.{Readings}
 use Rattle.poll_book.specs.Changes.{keyed}
@@ -105,6 +107,25 @@ given_of known device read words = map (λ (point : PointRow). (point, words_in 
 -- the readings that a normal reply gives: to the points that were known to its query
 abbrev pub given_rows : List PointRow → Question → List ℕ → Readings
 given_rows known q unit = keyed q.slot (given_of (take q.known known) q.device q.read (cells q.read unit))
+
+-- a reply to a query: an exception, or one that brings what the query's read asks for
+abbrev pub Answers : Asked → Reply → Type 0
+Answers query (Excepted code) = ⊤
+Answers (asked.Read unit_id place slot read known) reply = Brings read reply
+
+abbrev pub read_of : Asked → Read
+read_of (asked.Read unit_id place slot read known) = read
+
+abbrev pub slot_of : Asked → ℕ
+slot_of (asked.Read unit_id place slot read known) = slot
+
+abbrev pub given_named : List PointRow → Option (List ℕ) → Read → List ℕ → List (PointRow × List ℕ)
+given_named known None read words = []
+given_named known (Some device) read words = given_of known device read words
+
+-- the same of what is kept of a query, by the place of its device in a site
+abbrev pub given_at : Site → List PointRow → Asked → List ℕ → List (PointRow × List ℕ)
+given_at site known (asked.Read unit_id place slot read before) words = given_named (take before known) (device_name site place) read words
 
 -- a unit spells a reply to the query
 abbrev pub fits : Question → List ℕ → Bool

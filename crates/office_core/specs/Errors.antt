@@ -1,9 +1,16 @@
 -- How a refused query is told.
+use Rattle.poll_book.specs.declared.fault.StoreFault.{StoreFault}
 use Rattle.poll_book.specs.declared.fault.StoreFault.TheVariants as fault
 use Rattle.poll_match.specs.declared.error.MatchError.{MatchError}
 use Rattle.poll_match.specs.declared.error.MatchError.TheVariants as matching
 use Rattle.office_core.specs.declared.error.OfficeError.{OfficeError}
 use Rattle.office_core.specs.declared.error.OfficeError.TheVariants as error
+
+abbrev pub refused_store : StoreFault → OfficeError
+refused_store f = error.Store f
+
+abbrev pub no_memory : OfficeError
+no_memory = error.Store fault.Memory
 
 abbrev pub refused_by : MatchError → OfficeError
 refused_by matching.NoConnection = error.NoConnection
@@ -12,4 +19,4 @@ refused_by matching.WrongUnit = error.WrongUnit
 refused_by matching.Repeat = error.Repeat
 refused_by matching.WrongReply = error.WrongReply
 refused_by matching.Exhausted = error.Exhausted
-refused_by matching.Memory = error.Store fault.Memory
+refused_by matching.Memory = no_memory

@@ -7,4 +7,5 @@ pub mod History
 pub mod Answers
 pub mod Legal
 pub mod Standing
+pub mod Keeping
 pub mod Offices

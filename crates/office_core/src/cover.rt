@@ -5,8 +5,9 @@ ghost use Rattle.office_core.specs.Cover.{Brings};
 
 use mb_map::Table;
 use mb_pdu::{Bits, Registers, Reply};
-use point_list::{Name, Point};
+use point_list::{Point, Site};
 use poll_book::PointRow;
+use poll_match::Asked;
 use read_planner::Read;
 use std::alloc::{AllocError, Global};
 
@@ -121,4 +122,38 @@ pub(crate) fn covered(
         }
     }
     Ok(rows)
+}
+
+/// The slot of a query.
+pub(crate) fn slot_of(asked: &Asked) -> u32
+    ensures { result ≡ cover.slot_of asked.now }
+{
+    match asked {
+        Asked::Read { slot, .. } => *slot,
+    }
+}
+
+/// What a reply gives to the points that its query covers.
+pub(crate) fn covered_by(
+    alloc: Global,
+    site: &Site,
+    known: &[PointRow],
+    asked: &Asked,
+    reply: &Reply,
+) -> Result<Vec<(PointRow, Registers)>, AllocError>
+    requires { Brings (cover.read_of asked.now) reply.now }
+    ensures rows { IfOk result (λ rows. rows.items ≡ cover.given_at site.now known.now asked.now (cover.reply_cells reply.now)) }
+    ensures few { IfOk result (λ rows. length rows.items ≤ length known.now) }
+{
+    let Asked::Read {
+        device,
+        read,
+        known: before,
+        ..
+    } = asked;
+    let count = known.len().min(*before as usize);
+    match site.devices.as_slice().get(*device as usize) {
+        Some(device) => covered(alloc, &known[..count], device.name.as_bytes(), read, reply),
+        None => Ok(Vec::new(alloc)),
+    }
 }

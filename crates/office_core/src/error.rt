@@ -1,5 +1,6 @@
 use poll_book::StoreFault;
 use poll_match::MatchError;
+use std::alloc::AllocError;
 use std::error::Error;
 use std::fmt;
 
@@ -71,5 +72,27 @@ impl From<MatchError> for OfficeError {
             MatchError::Exhausted => OfficeError::Exhausted,
             MatchError::Memory => OfficeError::Store(StoreFault::Memory),
         }
+    }
+}
+
+impl From<StoreFault> for OfficeError {
+    ghost use Rattle.std.specs.Prelude.{◌≡◌};
+    ghost use Rattle.office_core.specs.Errors.{refused_store};
+
+    ghost from_gives = { λ fault refusal. refusal ≡ refused_store fault };
+
+    fn from(fault: StoreFault) -> OfficeError {
+        OfficeError::Store(fault)
+    }
+}
+
+impl From<AllocError> for OfficeError {
+    ghost use Rattle.std.specs.Prelude.{◌≡◌};
+    ghost use Rattle.office_core.specs.Errors.{no_memory};
+
+    ghost from_gives = { λ _ refusal. refusal ≡ no_memory };
+
+    fn from(_: AllocError) -> OfficeError {
+        OfficeError::Store(StoreFault::Memory)
     }
 }

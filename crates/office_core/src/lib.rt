@@ -2,6 +2,8 @@
 //! repeated or reordered.
 #![tactic(auto)]
 
+mod arrival;
+mod commit;
 mod cover;
 mod error;
 mod event;

@@ -1,5 +1,5 @@
 //! What becomes of a list that is loaded.
-ghost use Rattle.std.specs.Prelude.{◌≡◌, ◌≢◌, ◌≤◌, [], is_none, length, option_map, IfOk, IfErr, OnOk, Ok};
+ghost use Rattle.std.specs.Prelude.{◌≡◌, ◌≢◌, ◌≤◌, ◌+◌, [], is_none, length, option_map, IfOk, IfErr, OnOk, Ok};
 ghost use Rattle.std.specs.List.{position};
 ghost use Rattle.std.specs.Str.{bytes_eq};
 ghost use Rattle.office_core.specs.Loads as loads;
@@ -136,6 +136,7 @@ fn judge_rows(
     requires few { length rows.items ≤ 10000 }
     ensures outcome { IfOk result (λ x. x.0 ≡ loads.outcome (loads.loading_of known.now (Ok rows.items))) }
     ensures added { IfOk result (λ x. x.1.items ≡ loads.added (length known.now) (loads.loading_of known.now (Ok rows.items))) }
+    ensures few { IfOk result (λ x. length known.now + length x.1.items ≤ 10000) }
     ensures memory { IfErr result (λ e. e ≡ StoreFault.Memory) }
 {
     let count = rows.len() as u32;
@@ -180,6 +181,7 @@ pub(crate) fn judge(
     requires { length known.now ≤ 10000 }
     ensures outcome { IfOk result (λ x. x.0 ≡ loads.outcome (loads.loading site.now known.now list.now)) }
     ensures added { IfOk result (λ x. x.1.items ≡ loads.added (length known.now) (loads.loading site.now known.now list.now)) }
+    ensures few { IfOk result (λ x. length known.now + length x.1.items ≤ 10000) }
     ensures memory { IfErr result (λ e. e ≡ StoreFault.Memory) }
 {
     match read_list(alloc, list, site) {

@@ -1,71 +1,103 @@
 //! The office over any keeper.
-ghost use Rattle.std.specs.Prelude.{◌≡◌, ◌<◌, ◌≤◌, ◌⊎◌, ℕ, IfOk, OnErr, MatchResult, length, true};
-ghost use Rattle.poll_book.specs.Tables.{Tables, Within, new_rows};
-ghost use Rattle.poll_book.specs.Changes.{IsNew, applied, keyed};
+ghost use Rattle.std.specs.Prelude.{◌≡◌, ◌≤◌, ◌++◌, ◌+◌, ℕ, IfOk, IfErr, OnOk, OnErr, MatchResult, Some, None, length, false, true, vec_len, vec_capacity};
+ghost use Rattle.poll_book.specs.Tables.{Tables, Within};
 ghost use Rattle.point_list.specs.Sites.{IsSound};
 ghost use Rattle.office_core.specs.Sites as sites;
-ghost use Rattle.office_core.specs.History as history;
+ghost use Rattle.office_core.specs.Sites.{has_devices};
 ghost use Rattle.office_core.specs.Cover.{is_readable};
-ghost use Rattle.office_core.specs.Offices.{Endures, IsCounted, Rises, with_given};
+ghost use Rattle.office_core.specs.History as history;
+ghost use Rattle.office_core.specs.Standing.{Goes, is_refusal};
 
-
-
-
-
-
+use crate::arrival::bring;
+use crate::commit::commit;
+use crate::cover::is_readable;
+use crate::error::OfficeError;
+use crate::event::{Arrival, Event, Outcome};
+use crate::loads::judge;
+use crate::site::{Target, find_target, has_devices, line_place};
 use mb_mbap::Frame;
-use mb_pdu::{Registers, Reply};
 use point_list::{Items, Site};
-use poll_book::{Change, Keeper, PointRow, ReadingRow, StoreFault, record};
+use poll_book::{Change, Keeper, PointRow, StoreFault};
 use poll_match::{Asked, Conn, Matcher};
 use read_planner::Read;
 use std::alloc::Global;
 
-/// Writes a change, whole or not at all.
-fn commit<K: Keeper>(keeper: &mut K, change: &Change) -> Result<(), StoreFault>
-    ensures kept { K.is_clean keeper.new → (kept : Tables) → K.holds keeper.old kept → IsNew change.now kept
-        → MatchResult result (λ _. K.holds keeper.new (applied change.now kept)) (λ _. K.holds keeper.new kept) }
-    ensures crash { K.is_clean keeper.new → (kept : Tables) → Endures (K.holds keeper.old) (K.may_leave keeper.old) kept → IsNew change.now kept
-        → MatchResult result
-            (λ _. Endures (K.holds keeper.new) (K.may_leave keeper.new) (applied change.now kept))
-            (λ _. Endures (K.holds keeper.new) (K.may_leave keeper.new) kept) }
-    ensures err { OnErr result (Within (K.holds keeper.old) (K.holds keeper.new)) }
-    ensures clean { K.is_clean keeper.new → K.is_clean keeper.old }
+/// The device to ask, or the first refusal that holds, but for that of a connection that made all
+/// its queries.
+fn judge_ask(
+    site: &Site,
+    known: &[PointRow],
+    line: Option<u16>,
+    device: &[u8],
+    read: &Read,
+) -> Result<Target, OfficeError>
+    requires { IsSound site.now }
+    ensures { MatchResult result
+        (λ to. (line ≡ Some to.line) × (sites.target site.now device.now ≡ Some to) × (is_readable known.now device.now read.now ≡ true))
+        (λ e. (made : ℕ) → history.ask_fault line site.now known.now made device.now read.now ≡ Some e) }
 {
-    keeper.apply(change)
+    let Some(line) = line else {
+        return Err(OfficeError::NoConnection);
+    };
+    let Some(to) = find_target(site, device) else {
+        return Err(OfficeError::WrongLine);
+    };
+    if to.line != line {
+        return Err(OfficeError::WrongLine);
+    }
+    if !is_readable(known, device, read) {
+        return Err(OfficeError::NoRead);
+    }
+    Ok(to)
 }
 
-/// Writes the readings that the keeper lacks, and tells how many they are.
-fn keep_readings<K: Keeper>(
-    alloc: Global,
-    keeper: &mut K,
-    covered: &[(PointRow, Registers)],
-    slot: u32,
-) -> Result<u32, StoreFault>
-    requires { length covered.now ≤ 10000 }
-    ensures count { K.is_clean keeper.new → (kept : Tables) → K.holds keeper.old kept
-        → IfOk result (λ count. count ≡ length (new_rows kept.readings (keyed slot covered.now))) }
-    ensures kept { K.is_clean keeper.new → (kept : Tables) → K.holds keeper.old kept → IsCounted kept → Rises 0 (keyed slot covered.now)
-        → MatchResult result (λ _. K.holds keeper.new (with_given (keyed slot covered.now) kept)) (λ _. K.holds keeper.new kept) }
-    ensures crash { K.is_clean keeper.new → (kept : Tables) → Endures (K.holds keeper.old) (K.may_leave keeper.old) kept → IsCounted kept → Rises 0 (keyed slot covered.now)
-        → MatchResult result
-            (λ _. Endures (K.holds keeper.new) (K.may_leave keeper.new) (with_given (keyed slot covered.now) kept))
-            (λ _. Endures (K.holds keeper.new) (K.may_leave keeper.new) kept) }
-    ensures err { OnErr result (Within (K.holds keeper.old) (K.holds keeper.new)) }
-    ensures clean { K.is_clean keeper.new → K.is_clean keeper.old }
+/// Adds rows to a copy of the points that has room for them.
+fn add_points(points: &mut Vec<PointRow>, rows: &[PointRow])
+    requires { vec_len points.old + length rows.now ≤ vec_capacity points.old }
+    ensures { points.new.items ≡ points.old.items ++ rows.now }
 {
-    let rows = record(alloc, keeper, covered, slot)?;
-    let count = rows.len() as u32;
-    if count == 0 {
-        return Ok(0);
+    for row in rows {
+        let _ = points.push(*row);
     }
-    commit(
-        keeper,
-        &Change {
-            points: Items::from_vec(Vec::new(alloc)),
-            readings: Items::from_vec(rows),
-            connections: None,
-        },
-    )?;
-    Ok(count)
+}
+
+/// An office over a keeper of points, readings and its last connection number.
+#[derive(Drop)]
+pub struct Office<K: Keeper> {
+    keeper: K,
+    site: Site,
+    // A copy of the keeper's, so that an ask makes no store call.
+    points: Vec<PointRow>,
+    matcher: Matcher,
+    alloc: Global,
+    ghost few: { length points.items ≤ 10000 },
+    ghost sound: { IsSound site },
+}
+
+impl<K: Keeper> Office<K> {
+    ghost use Rattle.office_core.specs.History.{History, Restart, tables};
+    ghost use Rattle.office_core.specs.Offices.{Stands, StandsInCrash, IsAlike, arrived, asked_so, judged, opened};
+
+    /// A frame came over a connection. A normal reply to a read gives a reading of the query's slot
+    /// to each point that the read covers and that was known when it was asked; a point that has
+    /// one in the slot keeps it. `NoConnection`, `NoQuery`, `WrongUnit`, `Repeat` and `WrongReply`
+    /// are the refusals, in this order, then `Store`: the query stays open then.
+    pub fn arrive(&mut self, conn: Conn, frame: &Frame) -> Result<Arrival, OfficeError>
+        ensures goes { K.is_clean self.new.keeper → Goes (Stands self.old) (Stands self.new) (Event.Arrive conn frame.now) (arrived result) }
+        ensures crash { K.is_clean self.new.keeper → Goes (StandsInCrash self.old) (StandsInCrash self.new) (Event.Arrive conn frame.now) (arrived result) }
+        ensures same { OnErr result (IsAlike self.old self.new) }
+        ensures clean { K.is_clean self.new.keeper → K.is_clean self.old.keeper }
+    {
+        let found = self.matcher.find(conn, frame)?;
+        let arrival = bring(
+            self.alloc,
+            &mut self.keeper,
+            &self.site,
+            &self.points,
+            &found.asked,
+            &found.reply,
+        )?;
+        self.matcher.settle(conn, found.number);
+        Ok(arrival)
+    }
 }

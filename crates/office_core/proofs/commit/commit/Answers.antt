@@ -1,5 +1,5 @@
 use Rattle.office_core.proofs.Newness.{committed}
-use Rattle.office_core.proofs.office.commit.Goals as goal
+use Rattle.office_core.proofs.commit.commit.Goals as goal
 
 pub returns-clause-crash : goal.returns-clause-crash
 returns-clause-crash g c clean kept e new =

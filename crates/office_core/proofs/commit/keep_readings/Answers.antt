@@ -2,9 +2,9 @@ use Rattle.std.proofs.Common.{◌≡◌, ◌∙◌, [], None, subst, refl, ap, r
 use Rattle.poll_book.specs.Changes.{as_rows, keyed}
 use Rattle.poll_book.specs.declared.rows.Change.{Change}
 use Rattle.poll_book.specs.Tables.{new_rows}
-use Rattle.office_core.specs.Offices.{Endures}
+use Rattle.office_core.specs.Keeping.{Endures}
 use Rattle.office_core.proofs.Newness.{new_readings, applied_readings, endures_still, on_refusal}
-use Rattle.office_core.proofs.office.keep_readings.Goals as goal
+use Rattle.office_core.proofs.commit.keep_readings.Goals as goal
 
 pub returns-clause-kept : goal.returns-clause-kept
 returns-clause-kept g c clean kept h counted rises =
