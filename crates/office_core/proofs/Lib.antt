@@ -4,3 +4,7 @@ pub mod Finding
 pub mod Loading
 pub mod Newness
 pub mod Given
+pub mod Rows
+pub mod Queries
+pub mod Naming
+pub mod Arrivals

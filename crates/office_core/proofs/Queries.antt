@@ -1,0 +1,99 @@
+-- The queries of a connection, each with whether it was answered.
+use Rattle.std.proofs.Common.{◌≡◌, ◌≢◌, ℕ, zero, suc, ◌+◌, ◌-◌, ◌<◌, ◌≤◌, Bool, true, false, cond, eqb, List, [], ◌∷◌, ◌++◌, length, Some, None, Option, refl, sym, ap, ◌∙◌, arith, subst, length-append, ◌⊎◌, inl, inr, ⊎_elim}
+use Rattle.std.specs.Prelude.{slice_get, option_map, is_none, ◌&&◌, ◌||◌}
+use Rattle.std.proofs.lemmas.Bool.{false≢true, and_parts, and_from, eqb-true, eq-eqb, ne_eqb}
+use Rattle.read_planner.specs.declared.Read.{Read}
+use Rattle.poll_match.specs.declared.asked.Matched.{Matched}
+use Rattle.poll_match.specs.Window.{Open as OpenOne, last_of, settled_at, with_settled}
+use Rattle.poll_match.proofs.Windows.{last_settled}
+use Rattle.office_core.specs.Cover.{Question, asked_of, fits}
+use Rattle.office_core.specs.History.{Happening, Restart, Load, Open, Ask, Reply, Noise, History, points, site_of, connections, open_line, line_after, same_line, open_fault, asked, is_answered, fits_query, ask_fault, question}
+use Rattle.office_core.specs.Standing.{queries_from, queries, open_one, open_of}
+
+-- ---- the list of queries
+
+pub length-queries : (before : History) (conn n : ℕ) (qs : List Question) → length (queries_from before conn n qs) ≡ length qs
+length-queries before conn n [] = refl
+length-queries before conn n (q ∷ qs) = ap suc (length-queries before conn (n + 1) qs)
+
+get-queries : (before : History) (conn m : ℕ) (qs : List Question) (n : ℕ)
+    → slice_get (queries_from before conn m qs) n ≡ option_map (λ (q : Question). record { asked = asked_of q; settled = is_answered before conn (m + n) }) (slice_get qs n)
+get-queries before conn m [] n = refl
+get-queries before conn m (q ∷ qs) zero = ap (λ k. Some (record { asked = asked_of q; settled = is_answered before conn k })) (omega arith)
+get-queries before conn m (q ∷ qs) (suc n) =
+    get-queries before conn (m + 1) qs n
+    ∙ ap (λ k. option_map (λ (p : Question). record { asked = asked_of p; settled = is_answered before conn k }) (slice_get qs n)) (omega arith)
+
+-- the query of a number
+pub get_query : (before : History) (conn n : ℕ)
+    → slice_get (queries before conn) n ≡ option_map (λ (q : Question). record { asked = asked_of q; settled = is_answered before conn n }) (slice_get (asked before conn) n)
+get_query before conn n =
+    get-queries before conn 0 (asked before conn) n
+    ∙ ap (λ k. option_map (λ (q : Question). record { asked = asked_of q; settled = is_answered before conn k }) (slice_get (asked before conn) n)) (omega arith)
+
+-- where the same was answered, they are the same
+pub same_queries : (before before' : History) (conn n : ℕ) (qs : List Question) → ((k : ℕ) → is_answered before' conn k ≡ is_answered before conn k)
+    → queries_from before' conn n qs ≡ queries_from before conn n qs
+same_queries before before' conn n [] same = refl
+same_queries before before' conn n (q ∷ qs) same =
+    λ i. record { asked = asked_of q; settled = same n i } ∷ same_queries before before' conn (n + 1) qs same i
+
+pub queries-push : (before : History) (conn n : ℕ) (qs : List Question) (q : Question)
+    → queries_from before conn n (qs ++ q ∷ []) ≡ queries_from before conn n qs ++ record { asked = asked_of q; settled = is_answered before conn (n + length qs) } ∷ []
+queries-push before conn n [] q = ap (λ k. record { asked = asked_of q; settled = is_answered before conn k } ∷ []) (omega arith)
+queries-push before conn n (p ∷ qs) q =
+    ap (λ l. record { asked = asked_of p; settled = is_answered before conn n } ∷ l)
+    (queries-push before conn (n + 1) qs q
+    ∙ ap (λ k. queries_from before conn (n + 1) qs ++ record { asked = asked_of q; settled = is_answered before conn k } ∷ []) (omega arith))
+
+-- ---- what isn't asked isn't answered
+
+none_past : (xs : List Question) (number : ℕ) → length xs ≤ number → slice_get xs number ≡ None
+none_past [] number h = refl
+none_past (x ∷ xs) zero h = absurd (omega arith)
+none_past (x ∷ xs) (suc number) h = none_past xs number (omega arith)
+
+asked_longer : (b : Bool) (xs ys : List Question) → length xs ≤ length (cond b (xs ++ ys) xs)
+asked_longer true xs ys = omega (arith, length-append xs ys)
+asked_longer false xs ys = omega arith
+
+neither : (b d f a : Bool) → f ≡ false → a ≡ false → ((b && (d && f)) || a) ≡ false
+neither true true true a f h = absurd (cc)
+neither true true false a f h = h
+neither true false f a e h = h
+neither false d f a e h = h
+
+pub unasked : (before : History) (conn number : ℕ) → length (asked before conn) ≤ number → is_answered before conn number ≡ false
+unasked [] conn number h = refl
+unasked (Restart site ∷ before) conn number h = unasked before conn number h
+unasked (Load list ∷ before) conn number h = unasked before conn number h
+unasked (Open line ∷ before) conn number h = unasked before conn number h
+unasked (Ask c device slot read ∷ before) conn number h =
+    let longer = asked_longer (eqb c conn && is_none (ask_fault (open_line before c) (site_of before) (points before) (length (asked before c)) device read)) (asked before conn) (question (site_of before) (points before) device slot read ∷ []) in
+    unasked before conn number (omega arith)
+unasked (Reply c n unit ∷ before) conn number h =
+    neither (eqb c conn) (eqb n number) (fits_query (slice_get (asked before conn) number) unit) (is_answered before conn number)
+    (ap (λ o. fits_query o unit) (none_past (asked before conn) number h)) (unasked before conn number h)
+unasked (Noise c frame ∷ before) conn number h = unasked before conn number h
+
+-- ---- open connections
+
+pub same_open : (before before' : History) (conn : ℕ) → open_line before' conn ≡ open_line before conn → queries before' conn ≡ queries before conn → open_of before' conn ≡ open_of before conn
+same_open before before' conn lines all = λ i. option_map (open_one conn (all i)) (lines i)
+
+-- an event after which the same is open, asked and answered
+pub still_open : (before before' : History) (conn : ℕ) → open_line before' conn ≡ open_line before conn → asked before' conn ≡ asked before conn
+    → ((k : ℕ) → is_answered before' conn k ≡ is_answered before conn k) → open_of before' conn ≡ open_of before conn
+still_open before before' conn lines same answered =
+    same_open before before' conn lines (ap (queries_from before' conn 0) same ∙ same_queries before before' conn 0 (asked before conn) answered)
+
+-- ---- a query settled
+
+length-settled : (n : ℕ) (xs : List Matched) → length (settled_at n xs) ≡ length xs
+length-settled n [] = refl
+length-settled zero (x ∷ xs) = refl
+length-settled (suc n) (x ∷ xs) = ap suc (length-settled n xs)
+
+pub open-settled : (conn line number : ℕ) (all : List Matched) → length all ≤ number + 65536 → with_settled number (open_one conn all line) ≡ open_one conn (settled_at number all) line
+open-settled conn line number all near =
+    λ i. record { number = conn; line = line; made = sym (length-settled number all) i; last = last_settled number all near i }
