@@ -8,3 +8,10 @@ pub mod Rows
 pub mod Queries
 pub mod Naming
 pub mod Arrivals
+pub mod Asks
+pub mod Opens
+pub mod Loaded
+pub mod Placed
+pub mod Runs
+pub mod Steps
+pub mod Telling
