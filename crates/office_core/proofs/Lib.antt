@@ -2,3 +2,4 @@ pub mod Cells
 pub mod Numbering
 pub mod Finding
 pub mod Loading
+pub mod Examples
