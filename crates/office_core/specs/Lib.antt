@@ -7,3 +7,4 @@ pub mod History
 pub mod Answers
 pub mod Legal
 pub mod Standing
+pub mod FirstArrivals

@@ -5,6 +5,7 @@
 mod cover;
 mod error;
 mod event;
+pub mod laws;
 mod loads;
 mod site;
 mod text;
