@@ -1,14 +1,20 @@
 -- What histories that are written out come to, of a site with one line and one device.
-use Rattle.std.proofs.Common.{◌≡◌, ℕ, true, false, List, [], ◌∷◌, ◌++◌, Some, None, refl, sym, ◌∙◌, codes, pos}
+use Rattle.std.proofs.Common.{◌≡◌, ◌%◌, ℕ, zero, suc, true, false, ltb, List, [], ◌∷◌, ◌++◌, length, Some, None, IsSome, inl, inr, refl, sym, ap, ◌∙◌, subst, arith, codes, pos}
+use Rattle.std.specs.Prelude.{slice_get}
+use Rattle.std.specs.List.{list_all}
+use Rattle.std.proofs.lemmas.Bool.{and_parts, ltb-true}
+use Rattle.std.proofs.lemmas.Option.{none-some, same_Some}
 use Rattle.mb_mbap.specs.declared.frame.Frame.{Frame}
 use Rattle.mb_map.specs.declared.table.Table.TheVariants.{Holding}
 use Rattle.mb_pdu.specs.Packing.{two, unworded}
+use Rattle.mb_pdu.specs.Replies.{IsBytes}
 use Rattle.sunspec.specs.declared.point_type.PointType.{PointType}
 use Rattle.sunspec.specs.declared.point_type.PointType.TheVariants.{Uint16, Acc32}
 use Rattle.point_list.specs.declared.error.ListFault.TheVariants.{LeftOutType}
 use Rattle.point_list.specs.declared.site.Site.{Site}
 use Rattle.point_list.specs.declared.point.Point.{Point}
 use Rattle.point_list.specs.declared.point.Role.TheVariants.{Gauge, Counter}
+use Rattle.point_list.specs.Sites.{IsSound, all_differ}
 use Rattle.point_list.proofs.OnLiterals.{lists_on_literals}
 use Rattle.read_planner.specs.declared.Read.{Read}
 use Rattle.poll_match.specs.Window.{numbered}
@@ -20,10 +26,11 @@ use Rattle.office_core.specs.declared.event.Arrival.TheVariants.{Recorded, Excep
 use Rattle.office_core.specs.declared.event.EventAnswer.TheVariants as answer
 use Rattle.office_core.specs.declared.event.LoadFault.TheVariants as fault
 use Rattle.office_core.specs.declared.event.Outcome.TheVariants as outcome
-use Rattle.office_core.specs.History.{Happening, Restart, Load, Open, Ask, Reply, Noise, History, after, points, readings, tables, total}
+use Rattle.office_core.specs.Cover.{Question}
+use Rattle.office_core.specs.History.{Happening, Restart, Load, Open, Ask, Reply, Noise, History, after, points, open_line, asked, readings, tables, total}
 use Rattle.office_core.specs.Loads.{Taken, loading}
 use Rattle.office_core.specs.Answers.{answer_of, answers_of}
-use Rattle.office_core.specs.Legal.{IsTimely}
+use Rattle.office_core.specs.Legal.{IsNoise, IsTimely, MayHappen, Legal, frame_answers}
 
 -- what to unfold to compute what becomes of a history
 unfoldable pub histories_on_literals : Unit {0}
@@ -374,6 +381,80 @@ closed_connection_refused = refl
 pub short_unit_refused : answer_of asked_once (Noise 1 (noise 0 17 (3 ∷ 2 ∷ 0 ∷ 1 ∷ []))) ≡ answer.Refused error.WrongReply
 unfolding histories_on_literals
 short_unit_refused = refl
+
+-- ---- all that can be
+
+bytes_so : (bytes : List ℕ) → list_all (λ b. ltb b 256) bytes ≡ true → IsBytes bytes
+bytes_so [] all i = omega arith
+bytes_so (b ∷ bytes) all zero = ltb-true b 256 (and_parts (ltb b 256) (list_all (λ c. ltb c 256) bytes) all).0
+bytes_so (b ∷ bytes) all (suc i) = bytes_so bytes (and_parts (ltb b 256) (list_all (λ c. ltb c 256) bytes) all).1 i
+
+-- what may happen after a legal history that has begun makes it a legal one
+legal_more : (happening last : Happening) (before : History) → MayHappen (last ∷ before) happening → Legal (last ∷ before) → Legal (happening ∷ last ∷ before)
+legal_more happening last before may legal = (may, (λ e. absurd (cc)), legal)
+
+roof_sound : IsSound roof
+unfolding all_differ
+roof_sound = refl
+
+pub three_legal : Legal three
+three_legal =
+    legal_more (Open (codes "roof")) (Load gauges) (Restart roof ∷ []) (bytes_so (codes "roof") refl)
+    (legal_more (Load gauges) (Restart roof) [] (bytes_so gauges refl) ((roof_sound, refl), (λ e. refl), tt))
+
+pub asked_once_legal : Legal asked_once
+asked_once_legal =
+    legal_more ask (Open (codes "roof")) (Load gauges ∷ Restart roof ∷ []) (bytes_so (codes "m1") refl, omega arith, omega arith) three_legal
+
+-- the one query that was made
+abbrev question_of_three : Question
+question_of_three = record { device = codes "m1"; place = 0; unit_id = 17; slot = 1; read = read 107 3; known = 3 }
+
+three_asked : asked asked_once 1 ≡ question_of_three ∷ []
+unfolding histories_on_literals
+three_asked = refl
+
+three_open : IsSome (open_line asked_once 1)
+unfolding histories_on_literals
+three_open = refl
+
+only_question : (n : ℕ) (q : Question) → slice_get (question_of_three ∷ []) n ≡ Some q → (n ≡ 0) × (q ≡ question_of_three)
+only_question zero q e = (refl, sym (same_Some question_of_three q e))
+only_question (suc n) q e = absurd (none-some q e)
+
+-- a reply to it may come, whatever it is
+pub reply_may_come : (unit : List ℕ) → IsBytes unit → MayHappen asked_once (Reply 1 0 unit)
+reply_may_come unit bytes =
+    let made : length (asked asked_once 1) ≡ 1 = ap length three_asked in
+    (bytes, (three_open, omega arith, omega arith))
+
+-- a frame is noise where it has another transaction than 0, or doesn't answer the query
+noise_by : (frame : Frame) → (0 ≡ frame.transaction → frame_answers question_of_three frame ≡ false) → IsNoise asked_once 1 frame
+noise_by frame answers = inr (λ n q at kept named.
+    let only = only_question n q (subst (λ qs. slice_get qs n ≡ Some q) three_asked at) in
+    subst (λ (x : Question). frame_answers x frame ≡ false) (sym only.1) (answers (ap (λ m. m % 65536) (sym only.0) ∙ named)))
+
+pub another_unit_may_come : MayHappen asked_once (Noise 1 (noise 0 18 normal))
+another_unit_may_come = (bytes_so normal refl, noise_by (noise 0 18 normal) (λ e. refl))
+
+pub another_transaction_may_come : MayHappen asked_once (Noise 1 (noise 1 17 normal))
+another_transaction_may_come = (bytes_so normal refl, noise_by (noise 1 17 normal) (λ e. absurd (omega arith)))
+
+pub closed_connection_may_bring : MayHappen asked_once (Noise 2 (noise 0 17 normal))
+unfolding histories_on_literals
+closed_connection_may_bring = (bytes_so normal refl, inl refl)
+
+pub short_unit_may_come : MayHappen asked_once (Noise 1 (noise 0 17 (3 ∷ 2 ∷ 0 ∷ 1 ∷ [])))
+short_unit_may_come = (bytes_so (3 ∷ 2 ∷ 0 ∷ 1 ∷ []) refl, noise_by (noise 0 17 (3 ∷ 2 ∷ 0 ∷ 1 ∷ [])) (λ e. refl))
+
+-- and a frame that answers the query is none
+pub reply_is_no_noise : IsNoise asked_once 1 (noise 0 17 normal) → ⊥
+unfolding histories_on_literals
+reply_is_no_noise (inl closed) = absurd (none-some 0 (sym closed))
+reply_is_no_noise (inr none) =
+    let made : length (asked asked_once 1) ≡ 1 = ap length three_asked in
+    let e : true ≡ false = none 0 question_of_three (ap (λ qs. slice_get qs 0) three_asked) (omega arith) refl in
+    absurd (cc)
 
 -- ---- the newest query of a transaction
 
