@@ -1,6 +1,6 @@
 -- Readings are what first replies bring.
-use Rattle.std.proofs.Common.{◌≡◌, ◌⊎◌, ◌<◌, ◌+◌, ℕ, zero, suc, Bool, true, false, cond, eqb, not, ◌&&◌, ◌||◌, List, [], ◌∷◌, ◌++◌, length, map, take, get_or, Option, Some, None, inl, inr, refl, sym, ap, ◌∙◌, subst, arith}
-use Rattle.std.specs.Prelude.{slice_get, Contains}
+use Rattle.std.proofs.Common.{◌≡◌, ◌⊎◌, ◌<◌, ◌+◌, ℕ, zero, suc, Bool, true, false, cond, eqb, not, ◌&&◌, ◌||◌, List, [], ◌∷◌, ◌++◌, length, map, take, get_or, Option, Some, None, inl, inr, refl, sym, ap, ◌∙◌, subst, arith, append-nil, append_assoc}
+use Rattle.std.specs.Prelude.{slice_get, is_none, Contains}
 use Rattle.std.specs.Option.{option_or}
 use Rattle.std.specs.Ordering.{is_eq, eq_by_cmp}
 use Rattle.std.specs.Cmp.{tied_itself}
@@ -8,6 +8,7 @@ use Rattle.std.specs.declared.cmp.Ordering.{Ordering}
 use Rattle.std.specs.declared.cmp.Ordering.TheVariants.{Less, Equal, Greater}
 use Rattle.std.specs.FinMap.Entries as rows
 use Rattle.std.proofs.lemmas.Bool.{and_parts, eqb-true, eq-eqb}
+use Rattle.std.proofs.lemmas.List.{take_at}
 use Rattle.std.proofs.lemmas.Option.{none-some, same_Some}
 use Rattle.mb_pdu.specs.declared.reply.Normal.{Normal}
 use Rattle.mb_pdu.specs.declared.reply.Normal.TheVariants.{OfBits, OfWords, Echo}
@@ -25,11 +26,14 @@ use Rattle.poll_book.specs.Tables.{Key, key_cmp, Readings, reading_at, with_rows
 use Rattle.poll_book.specs.Changes.{keyed, AreNumbered}
 use Rattle.poll_book.specs.Totals.{is_counted}
 use Rattle.poll_book.proofs.Tabled.{keys_total, exact_keys}
+use Rattle.office_core.specs.declared.error.OfficeError.{OfficeError}
+use Rattle.office_core.specs.declared.site.Target.{Target}
+use Rattle.office_core.specs.Sites.{target}
 use Rattle.office_core.specs.Cover.{Question, Brings, covers, covered, words_in, given_of, given_rows, reply_cells, fits, excepts}
 use Rattle.office_core.specs.Loads.{Loading, Refused, Taken, loading, added, numbered_on}
-use Rattle.office_core.specs.History.{Happening, Restart, Load, Open, Ask, Reply, Noise, History, site_of, points, asked, fits_query, is_answered, given_by, given, readings}
+use Rattle.office_core.specs.History.{Happening, Restart, Load, Open, Ask, Reply, Noise, History, site_of, points, open_line, ask_fault, question, question_to, asked, fits_query, is_answered, given_by, given, readings}
 use Rattle.office_core.specs.Legal.{Legal}
-use Rattle.office_core.specs.FirstArrivals.{Happened, IsReplyTo, IsFirst, Gives, IsReadingOf}
+use Rattle.office_core.specs.FirstArrivals.{Happened, IsQuery, IsReplyTo, IsFirst, Gives, IsReadingOf}
 use Rattle.office_core.proofs.Cells.{cells_spelled, bits_plain, words_plain, no_echo}
 
 -- ---- numbered points
@@ -222,6 +226,153 @@ legal_before (h ∷ later) before legal = legal_before later before legal.2
 legal_at : (before : History) (happening : Happening) (earlier : History) → Happened before happening earlier → Legal before → Legal (happening ∷ earlier)
 legal_at before happening earlier p legal = legal_before p.later (happening ∷ earlier) (subst Legal p.stands legal)
 
+-- ---- queries
+
+-- the refusal of an ask after a history
+abbrev fault_of : History → ℕ → List ℕ → Read → Option OfficeError
+fault_of before c device read = ask_fault (open_line before c) (site_of before) (points before) (length (asked before c)) device read
+
+get_more : (qs more : List Question) (n : ℕ) (q : Question) → slice_get qs n ≡ Some q → slice_get (qs ++ more) n ≡ Some q
+get_more [] more n q e = absurd (none-some q e)
+get_more (x ∷ qs) more zero q e = e
+get_more (x ∷ qs) more (suc n) q e = get_more qs more n q e
+
+get_last : (qs : List Question) (q : Question) → slice_get (qs ++ q ∷ []) (length qs) ≡ Some q
+get_last [] q = refl
+get_last (x ∷ qs) q = get_last qs q
+
+-- what stands in a longer list stood there before, or is the last
+get_either : (qs : List Question) (last : Question) (n : ℕ) (q : Question) → slice_get (qs ++ last ∷ []) n ≡ Some q
+    → (slice_get qs n ≡ Some q) ⊎ ((length qs ≡ n) × (q ≡ last))
+get_either [] last zero q e = inr (refl, sym (same_Some last q e))
+get_either [] last (suc n) q e = absurd (none-some q e)
+get_either (x ∷ qs) last zero q e = inl e
+get_either (x ∷ qs) last (suc n) q e = elim (get_either qs last n q e) [ inl there ↦ inl there | inr here ↦ inr (ap suc here.0, here.1) ]
+
+-- a query keeps its number
+asked_stays : (later : List Happening) (before : History) (c n : ℕ) (q : Question) → slice_get (asked before c) n ≡ Some q
+    → slice_get (asked (later ++ before) c) n ≡ Some q
+asked_stays [] before c n q e = e
+asked_stays (Restart site ∷ later) before c n q e = asked_stays later before c n q e
+asked_stays (Load list ∷ later) before c n q e = asked_stays later before c n q e
+asked_stays (Open line ∷ later) before c n q e = asked_stays later before c n q e
+asked_stays (Reply d m unit ∷ later) before c n q e = asked_stays later before c n q e
+asked_stays (Noise d frame ∷ later) before c n q e = asked_stays later before c n q e
+asked_stays (Ask d device slot read ∷ later) before c n q e =
+    by (eqb d c && is_none (fault_of (later ++ before) d device read)) (asked_stays later before c n q e)
+  where
+    asks : List Question
+    asks = asked (later ++ before) c
+
+    new : Question
+    new = question (site_of (later ++ before)) (points (later ++ before)) device slot read
+
+    by : (b : Bool) → slice_get asks n ≡ Some q → slice_get (cond b (asks ++ new ∷ []) asks) n ≡ Some q
+    by true rest = get_more asks (new ∷ []) n q rest
+    by false rest = rest
+
+-- a query that was asked is among those of its connection
+query_there : (before : History) (c n : ℕ) (q : Question) (asking : History) → IsQuery before c n q asking → slice_get (asked before c) n ≡ Some q
+query_there before c n q asking is =
+    let asks : List Question = asked asking c in
+    let new : Question = question (site_of asking) (points asking) is.device is.slot is.read in
+    let at : slice_get (asked (Ask c is.device is.slot is.read ∷ asking) c) (length (asked asking c)) ≡ Some new =
+    ap (λ b. slice_get (cond (b && is_none (fault_of asking c is.device is.read)) (asks ++ new ∷ []) asks) (length asks)) (eq-eqb c c refl)
+    ∙ ap (λ o. slice_get (cond (is_none o) (asks ++ new ∷ []) asks) (length asks)) is.accepted
+    ∙ get_last asks new in
+    ap (λ h. slice_get (asked h c) n) is.came.stands
+    ∙ asked_stays is.came.later (Ask c is.device is.slot is.read ∷ asking) c n q
+    (ap (λ m. slice_get (asked (Ask c is.device is.slot is.read ∷ asking) c) m) (sym is.count) ∙ at ∙ ap Some (sym is.is))
+
+record WasAsked (before : History) (c n : ℕ) (q : Question) : Type 0 where
+  asking : History
+  is : IsQuery before c n q asking
+
+asked_later : (h : Happening) (before : History) (c n : ℕ) (q : Question) → WasAsked before c n q → WasAsked (h ∷ before) c n q
+asked_later h before c n q was = record {
+  asking = was.asking;
+  is = record {
+    device = was.is.device;
+    slot = was.is.slot;
+    read = was.is.read;
+    came = step_later h before (Ask c was.is.device was.is.slot was.is.read) was.asking was.is.came;
+    accepted = was.is.accepted;
+    count = was.is.count;
+    is = was.is.is;
+  };
+}
+
+-- and each query of a connection was asked
+query_asked : (before : History) (c n : ℕ) (q : Question) → slice_get (asked before c) n ≡ Some q → WasAsked before c n q
+query_asked [] c n q e = absurd (none-some q e)
+query_asked (Restart site ∷ before) c n q e = asked_later (Restart site) before c n q (query_asked before c n q e)
+query_asked (Load list ∷ before) c n q e = asked_later (Load list) before c n q (query_asked before c n q e)
+query_asked (Open line ∷ before) c n q e = asked_later (Open line) before c n q (query_asked before c n q e)
+query_asked (Reply d m unit ∷ before) c n q e = asked_later (Reply d m unit) before c n q (query_asked before c n q e)
+query_asked (Noise d frame ∷ before) c n q e = asked_later (Noise d frame) before c n q (query_asked before c n q e)
+query_asked (Ask d device slot read ∷ before) c n q e =
+    by (λ f. query_asked before c n q f) (eqb d c) (fault_of before d device read) refl refl e
+  where
+    later : WasAsked before c n q → WasAsked (Ask d device slot read ∷ before) c n q
+    later was = asked_later (Ask d device slot read) before c n q was
+
+    here : d ≡ c → fault_of before d device read ≡ None → (length (asked before c) ≡ n) × (q ≡ question (site_of before) (points before) device slot read)
+        → WasAsked (Ask d device slot read ∷ before) c n q
+    here same accepted last = record {
+      asking = before;
+      is = record {
+        device = device;
+        slot = slot;
+        read = read;
+        came = record { later = []; stands = λ i. Ask (same i) device slot read ∷ before };
+        accepted = subst (λ m. fault_of before m device read ≡ None) same accepted;
+        count = last.0;
+        is = last.1;
+      };
+    }
+
+    by : (slice_get (asked before c) n ≡ Some q → WasAsked before c n q) → (a : Bool) (o : Option OfficeError) → eqb d c ≡ a → fault_of before d device read ≡ o
+        → slice_get (cond (a && is_none o) (asked before c ++ question (site_of before) (points before) device slot read ∷ []) (asked before c)) n ≡ Some q
+        → WasAsked (Ask d device slot read ∷ before) c n q
+    by rest true None same accepted f = elim (get_either (asked before c) (question (site_of before) (points before) device slot read) n q f) [
+      | inl there ↦ later (rest there)
+      | inr last ↦ here (eqb-true d c same) accepted last
+    ]
+    by rest true (Some fault) same refused f = later (rest f)
+    by rest false o other fault f = later (rest f)
+
+-- ---- points that were known
+
+record Longer (before longer : History) : Type 0 where
+  more : List PointRow
+  is : points longer ≡ points before ++ more
+
+points_stay : (later : List Happening) (before : History) → Longer before (later ++ before)
+points_stay [] before = record { more = []; is = sym (append-nil (points before)) }
+points_stay (Restart site ∷ later) before = let l = points_stay later before in record { more = l.more; is = l.is }
+points_stay (Open line ∷ later) before = let l = points_stay later before in record { more = l.more; is = l.is }
+points_stay (Ask c device slot read ∷ later) before = let l = points_stay later before in record { more = l.more; is = l.is }
+points_stay (Reply c n unit ∷ later) before = let l = points_stay later before in record { more = l.more; is = l.is }
+points_stay (Noise c frame ∷ later) before = let l = points_stay later before in record { more = l.more; is = l.is }
+points_stay (Load list ∷ later) before =
+    let l = points_stay later before in
+    let new : List PointRow = added (length (points (later ++ before))) (loading (site_of (later ++ before)) (points (later ++ before)) list) in
+    record { more = l.more ++ new; is = ap (λ ps. ps ++ new) l.is ∙ append_assoc (points before) l.more new }
+
+known_so : (o : Option Target) (device : List ℕ) (slot : ℕ) (read : Read) (known : ℕ) → (question_to o device slot read known).known ≡ known
+known_so None device slot read known = refl
+known_so (Some to) device slot read known = refl
+
+-- the points that a query knows are those of the history after which it was asked
+points_of_query : (before : History) (c n : ℕ) (q : Question) (asking : History) → IsQuery before c n q asking → take q.known (points before) ≡ points asking
+points_of_query before c n q asking is =
+    let longer = points_stay is.came.later (Ask c is.device is.slot is.read ∷ asking) in
+    let count : q.known ≡ length (points asking) =
+    ap (λ (x : Question). x.known) is.is ∙ known_so (target (site_of asking) is.device) is.device is.slot is.read (length (points asking)) in
+    ap (λ h. take q.known (points h)) is.came.stands
+    ∙ ap (take q.known) longer.is
+    ∙ take_at (points asking) longer.more q.known (sym count)
+
 -- ---- replies
 
 -- a unit that fits a query is a reply to it
@@ -237,12 +388,14 @@ one_of earlier c n unit bytes e = by (slice_get (asked earlier c) n) refl e
     by None is f = absurd (cc)
     by (Some q) is f =
         let spelled = told (read_request q.read) unit bytes f in
-        record { q = q; reply = spelled.0; is = record { query = is; spelled = spelled.1 } }
+        let was = query_asked earlier c n q is in
+        record { q = q; reply = spelled.0; is = record { asking = was.asking; query = was.is; spelled = spelled.1 } }
 
 -- and a reply fits its query
 fits_so : (earlier : History) (c n : ℕ) (unit : List ℕ) (q : Question) (reply : AReply) → IsReplyTo earlier c n unit q reply
     → fits_query (slice_get (asked earlier c) n) unit ≡ true
-fits_so earlier c n unit q reply is = ap (λ o. fits_query o unit) is.query ∙ answered (read_request q.read) reply unit is.spelled
+fits_so earlier c n unit q reply is =
+    ap (λ o. fits_query o unit) (query_there earlier c n q is.asking is.query) ∙ answered (read_request q.read) reply unit is.spelled
 
 -- a query that was answered has a place where a reply to it stands
 record HasReply (before : History) (c n : ℕ) : Type 0 where
@@ -351,18 +504,20 @@ gives_reading : (earlier : History) (c n : ℕ) (unit : List ℕ) (row : PointRo
 gives_reading earlier c n unit row slot words legal g =
     let q = g.q in
     let known = take q.known (points earlier) in
+    let there : Contains known row =
+    subst (λ l. Contains l row) (sym (points_of_query earlier c n q g.replies.asking g.replies.query)) g.known in
     let plain = plain_so q.read g.reply unit g.replies.spelled g.brings in
     let same = (cells_spelled q.read g.reply unit g.replies.spelled plain).0 in
     let table_of : List ℕ → Readings = λ ws. keyed q.slot (given_of known q.device q.read ws) in
     let reading_of : List ℕ → Reading = λ ws. record { words = ws; counted = is_counted row.point ws } in
     ap (λ b. reading_at (cond b [] (given_by (points earlier) (slice_get (asked earlier c) n) unit)) (row.number, slot)) (unanswered earlier c n legal g.first)
-    ∙ ap (λ o. reading_at (given_by (points earlier) o unit) (row.number, slot)) g.replies.query
+    ∙ ap (λ o. reading_at (given_by (points earlier) o unit) (row.number, slot)) (query_there earlier c n q g.replies.asking g.replies.query)
     ∙ ap (λ b. reading_at (cond (b && not (excepts q.read unit)) (given_rows (points earlier) q unit) []) (row.number, slot))
     (answered (read_request q.read) g.reply unit g.replies.spelled)
     ∙ ap (λ b. reading_at (cond (not b) (given_rows (points earlier) q unit) []) (row.number, slot)) plain
     ∙ ap (λ ws. reading_at (table_of ws) (row.number, slot)) same
     ∙ ap (λ s. reading_at (table_of (reply_cells g.reply)) (row.number, s)) (sym g.for_slot)
-    ∙ given_all q.device q.read (reply_cells g.reply) q.slot 0 known row (known_numbered earlier q.known) g.known g.covered
+    ∙ given_all q.device q.read (reply_cells g.reply) q.slot 0 known row (known_numbered earlier q.known) there g.covered
     ∙ ap (λ ws. Some (reading_of ws)) (sym g.spells)
 
 -- and a reading that it gives is of words that it gives
@@ -383,6 +538,7 @@ reading_new earlier c n unit point slot reading legal bytes e = by (is_answered 
         let spelled = told (read_request q.read) unit bytes fit in
         let same = cells_spelled q.read spelled.0 unit spelled.1 plain in
         let ws : List ℕ = reply_cells spelled.0 in
+        let was = query_asked earlier c n q query in
         let g = given_so q.device q.read ws q.slot (take q.known (points earlier)) point slot reading
         (subst (λ cs. reading_at (keyed q.slot (given_of (take q.known (points earlier)) q.device q.read cs)) (point, slot) ≡ Some reading) same.0 f) in
         record {
@@ -391,11 +547,11 @@ reading_new earlier c n unit point slot reading legal bytes e = by (is_answered 
           gave = record {
             q = q;
             reply = spelled.0;
-            replies = record { query = query; spelled = spelled.1 };
+            replies = record { asking = was.asking; query = was.is; spelled = spelled.1 };
             first = first;
             brings = same.1;
             for_slot = g.same_slot;
-            known = g.there;
+            known = subst (λ l. Contains l g.row) (points_of_query earlier c n q was.asking was.is) g.there;
             covered = g.is_covered;
             spells = refl;
           };

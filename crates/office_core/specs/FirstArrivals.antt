@@ -1,9 +1,10 @@
 -- Readings and totals in terms of what stands where in a history: readings are what first replies bring, and a total is
 -- the sum of the steps from slot to slot.
-use Rattle.std.specs.Prelude.{◌≡◌, ◌↔◌, ℕ, ◌+◌, ◌-◌, ◌%◌, true, List, ◌∷◌, ◌++◌, length, map, take, get_or, Some, slice_get, Contains}
+use Rattle.std.specs.Prelude.{◌≡◌, ◌↔◌, ℕ, ◌+◌, ◌-◌, ◌%◌, true, List, ◌∷◌, ◌++◌, length, map, get_or, Some, None, Contains}
 use Rattle.std.specs.List.{range_with_len, sum_by}
 use Rattle.mb_pdu.specs.declared.reply.Reply.{Reply as AReply}
 use Rattle.mb_pdu.specs.Replies.{spells_reply}
+use Rattle.read_planner.specs.declared.Read.{Read}
 use Rattle.read_planner.specs.Read.{read_request}
 use Rattle.poll_book.specs.declared.rows.PointRow.{PointRow}
 use Rattle.poll_book.specs.declared.rows.Reading.{Reading}
@@ -11,7 +12,7 @@ use Rattle.poll_book.specs.Tables.{reading_at}
 use Rattle.poll_book.specs.Totals.{counted_number, is_counted}
 use Rattle.poll_book.specs.Histories.{IsRising}
 use Rattle.office_core.specs.Cover.{Question, Brings, covers, words_in, reply_cells}
-use Rattle.office_core.specs.History.{Happening, Reply, History, points, asked, readings}
+use Rattle.office_core.specs.History.{Happening, Ask, Reply, History, site_of, points, open_line, ask_fault, question, asked, readings}
 
 -- ---- replies
 
@@ -20,9 +21,20 @@ pub record Happened (before : History) (happening : Happening) (earlier : Histor
   pub later : List Happening
   pub stands : before ≡ later ++ happening ∷ earlier
 
+-- query n of a connection, which was asked after that history, where n queries had been asked
+pub record IsQuery (before : History) (c n : ℕ) (q : Question) (asking : History) : Type 0 where
+  pub device : List ℕ
+  pub slot : ℕ
+  pub read : Read
+  pub came : Happened before (Ask c device slot read) asking
+  pub accepted : ask_fault (open_line asking c) (site_of asking) (points asking) (length (asked asking c)) device read ≡ None
+  pub count : length (asked asking c) ≡ n
+  pub is : q ≡ question (site_of asking) (points asking) device slot read
+
 -- a unit is this reply to that query of a connection
 pub record IsReplyTo (earlier : History) (c n : ℕ) (unit : List ℕ) (q : Question) (reply : AReply) : Type 0 where
-  pub query : slice_get (asked earlier c) n ≡ Some q
+  pub asking : History
+  pub query : IsQuery earlier c n q asking
   pub spelled : spells_reply (read_request q.read) reply unit
 
 -- no unit that came earlier was a reply to the query
@@ -30,8 +42,8 @@ abbrev pub IsFirst : History → ℕ → ℕ → Type 0
 IsFirst earlier c n =
     (older : History) (unit : List ℕ) (q : Question) (reply : AReply) → Happened earlier (Reply c n unit) older → IsReplyTo older c n unit q reply → ⊥
 
--- the first reply to a query brings what it asks, and so these words for its slot to a point that was known to it and that
--- it covers
+-- the first reply to a query brings what it asks, and so these words for its slot to a point that it covers and that was
+-- known when it was asked
 pub record Gives (earlier : History) (c n : ℕ) (unit : List ℕ) (row : PointRow) (slot : ℕ) (words : List ℕ) : Type 0 where
   pub q : Question
   pub reply : AReply
@@ -39,7 +51,7 @@ pub record Gives (earlier : History) (c n : ℕ) (unit : List ℕ) (row : PointR
   pub first : IsFirst earlier c n
   pub brings : Brings q.read reply
   pub for_slot : q.slot ≡ slot
-  pub known : Contains (take q.known (points earlier)) row
+  pub known : Contains (points replies.asking) row
   pub covered : covers q.device q.read row.point ≡ true
   pub spells : words ≡ words_in q.read (reply_cells reply) row.point
 
