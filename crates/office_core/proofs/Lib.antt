@@ -15,3 +15,6 @@ pub mod Placed
 pub mod Runs
 pub mod Steps
 pub mod Telling
+pub mod Examples
+pub mod FirstArrivals
+pub mod BySlot

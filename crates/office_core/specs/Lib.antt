@@ -9,3 +9,4 @@ pub mod Legal
 pub mod Standing
 pub mod Keeping
 pub mod Offices
+pub mod FirstArrivals

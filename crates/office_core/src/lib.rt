@@ -7,6 +7,7 @@ mod commit;
 mod cover;
 mod error;
 mod event;
+pub mod laws;
 mod loads;
 mod office;
 mod site;

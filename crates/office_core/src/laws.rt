@@ -1,0 +1,20 @@
+//! Laws of the definitions alone.
+
+ghost use Rattle.std.specs.Prelude.{◌≡◌, ◌↔◌, ℕ, List, Some};
+ghost use Rattle.poll_book.specs.declared.rows.PointRow.{PointRow};
+ghost use Rattle.poll_book.specs.declared.rows.Reading.{Reading};
+ghost use Rattle.poll_book.specs.Tables.{reading_at};
+ghost use Rattle.office_core.specs.History.{History, readings, total};
+ghost use Rattle.office_core.specs.Legal.{Legal};
+ghost use Rattle.office_core.specs.FirstArrivals.{IsReadingOf, AreBySlot, sum_of_steps, numbers_of};
+
+/// The reading of a point in a slot is what the earliest unit gave to it that was the first reply to
+/// a query of that slot; and a total is the sum of the steps from slot to slot, over the slots whose
+/// readings count, whatever the order in which they came.
+pub fn first_arrivals()
+    ensures some { (before : History) (point slot : ℕ) (reading : Reading) → Legal before
+        → (reading_at (readings before) (point, slot) ≡ Some reading) ↔ IsReadingOf before point slot reading }
+    ensures slots { (before : History) (known : PointRow) → (pairs : List (ℕ × ℕ)) × AreBySlot before known pairs }
+    ensures total { (before : History) (known : PointRow) (pairs : List (ℕ × ℕ)) → AreBySlot before known pairs
+        → total before known ≡ sum_of_steps known.point.roll (numbers_of pairs) }
+{}
