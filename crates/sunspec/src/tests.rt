@@ -247,48 +247,25 @@ fn scaled_texts_at_their_limits(rt: HostRuntime) {
 }
 
 #[test]
-fn shown_texts(rt: HostRuntime) {
+fn shown_numbers(rt: HostRuntime) {
     let alloc = rt.alloc();
     assert!(rt; shows(alloc, &PointType::Int16, [0x8000].as_slice(), 0, "-"));
     assert!(rt; shows(alloc, &PointType::Int16, [0xFFFB].as_slice(), -3, "-0.005"));
-    assert!(rt;
-        shows(
-            alloc,
-            &PointType::Ipaddr,
-            [0xC0A8, 0x0105].as_slice(),
-            0,
-            "192.168.1.5"
-        )
-    );
-    assert!(rt;
-        shows(
-            alloc,
-            &PointType::Str(2),
-            [0x4162, 0x0043].as_slice(),
-            0,
-            "Ab"
-        )
-    );
-    assert!(rt;
-        shows(
-            alloc,
-            &PointType::Str(3),
-            [0x1F20, 0x7E7F, 0xE900].as_slice(),
-            0,
-            "? ~??"
-        )
-    );
-    assert!(rt; shows(alloc, &PointType::Str(1), [0x0041].as_slice(), 0, ""));
     assert!(rt; shows(alloc, &PointType::Bit, [1].as_slice(), 0, "1"));
-    assert!(rt;
-        shows(
-            alloc,
-            &PointType::Str(1),
-            [0x4100].as_slice(),
-            11,
-            "bad scale"
-        )
-    );
+    let address = [0xC0A8, 0x0105].as_slice();
+    assert!(rt; shows(alloc, &PointType::Ipaddr, address, 0, "192.168.1.5"));
+}
+
+#[test]
+fn shown_strings(rt: HostRuntime) {
+    let alloc = rt.alloc();
+    assert!(rt; shows(alloc, &PointType::Str(1), [0x0041].as_slice(), 0, ""));
+    let ended = [0x4162, 0x0043].as_slice();
+    assert!(rt; shows(alloc, &PointType::Str(2), ended, 0, "Ab"));
+    let unprintable = [0x1F20, 0x7E7F, 0xE900].as_slice();
+    assert!(rt; shows(alloc, &PointType::Str(3), unprintable, 0, "? ~??"));
+    let scaled = [0x4100].as_slice();
+    assert!(rt; shows(alloc, &PointType::Str(1), scaled, 11, "bad scale"));
 }
 
 #[test]
