@@ -26,17 +26,17 @@ fn counter(number: u32, kind: PointType, roll: u64) -> Option<PointRow> {
 }
 
 /// Records these registers of the point in the slot, and says how many readings were new.
-fn store(
+fn store_once(
     alloc: Global,
     keeper: &mut MemKeeper,
-    point: PointRow,
+    point: &PointRow,
     slot: u32,
     words: &[u16],
 ) -> Result<usize, StoreFault> {
     let Some(registers) = Registers::from_slice(words) else {
         return Err(StoreFault::Other);
     };
-    let rows = record(alloc, keeper, &[(point, registers)], slot)?;
+    let rows = record(alloc, keeper, &[(*point, registers)], slot)?;
     let count = rows.len();
     keeper.apply(&Change {
         points: Items::from_vec(Vec::new(alloc)),
@@ -44,4 +44,18 @@ fn store(
         connections: None,
     })?;
     Ok(count)
+}
+
+/// The same, and once more where memory was refused: then nothing had changed.
+fn store(
+    alloc: Global,
+    keeper: &mut MemKeeper,
+    point: &PointRow,
+    slot: u32,
+    words: &[u16],
+) -> Result<usize, StoreFault> {
+    match store_once(alloc, keeper, point, slot, words) {
+        Err(StoreFault::Memory) => store_once(alloc, keeper, point, slot, words),
+        other => other,
+    }
 }

@@ -20,7 +20,7 @@ fn asking(slot: u32, start: u16, quantity: u16) -> Asked {
 }
 
 /// Makes a read of so many holding registers, if the quantity is within its limits.
-fn ask(
+fn ask_once(
     matcher: &mut Matcher,
     conn: Conn,
     slot: u32,
@@ -34,6 +34,19 @@ fn ask(
     Some(matcher.next_query(conn, asked))
 }
 
+/// The same, and once more where memory was refused: then nothing had changed.
+fn ask(
+    matcher: &mut Matcher,
+    conn: Conn,
+    slot: u32,
+    quantity: u16,
+) -> Option<Result<Frame, MatchError>> {
+    match ask_once(matcher, conn, slot, quantity) {
+        Some(Err(MatchError::Memory)) => ask_once(matcher, conn, slot, quantity),
+        other => other,
+    }
+}
+
 fn frame(transaction: u16, unit_id: u8, bytes: &[u8]) -> Option<Frame> {
     let unit = Unit::from_bytes(bytes)?;
     Some(Frame {
@@ -43,12 +56,20 @@ fn frame(transaction: u16, unit_id: u8, bytes: &[u8]) -> Option<Frame> {
     })
 }
 
+/// Opens a connection that isn't open, and tries once more where memory was refused.
+fn open(matcher: &mut Matcher, conn: Conn, line: u16) -> Result<(), MatchError> {
+    for _ in 0..2 {
+        if matcher.line_of(conn).is_none() && matcher.open(conn, line).is_ok() {
+            return Ok(());
+        }
+    }
+    Err(MatchError::Memory)
+}
+
 /// A matcher with connection 1 of line 0 open.
 fn opened(alloc: Global) -> Result<Matcher, MatchError> {
     let mut matcher = Matcher::new(alloc);
-    if matcher.line_of(Conn::new(1)).is_none() {
-        matcher.open(Conn::new(1), 0)?;
-    }
+    open(&mut matcher, Conn::new(1), 0)?;
     Ok(matcher)
 }
 
@@ -133,9 +154,7 @@ fn an_answered_query_is_remembered(rt: HostRuntime) -> Result<(), Fail> {
 fn connections_open_and_close(rt: HostRuntime) -> Result<(), Fail> {
     let mut matcher = opened(rt.alloc())?;
     for (number, line) in [(2u32, 1u16), (3, 0)] {
-        if matcher.line_of(Conn::new(number)).is_none() {
-            matcher.open(Conn::new(number), line)?;
-        }
+        open(&mut matcher, Conn::new(number), line)?;
     }
     assert_eq!(rt; matcher.line_of(Conn::new(3)), Some(0));
     assert_eq!(rt; matcher.conn_of(0), Some(Conn::new(1)));
@@ -166,7 +185,7 @@ fn refused_memory_is_told(rt: HostRuntime) -> Result<(), Fail> {
         (matcher.line_of(conn), matcher.made(conn)),
         (Some(4), Some(0))
     );
-    if let Some(Err(e)) = ask(&mut matcher, conn, 1, 1) {
+    if let Some(Err(e)) = ask_once(&mut matcher, conn, 1, 1) {
         assert_eq!(rt; e, MatchError::Memory);
         assert_eq!(rt; matcher.made(conn), Some(0));
         ask(&mut matcher, conn, 1, 1).ok_or("one register")??;

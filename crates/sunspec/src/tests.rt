@@ -30,8 +30,16 @@ fn is_refused(kind: &PointType, number: i128) -> bool {
     }
 }
 
-fn scales(alloc: Global, number: i128, scale: i32, text: &str) -> bool {
+// Scales a number, and once more where memory was refused.
+fn scaled(alloc: Global, number: i128, scale: i32) -> Result<String, SunError> {
     match scaled_text(alloc, number, scale) {
+        Err(SunError::Memory) => scaled_text(alloc, number, scale),
+        other => other,
+    }
+}
+
+fn scales(alloc: Global, number: i128, scale: i32, text: &str) -> bool {
+    match scaled(alloc, number, scale) {
         Ok(found) => found.as_str() == text,
         Err(_) => false,
     }
@@ -42,7 +50,11 @@ fn shows(alloc: Global, kind: &PointType, words: &[u16], scale: i32, text: &str)
     if !kind.is_sized() || !kind.has_registers(words) {
         return false;
     }
-    match shown_text(alloc, kind, words, scale) {
+    let shown = match shown_text(alloc, kind, words, scale) {
+        Err(SunError::Memory) => shown_text(alloc, kind, words, scale),
+        other => other,
+    };
+    match shown {
         Ok(Some(found)) => found.as_str() == text,
         Ok(None) => text == "-",
         Err(e) => e == SunError::BadScale && text == "bad scale",
@@ -187,122 +199,73 @@ fn types_by_name_and_code(rt: HostRuntime) {
 #[test]
 fn scaled_texts(rt: HostRuntime) {
     let alloc = rt.alloc();
-    assert!(rt; scales(alloc, 2345, -2, "23.45"));
-    assert!(rt; scales(alloc, -5, -3, "-0.005"));
-    assert!(rt; scales(alloc, 12, 2, "1200"));
-    assert!(rt; scales(alloc, 0, -2, "0.00"));
-    assert!(rt; scales(alloc, 0, 3, "0"));
-    assert!(rt; scales(alloc, -7, 0, "-7"));
-    match scaled_text(alloc, 7, 11) {
-        Ok(_) => assert!(rt; false),
-        Err(e) => assert!(rt; e == SunError::BadScale),
+    for (number, scale, text) in [
+        (2345, -2, "23.45"),
+        (-5, -3, "-0.005"),
+        (12, 2, "1200"),
+        (0, -2, "0.00"),
+        (0, 3, "0"),
+        (-7, 0, "-7"),
+    ] {
+        assert!(rt; scales(alloc, number, scale, text), "{text}");
     }
-    match scaled_text(alloc, 7, -11) {
-        Ok(_) => assert!(rt; false),
-        Err(e) => assert!(rt; e == SunError::BadScale),
-    }
-    assert!(rt;
-        scales(
-            alloc,
-            -9_223_372_036_854_775_808,
-            -10,
-            "-922337203.6854775808"
-        )
-    );
-    assert!(rt;
-        scales(
-            alloc,
-            9_223_372_036_854_775_807,
-            -10,
-            "922337203.6854775807"
-        )
-    );
-    assert!(rt;
-        scales(
-            alloc,
-            -9_223_372_036_854_775_808,
-            10,
-            "-92233720368547758080000000000"
-        )
-    );
-    assert!(rt;
-        scales(
-            alloc,
-            9_223_372_036_854_775_807,
-            10,
-            "92233720368547758070000000000"
-        )
-    );
-    assert!(rt;
-        scales(
-            alloc,
-            18_446_744_073_709_551_615,
-            -10,
-            "1844674407.3709551615"
-        )
-    );
-    assert!(rt;
-        scales(
-            alloc,
-            18_446_744_073_709_551_615,
-            10,
-            "184467440737095516150000000000"
-        )
-    );
-    assert!(rt; scales(alloc, 0, -10, "0.0000000000") && scales(alloc, 0, 10, "0"));
-    assert!(rt;
-        scales(
-            alloc,
-            i128::MIN,
-            10,
-            "-1701411834604692317316873037158841057280000000000"
-        )
-    );
 }
 
 #[test]
-fn shown_texts(rt: HostRuntime) {
+fn scales_that_are_refused(rt: HostRuntime) {
+    for scale in [11, -11] {
+        match scaled(rt.alloc(), 7, scale) {
+            Ok(_) => assert!(rt; false),
+            Err(e) => assert!(rt; e == SunError::BadScale),
+        }
+    }
+}
+
+#[test]
+fn scaled_texts_at_their_limits(rt: HostRuntime) {
+    let alloc = rt.alloc();
+    let least = i64::MIN as i128;
+    let greatest = i64::MAX as i128;
+    let most = u64::MAX as i128;
+    for (number, scale, text) in [
+        (least, -10, "-922337203.6854775808"),
+        (greatest, -10, "922337203.6854775807"),
+        (least, 10, "-92233720368547758080000000000"),
+        (greatest, 10, "92233720368547758070000000000"),
+        (most, -10, "1844674407.3709551615"),
+        (most, 10, "184467440737095516150000000000"),
+        (0, -10, "0.0000000000"),
+        (0, 10, "0"),
+        (
+            i128::MIN,
+            10,
+            "-1701411834604692317316873037158841057280000000000",
+        ),
+    ] {
+        assert!(rt; scales(alloc, number, scale, text), "{text}");
+    }
+}
+
+#[test]
+fn shown_numbers(rt: HostRuntime) {
     let alloc = rt.alloc();
     assert!(rt; shows(alloc, &PointType::Int16, [0x8000].as_slice(), 0, "-"));
     assert!(rt; shows(alloc, &PointType::Int16, [0xFFFB].as_slice(), -3, "-0.005"));
-    assert!(rt;
-        shows(
-            alloc,
-            &PointType::Ipaddr,
-            [0xC0A8, 0x0105].as_slice(),
-            0,
-            "192.168.1.5"
-        )
-    );
-    assert!(rt;
-        shows(
-            alloc,
-            &PointType::Str(2),
-            [0x4162, 0x0043].as_slice(),
-            0,
-            "Ab"
-        )
-    );
-    assert!(rt;
-        shows(
-            alloc,
-            &PointType::Str(3),
-            [0x1F20, 0x7E7F, 0xE900].as_slice(),
-            0,
-            "? ~??"
-        )
-    );
-    assert!(rt; shows(alloc, &PointType::Str(1), [0x0041].as_slice(), 0, ""));
     assert!(rt; shows(alloc, &PointType::Bit, [1].as_slice(), 0, "1"));
-    assert!(rt;
-        shows(
-            alloc,
-            &PointType::Str(1),
-            [0x4100].as_slice(),
-            11,
-            "bad scale"
-        )
-    );
+    let address = [0xC0A8, 0x0105].as_slice();
+    assert!(rt; shows(alloc, &PointType::Ipaddr, address, 0, "192.168.1.5"));
+}
+
+#[test]
+fn shown_strings(rt: HostRuntime) {
+    let alloc = rt.alloc();
+    assert!(rt; shows(alloc, &PointType::Str(1), [0x0041].as_slice(), 0, ""));
+    let ended = [0x4162, 0x0043].as_slice();
+    assert!(rt; shows(alloc, &PointType::Str(2), ended, 0, "Ab"));
+    let unprintable = [0x1F20, 0x7E7F, 0xE900].as_slice();
+    assert!(rt; shows(alloc, &PointType::Str(3), unprintable, 0, "? ~??"));
+    let scaled = [0x4100].as_slice();
+    assert!(rt; shows(alloc, &PointType::Str(1), scaled, 11, "bad scale"));
 }
 
 #[test]
@@ -337,8 +300,12 @@ fn errors_have_texts(rt: HostRuntime) {
         (SunError::Memory, "out of memory"),
     ];
     for (refusal, text) in refusals {
-        match refusal.to_string(alloc) {
-            Ok(found) => assert!(rt; found.as_str() == text),
+        let shown = match refusal.to_string(alloc) {
+            Ok(shown) => Ok(shown),
+            Err(_) => refusal.to_string(alloc),
+        };
+        match shown {
+            Ok(shown) => assert!(rt; shown.as_str() == text),
             Err(_) => assert!(rt; false),
         }
     }

@@ -56,7 +56,7 @@ fn checks_come_in_order(rt: HostRuntime) -> Result<(), Fail> {
 }
 
 #[test]
-fn masks_and_coils_are_written(rt: HostRuntime) -> Result<(), Fail> {
+fn masks_are_written(rt: HostRuntime) -> Result<(), Fail> {
     let mut mapping = mapping(rt.alloc(), 0, 10, 10)?;
     assert!(rt; mapping.set(Table::Holding, 4, 0x12));
     assert_answer(
@@ -66,56 +66,44 @@ fn masks_and_coils_are_written(rt: HostRuntime) -> Result<(), Fail> {
         b"\x16\x00\x04\x00\xF2\x00\x25",
     );
     assert_eq!(rt; mapping.get(Table::Holding, 4), Some(0x17));
-    assert_answer(
-        &rt,
-        &mut mapping,
-        b"\x17\x00\x00\x00\x02\x00\x01\x00\x01\x02\x00\x07",
-        b"\x17\x04\x00\x00\x00\x07",
-    );
-    assert_answer(
-        &rt,
-        &mut mapping,
-        b"\x0F\x00\x00\x00\x03\x01\x05",
-        b"\x0F\x00\x00\x00\x03",
-    );
-    assert_answer(&rt, &mut mapping, b"\x01\x00\x00\x00\x03", b"\x01\x01\x05");
-    assert_answer(
-        &rt,
-        &mut mapping,
-        b"\x0F\x00\x00\x00\x03\x01\x0D",
-        b"\x8F\x03",
-    );
-    assert_answer(
-        &rt,
-        &mut mapping,
-        b"\x05\x00\x01\xFF\x00",
-        b"\x05\x00\x01\xFF\x00",
-    );
-    assert_answer(&rt, &mut mapping, b"\x01\x00\x00\x00\x03", b"\x01\x01\x07");
-    assert_answer(
-        &rt,
-        &mut mapping,
-        b"\x06\x00\x09\x01\x02",
-        b"\x06\x00\x09\x01\x02",
-    );
-    assert_answer(
-        &rt,
-        &mut mapping,
-        b"\x03\x00\x09\x00\x01",
-        b"\x03\x02\x01\x02",
-    );
-    assert_answer(
-        &rt,
-        &mut mapping,
-        b"\x10\x00\x08\x00\x02\x04\x00\x0A\x01\x02",
-        b"\x10\x00\x08\x00\x02",
-    );
-    assert_answer(
-        &rt,
-        &mut mapping,
-        b"\x03\x00\x08\x00\x02",
-        b"\x03\x04\x00\x0A\x01\x02",
-    );
+    Ok(())
+}
+
+#[test]
+fn coils_are_written(rt: HostRuntime) -> Result<(), Fail> {
+    let mut mapping = mapping(rt.alloc(), 0, 10, 10)?;
+    let rows: [(&[u8], &[u8]); 5] = [
+        (b"\x0F\x00\x00\x00\x03\x01\x05", b"\x0F\x00\x00\x00\x03"),
+        (b"\x01\x00\x00\x00\x03", b"\x01\x01\x05"),
+        (b"\x0F\x00\x00\x00\x03\x01\x0D", b"\x8F\x03"),
+        (b"\x05\x00\x01\xFF\x00", b"\x05\x00\x01\xFF\x00"),
+        (b"\x01\x00\x00\x00\x03", b"\x01\x01\x07"),
+    ];
+    for (asked, answer) in rows {
+        assert_answer(&rt, &mut mapping, asked, answer);
+    }
+    Ok(())
+}
+
+#[test]
+fn registers_are_written(rt: HostRuntime) -> Result<(), Fail> {
+    let mut mapping = mapping(rt.alloc(), 0, 10, 10)?;
+    let rows: [(&[u8], &[u8]); 5] = [
+        (
+            b"\x17\x00\x00\x00\x02\x00\x01\x00\x01\x02\x00\x07",
+            b"\x17\x04\x00\x00\x00\x07",
+        ),
+        (b"\x06\x00\x09\x01\x02", b"\x06\x00\x09\x01\x02"),
+        (b"\x03\x00\x09\x00\x01", b"\x03\x02\x01\x02"),
+        (
+            b"\x10\x00\x08\x00\x02\x04\x00\x0A\x01\x02",
+            b"\x10\x00\x08\x00\x02",
+        ),
+        (b"\x03\x00\x08\x00\x02", b"\x03\x04\x00\x0A\x01\x02"),
+    ];
+    for (asked, answer) in rows {
+        assert_answer(&rt, &mut mapping, asked, answer);
+    }
     Ok(())
 }
 
@@ -168,7 +156,7 @@ fn write(
 }
 
 #[test]
-fn writes_keep_to_their_limits(rt: HostRuntime) -> Result<(), Fail> {
+fn counted_writes_keep_to_their_limits(rt: HostRuntime) -> Result<(), Fail> {
     let alloc = rt.alloc();
     let mut mapping = mapping(alloc, 256, 1968, 125)?;
     let rows: [(&[u8], u16, u8, Option<u8>); 17] = [
@@ -201,7 +189,13 @@ fn writes_keep_to_their_limits(rt: HostRuntime) -> Result<(), Fail> {
             "{head:?}, {quantity}"
         );
     }
-    let singles: [(&[u8], Option<u8>); 9] = [
+    Ok(())
+}
+
+#[test]
+fn single_writes_keep_to_their_limits(rt: HostRuntime) -> Result<(), Fail> {
+    let mut mapping = mapping(rt.alloc(), 256, 1968, 125)?;
+    let rows: [(&[u8], Option<u8>); 9] = [
         (b"\x05\x00\xFF\xFF\x00", Some(2)),
         (b"\x05\x01\x00\xFF\x00", None),
         (b"\x05\x08\xB0\xFF\x00", Some(2)),
@@ -212,7 +206,7 @@ fn writes_keep_to_their_limits(rt: HostRuntime) -> Result<(), Fail> {
         (b"\x16\x01\x00\x00\x00\x00\x00", None),
         (b"\x16\x01\x7D\x00\x00\x00\x00", Some(2)),
     ];
-    for (asked, wanted) in singles {
+    for (asked, wanted) in rows {
         assert_eq!(rt; code(&rt, &mut mapping, asked), wanted, "{asked:?}");
     }
     Ok(())

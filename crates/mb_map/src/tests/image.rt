@@ -75,8 +75,15 @@ fn every_list_and_step(rt: HostRuntime) -> Result<(), Fail> {
     Ok(())
 }
 
+fn assert_refused(rt: &impl Abort, alloc: Global, text: &[u8]) {
+    assert!(rt;
+        read(alloc, text).is_err_and(|e| e == MapError::BadImage),
+        "{text:?}"
+    );
+}
+
 #[test]
-fn what_is_taken_and_what_is_no_file(rt: HostRuntime) -> Result<(), Fail> {
+fn files_that_are_taken(rt: HostRuntime) {
     let taken: [&[u8]; 6] = [
         b"",
         b"script = []",
@@ -88,9 +95,11 @@ fn what_is_taken_and_what_is_no_file(rt: HostRuntime) -> Result<(), Fail> {
     for text in taken {
         assert!(rt; read(rt.alloc(), text).is_ok(), "{text:?}");
     }
-    let bad: [&[u8]; 26] = [
-        b"\xFF",
-        b"script = [",
+}
+
+#[test]
+fn units_that_are_refused(rt: HostRuntime) {
+    let bad: [&[u8]; 17] = [
         b"unit = [{}]",
         b"unit = [{id = 256}]",
         b"unit = [{id = -1}]",
@@ -108,6 +117,17 @@ fn what_is_taken_and_what_is_no_file(rt: HostRuntime) -> Result<(), Fail> {
         b"unit = [{id = 1, coils_start = 65537}]",
         b"unit = [{id = 1, coils = [1], coils_start = 65536}]",
         b"unit = [{id = 1, coils_start = \"0\"}]",
+    ];
+    for text in bad {
+        assert_refused(&rt, rt.alloc(), text);
+    }
+}
+
+#[test]
+fn texts_and_scripts_that_are_refused(rt: HostRuntime) {
+    let bad: [&[u8]; 9] = [
+        b"\xFF",
+        b"script = [",
         b"script = \"pass\"",
         b"script = [1]",
         b"script = [\"Pass\"]",
@@ -117,10 +137,6 @@ fn what_is_taken_and_what_is_no_file(rt: HostRuntime) -> Result<(), Fail> {
         b"script = [\"hold +1\"]",
     ];
     for text in bad {
-        assert!(rt;
-            read(rt.alloc(), text).is_err_and(|e| e == MapError::BadImage),
-            "{text:?}"
-        );
+        assert_refused(&rt, rt.alloc(), text);
     }
-    Ok(())
 }

@@ -2,6 +2,7 @@
 use crate::{Fed, Frame, FrameFault, FrameReader};
 use mb_pdu::Unit;
 use std::alloc::{AllocError, Global};
+use std::process::Abort;
 use std::test::Fail;
 
 /// The reply to a read of three holding registers of unit 17.
@@ -17,7 +18,7 @@ fn reply_frame() -> Option<Frame> {
 }
 
 /// Feeds a piece, and once more where memory was refused: then nothing was lost.
-fn feed(reader: &mut FrameReader, piece: &[u8]) -> Result<Fed, AllocError> {
+pub(crate) fn feed(reader: &mut FrameReader, piece: &[u8]) -> Result<Fed, AllocError> {
     match reader.feed(piece) {
         Ok(fed) => Ok(fed),
         Err(_) => reader.feed(piece),
@@ -73,21 +74,60 @@ fn cut_in_two_and_in_three(rt: HostRuntime) -> Result<(), Fail> {
     Ok(())
 }
 
+/// An exception of unit 1, whose transaction and code are this number.
+pub(crate) fn numbered(number: u8) -> [u8; 9] {
+    [0, number, 0, 0, 0, 3, 1, 0x83, number]
+}
+
+/// Twenty frames, numbered from 0.
+fn twenty() -> [u8; 180] {
+    let mut stream = [0; 180];
+    for number in 0..20u8 {
+        let at = 9 * number as usize;
+        stream[at..at + 9].copy_from_slice(&numbered(number));
+    }
+    stream
+}
+
+/// Asserts that the frames are those numbered from `first` on, and gives the number after them.
+pub(crate) fn assert_numbered(rt: &impl Abort, frames: &[Frame], first: u8) -> u8 {
+    let mut next = first;
+    for frame in frames {
+        assert_eq!(rt; frame.encode().as_bytes(), numbered(next).as_slice());
+        next = next.saturating_add(1);
+    }
+    next
+}
+
 #[test]
 fn frames_come_in_order(rt: HostRuntime) -> Result<(), Fail> {
     let mut reader = FrameReader::new(rt.alloc());
-    let mut stream = Vec::new(rt.alloc());
-    for transaction in [7u8, 8, 9] {
-        stream.extend_from_slice(&[0, transaction, 0, 0, 0, 3, 1, 0x83, transaction])?;
-    }
-    stream.extend_from_slice(&[0, 10, 0])?;
-    let fed = feed(&mut reader, &stream)?;
-    let mut transactions = Vec::new(rt.alloc());
-    for frame in &fed.frames {
-        transactions.push(frame.transaction)?;
-    }
-    assert_eq!(rt; transactions.as_slice(), [7u16, 8, 9].as_slice());
+    let fed = feed(&mut reader, &twenty())?;
+    assert_eq!(rt; assert_numbered(&rt, fed.frames.as_slice(), 0), 20);
     assert_eq!(rt; fed.fault, None);
+    Ok(())
+}
+
+/// Where an allocation is refused the reader is as it was: the same piece, fed again, gives its
+/// frames, and the pieces after it give theirs.
+#[test]
+fn refused_memory_is_told(rt: HostRuntime) -> Result<(), Fail> {
+    let mut reader = FrameReader::new(rt.alloc());
+    let stream = twenty();
+    let mut refusals = 0u64;
+    let mut next = 0;
+    for (piece, after) in [(&stream[..4], 0), (&stream[4..86], 9), (&stream[86..], 20)] {
+        let fed = match reader.feed(piece) {
+            Ok(fed) => fed,
+            Err(AllocError) => {
+                refusals = refusals.saturating_add(1);
+                reader.feed(piece)?
+            }
+        };
+        next = assert_numbered(&rt, fed.frames.as_slice(), next);
+        assert_eq!(rt; (next, fed.fault), (after, None));
+    }
+    assert!(rt; refusals <= 1);
     Ok(())
 }
 

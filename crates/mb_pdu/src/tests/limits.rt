@@ -10,13 +10,20 @@ fn span(quantity: u16) -> Span {
     }
 }
 
-/// Bytes in front of so many zeros.
-fn unit_of(alloc: Global, front: &[u8], zeros: usize) -> Result<Vec<u8>, AllocError> {
+fn unit_once(alloc: Global, front: &[u8], zeros: usize) -> Result<Vec<u8>, AllocError> {
     let mut bytes = Vec::from_slice(alloc, front)?;
     for _ in 0..zeros {
         bytes.push(0)?;
     }
     Ok(bytes)
+}
+
+/// Bytes in front of so many zeros, and once more where memory was refused.
+fn unit_of(alloc: Global, front: &[u8], zeros: usize) -> Result<Vec<u8>, AllocError> {
+    match unit_once(alloc, front, zeros) {
+        Ok(bytes) => Ok(bytes),
+        Err(_) => unit_once(alloc, front, zeros),
+    }
 }
 
 #[test]

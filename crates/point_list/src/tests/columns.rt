@@ -4,6 +4,7 @@ use crate::{
 };
 use mb_map::Table;
 use std::alloc::{AllocError, Global};
+use std::process::Abort;
 use std::test::Fail;
 use sunspec::PointType;
 
@@ -26,8 +27,15 @@ pub(crate) fn site(alloc: Global) -> Result<Site, AllocError> {
     })
 }
 
-/// What the list of the header and this text reads as.
+/// What the list of the header and this text reads as, and once more where memory was refused.
 pub(crate) fn read(alloc: Global, body: &str) -> Result<Vec<ListRow>, ListError> {
+    match read_once(alloc, body) {
+        Err(e) if e.fault == ListFault::Memory => read_once(alloc, body),
+        other => other,
+    }
+}
+
+pub(crate) fn read_once(alloc: Global, body: &str) -> Result<Vec<ListRow>, ListError> {
     let memory = ListError {
         fault: ListFault::Memory,
         row: 0,
@@ -73,14 +81,28 @@ fn what_a_record_says(rt: HostRuntime) -> Result<(), Fail> {
     Ok(())
 }
 
+/// Asserts the fault of each list of one record and its column, or that there is none.
+fn assert_faults(rt: &impl Abort, alloc: Global, cases: &[(&str, Option<(ListFault, u8)>)]) {
+    for (record, fault) in cases {
+        assert_eq!(rt; fault_of(alloc, record), *fault, "{record}");
+    }
+}
+
 #[test]
-fn each_column_at_its_limits(rt: HostRuntime) {
+fn numbers_of_fields(rt: HostRuntime) {
     use ListFault::*;
-    let cases: [(&str, Option<(ListFault, u8)>); 58] = [
+    let cases: [(&str, Option<(ListFault, u8)>); 3] = [
         ("e,m1,holding,107,uint16,,,counter,", None),
         ("e,m1,holding,107,uint16,,,counter", Some((BadCsv, 0))),
         ("e,m1,holding,107,uint16,,,counter,,", Some((BadCsv, 0))),
-        // name
+    ];
+    assert_faults(&rt, rt.alloc(), &cases);
+}
+
+#[test]
+fn names_at_their_limits(rt: HostRuntime) {
+    use ListFault::*;
+    let cases: [(&str, Option<(ListFault, u8)>); 4] = [
         (",m1,holding,107,uint16,,,gauge,", Some((BadName, 1))),
         ("a b,m1,holding,107,uint16,,,gauge,", Some((BadName, 1))),
         (
@@ -91,13 +113,27 @@ fn each_column_at_its_limits(rt: HostRuntime) {
             "abcdefghijklmnopqrstuvwxyz0123456789ABCDEFGHIJKLMNOPQRSTUVWXYZ_-.,m1,holding,107,uint16,,,gauge,",
             Some((BadName, 1)),
         ),
-        // device, table
+    ];
+    assert_faults(&rt, rt.alloc(), &cases);
+}
+
+#[test]
+fn devices_and_tables(rt: HostRuntime) {
+    use ListFault::*;
+    let cases: [(&str, Option<(ListFault, u8)>); 5] = [
         ("e,m2,holding,107,uint16,,,gauge,", Some((UnknownDevice, 2))),
         ("e,,holding,107,uint16,,,gauge,", Some((UnknownDevice, 2))),
         ("e,m1,Holding,107,uint16,,,gauge,", Some((BadTable, 3))),
         ("e,m1,input,107,uint16,,,gauge,", None),
         ("e,m1,discrete,107,bit,,,gauge,", None),
-        // address
+    ];
+    assert_faults(&rt, rt.alloc(), &cases);
+}
+
+#[test]
+fn addresses_at_their_limits(rt: HostRuntime) {
+    use ListFault::*;
+    let cases: [(&str, Option<(ListFault, u8)>); 12] = [
         ("e,m1,holding,0,uint16,,,gauge,", None),
         ("e,m1,holding,00107,uint16,,,gauge,", None),
         ("e,m1,holding,65535,uint16,,,gauge,", None),
@@ -116,13 +152,19 @@ fn each_column_at_its_limits(rt: HostRuntime) {
             "e,m1,holding,65412,string,125,,gauge,",
             Some((BadAddress, 4)),
         ),
-        // type
+    ];
+    assert_faults(&rt, rt.alloc(), &cases);
+}
+
+#[test]
+fn types_and_lengths(rt: HostRuntime) {
+    use ListFault::*;
+    let cases: [(&str, Option<(ListFault, u8)>); 12] = [
         ("e,m1,holding,1,uint8,,,gauge,", Some((BadType, 5))),
         ("e,m1,holding,1,,,,gauge,", Some((BadType, 5))),
         ("e,m1,holding,1,bit,,,gauge,", Some((BadType, 5))),
         ("e,m1,coil,1,uint16,,,gauge,", Some((BadType, 5))),
         ("e,m1,coil,1,float32,,,gauge,", Some((LeftOutType, 5))),
-        // length
         ("e,m1,holding,1,int64,4,,gauge,", None),
         ("e,m1,holding,1,int64,004,,gauge,", None),
         ("e,m1,holding,1,int64,3,,gauge,", Some((BadLength, 6))),
@@ -130,7 +172,14 @@ fn each_column_at_its_limits(rt: HostRuntime) {
         ("e,m1,holding,1,string,0,,gauge,", Some((BadLength, 6))),
         ("e,m1,holding,1,string,1,,gauge,", None),
         ("e,m1,holding,1,string,126,,gauge,", Some((BadLength, 6))),
-        // scale
+    ];
+    assert_faults(&rt, rt.alloc(), &cases);
+}
+
+#[test]
+fn scales_at_their_limits(rt: HostRuntime) {
+    use ListFault::*;
+    let cases: [(&str, Option<(ListFault, u8)>); 8] = [
         ("e,m1,holding,1,int16,,-10,gauge,", None),
         ("e,m1,holding,1,int16,,10,gauge,", None),
         ("e,m1,holding,1,int16,,-11,gauge,", Some((BadScale, 7))),
@@ -139,13 +188,19 @@ fn each_column_at_its_limits(rt: HostRuntime) {
         ("e,m1,holding,1,enum16,,-0,gauge,", None),
         ("e,m1,holding,1,enum16,,1,gauge,", Some((BadScale, 7))),
         ("e,m1,holding,1,ipaddr,,-1,gauge,", Some((BadScale, 7))),
-        // role
+    ];
+    assert_faults(&rt, rt.alloc(), &cases);
+}
+
+#[test]
+fn roles_and_rolls(rt: HostRuntime) {
+    use ListFault::*;
+    let cases: [(&str, Option<(ListFault, u8)>); 13] = [
         ("e,m1,holding,1,int16,,,counter,", Some((BadRole, 8))),
         ("e,m1,holding,1,int16,,,setting,", None),
         ("e,m1,input,1,int16,,,setting,", Some((BadRole, 8))),
         ("e,m1,holding,1,acc16,,,setting,", Some((BadRole, 8))),
         ("e,m1,holding,1,int16,,,,", Some((BadRole, 8))),
-        // roll
         ("e,m1,holding,1,uint16,,,counter,65535", None),
         ("e,m1,holding,1,uint16,,,counter,65536", Some((BadRoll, 9))),
         ("e,m1,holding,1,uint16,,,counter,0", Some((BadRoll, 9))),
@@ -160,45 +215,54 @@ fn each_column_at_its_limits(rt: HostRuntime) {
             "e,m1,holding,1,acc64,,,counter,000000000000000000001",
             Some((BadRoll, 9)),
         ),
-        // Of two faults the first in the order of the checks.
-        ("e,m2,wall,1,float32,,,pet,x", Some((UnknownDevice, 2))),
     ];
-    for (record, fault) in cases {
-        assert_eq!(rt; fault_of(rt.alloc(), record), fault, "{record}");
-    }
+    assert_faults(&rt, rt.alloc(), &cases);
 }
 
 #[test]
-fn types_that_are_left_out(rt: HostRuntime) -> Result<(), Fail> {
-    for name in [
-        "float32", "float64", "eui48", "ipv6addr", "count", "raw16", "pad",
+fn the_first_of_two_faults(rt: HostRuntime) {
+    use ListFault::*;
+    let cases: [(&str, Option<(ListFault, u8)>); 1] = [(
+        "e,m2,wall,1,float32,,,pet,x",
+        Some((UnknownDevice, 2)),
+    )];
+    assert_faults(&rt, rt.alloc(), &cases);
+}
+
+#[test]
+fn types_that_are_left_out(rt: HostRuntime) {
+    for record in [
+        "e,m1,holding,1,float32,9,99,pet,x",
+        "e,m1,holding,1,float64,9,99,pet,x",
+        "e,m1,holding,1,eui48,9,99,pet,x",
+        "e,m1,holding,1,ipv6addr,9,99,pet,x",
+        "e,m1,holding,1,count,9,99,pet,x",
+        "e,m1,holding,1,raw16,9,99,pet,x",
+        "e,m1,holding,1,pad,9,99,pet,x",
     ] {
-        let record = format!(in rt.alloc(); "e,m1,holding,1,{name},9,99,pet,x")?;
         assert_eq!(rt;
-            fault_of(rt.alloc(), record.as_str()),
+            fault_of(rt.alloc(), record),
             Some((ListFault::LeftOutType, 5)),
-            "{name}"
+            "{record}"
         );
     }
-    Ok(())
 }
 
 #[test]
 fn rolls_of_counters(rt: HostRuntime) -> Result<(), Fail> {
     let cases = [
-        ("uint16", "", u16::MAX as u64),
-        ("acc32", "", u32::MAX as u64),
-        ("uint64", "", u64::MAX),
-        ("acc16", "99", 99),
+        ("e,m1,input,7,uint16,,-2,counter,", u16::MAX as u64),
+        ("e,m1,input,7,acc32,,-2,counter,", u32::MAX as u64),
+        ("e,m1,input,7,uint64,,-2,counter,", u64::MAX),
+        ("e,m1,input,7,acc16,,-2,counter,99", 99),
     ];
-    for (kind, roll, expected) in cases {
-        let record = format!(in rt.alloc(); "e,m1,input,7,{kind},,-2,counter,{roll}")?;
-        let rows = read(rt.alloc(), record.as_str()).ok();
+    for (record, expected) in cases {
+        let rows = read(rt.alloc(), record).ok();
         let row = rows
             .as_ref()
             .and_then(|rows| rows.first().copied())
             .ok_or("a row")?;
-        assert_eq!(rt; row.point.roll, expected, "{kind} {roll}");
+        assert_eq!(rt; row.point.roll, expected, "{record}");
         assert_eq!(rt; (row.point.scale, row.point.role), (-2, Role::Counter));
     }
     Ok(())
