@@ -107,10 +107,10 @@ past_queries : (before : History) (c n : ℕ) (unit : List ℕ) (m : ℕ) (qs : 
 past_queries before c n unit m [] lt = refl
 past_queries before c n unit m (q ∷ qs) lt =
     let off : is_answered (Reply c n unit ∷ before) c m ≡ is_answered before c m =
-        ap (λ b. b || is_answered before c m)
-        (grouped (eqb c c) (eqb n m) (fits_query (slice_get (asked before c) m) unit)
-        ∙ ap (λ b. (eqb c c && b) && fits_query (slice_get (asked before c) m) unit) (ne_eqb n m (λ e. absurd (omega arith)))
-        ∙ none (eqb c c) (fits_query (slice_get (asked before c) m) unit)) in
+    ap (λ b. b || is_answered before c m)
+    (grouped (eqb c c) (eqb n m) (fits_query (slice_get (asked before c) m) unit)
+    ∙ ap (λ b. (eqb c c && b) && fits_query (slice_get (asked before c) m) unit) (ne_eqb n m (λ e. absurd (omega arith)))
+    ∙ none (eqb c c) (fits_query (slice_get (asked before c) m) unit)) in
     λ i. record { asked = asked_of q; settled = off i } ∷ past_queries before c n unit (m + 1) qs (omega arith) i
   where
     none : (a f : Bool) → ((a && false) && f) ≡ false
@@ -123,13 +123,13 @@ settled_queries before c n unit q is fit k m [] at = refl
 settled_queries before c n unit q is fit zero m (p ∷ qs) at =
     let same : n ≡ m = omega arith in
     let on : is_answered (Reply c n unit ∷ before) c m ≡ true =
-        (λ i. (eq-eqb c c refl i && (eq-eqb n m same i && fits_query (slice_get (asked before c) (sym same i)) unit)) || is_answered before c m)
-        ∙ ap (λ o. fits_query o unit || is_answered before c m) is ∙ ap (λ b. b || is_answered before c m) fit in
+    (λ i. (eq-eqb c c refl i && (eq-eqb n m same i && fits_query (slice_get (asked before c) (sym same i)) unit)) || is_answered before c m)
+    ∙ ap (λ o. fits_query o unit || is_answered before c m) is ∙ ap (λ b. b || is_answered before c m) fit in
     λ i. record { asked = asked_of p; settled = on i } ∷ past_queries before c n unit (m + 1) qs (omega arith) i
 settled_queries before c n unit q is fit (suc k) m (p ∷ qs) at =
     let apart : n ≢ m = λ e. absurd (omega arith) in
     let off : is_answered (Reply c n unit ∷ before) c m ≡ is_answered before c m =
-        (λ i. (eq-eqb c c refl i && (ne_eqb n m apart i && fits_query (slice_get (asked before c) m) unit)) || is_answered before c m) in
+    (λ i. (eq-eqb c c refl i && (ne_eqb n m apart i && fits_query (slice_get (asked before c) m) unit)) || is_answered before c m) in
     λ i. record { asked = asked_of p; settled = off i } ∷ settled_queries before c n unit q is fit k (m + 1) qs (omega arith) i
 
 -- the connection with that query settled

@@ -18,3 +18,5 @@ pub mod Telling
 pub mod Examples
 pub mod FirstArrivals
 pub mod BySlot
+pub mod Asking
+pub mod Opening

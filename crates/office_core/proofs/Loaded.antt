@@ -1,5 +1,5 @@
 -- What a load and a restart do to an office that stands for a history.
-use Rattle.std.proofs.Common.{◌≡◌, ◌≤◌, ℕ, ◌+◌, List, [], ◌∷◌, ◌++◌, length, refl, sym, ap, ◌∙◌, arith, subst}
+use Rattle.std.proofs.Common.{◌≡◌, ◌≤◌, ℕ, ◌+◌, true, List, [], ◌∷◌, ◌++◌, length, refl, sym, ap, ◌∙◌, arith, subst}
 use Rattle.point_list.specs.declared.site.Site.{Site}
 use Rattle.poll_match.specs.Window.{Open as OpenOne, held}
 use Rattle.poll_book.specs.declared.rows.PointRow.{PointRow}
@@ -9,13 +9,18 @@ use Rattle.office_core.specs.declared.event.EventAnswer.TheVariants as answer
 use Rattle.office_core.specs.Loads.{Loading, Refused, Taken, loading, outcome, added}
 use Rattle.office_core.specs.History.{Happening, Restart, Load, Open, Ask, Reply, Noise, History, tables, points, site_of}
 use Rattle.office_core.specs.Answers.{answer_of}
-use Rattle.office_core.specs.Standing.{StandsFor}
+use Rattle.office_core.specs.Standing.{StandsFor, is_refusal}
 use Rattle.office_core.proofs.Newness.{numbered-append, numbered_so}
 use Rattle.office_core.proofs.Queries.{still_open}
 
-numbered_added : (n : ℕ) (l : Loading) → AreNumbered n (added n l)
+pub numbered_added : (n : ℕ) (l : Loading) → AreNumbered n (added n l)
 numbered_added n (Refused reason) = tt
 numbered_added n (Taken count points) = numbered_so n points
+
+-- a list that is refused adds nothing
+pub nothing_added : (n : ℕ) (l : Loading) → is_refusal (answer.Judged (outcome l)) ≡ true → added n l ≡ []
+nothing_added n (Refused reason) e = refl
+nothing_added n (Taken count points) e = absurd (cc)
 
 -- the accepted points are numbered from 1
 pub numbered_points : (before : History) → AreNumbered 0 (points before)

@@ -155,7 +155,7 @@ accepted_told before conn frame n q a =
     ∙ ap (λ o. number_answer before conn o frame) a.number
     ∙ ap (λ o. query_answer (readings before) (points before) (is_answered before conn n) o frame) a.query
     ∙ chosen (not (eqb frame.unit_id q.unit_id)) (is_answered before conn n) (not (fits q frame.unit)) (answer.Refused error.WrongUnit) (answer.Refused error.Repeat)
-        (answer.Refused error.WrongReply) (unit_answer (readings before) (points before) q frame.unit) (ap not a.unit_id) a.fresh (ap not a.fit)
+    (answer.Refused error.WrongReply) (unit_answer (readings before) (points before) q frame.unit) (ap not a.unit_id) a.fresh (ap not a.fit)
 
 -- what is found of it is the query's
 pub found_is : (before : History) (conn : ℕ) (frame : Frame) (n : ℕ) (q : Question) (number : ℕ) (query : Asked) (reply : Reply) → Accepted before conn frame n q
@@ -169,7 +169,7 @@ found_is before conn frame n q number query reply a names =
     let near = numbered_is frame.transaction (length (asked before conn)) n a.number in
     let le = near.1 in
     let there = query_kept (open_one conn all a.line) all n refl refl (omega (arith, count, le)) ∙ get_query before conn n
-        ∙ ap (option_map (λ (p : Question). record { asked = asked_of p; settled = is_answered before conn n })) a.query in
+    ∙ ap (option_map (λ (p : Question). record { asked = asked_of p; settled = is_answered before conn n })) a.query in
     let found = sym names.query ∙ (λ i. query_at (on i) (sym same i)) ∙ there in
     (sym same, ap (λ (m : Matched). m.asked) (same_Some (record { asked = query; settled = false }) (record { asked = asked_of q; settled = is_answered before conn n }) found), names.spelled)
 

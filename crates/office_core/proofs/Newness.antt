@@ -83,11 +83,10 @@ applied_readings change kept given points rows number =
     ∙ ap (λ l. record kept { points = l; readings = with_rows (new_rows kept.readings given) kept.readings }) (append-nil kept.points)
 
 -- a change that only adds points
-pub new_points : (change : Change) (kept : Tables) (points : List Point) → change.points ≡ numbered_on (length kept.points) points → change.readings ≡ []
+pub new_points : (change : Change) (kept : Tables) (more : List PointRow) → change.points ≡ more → change.readings ≡ [] → AreNumbered (length kept.points) more
     → IsCounted kept → IsNew change kept
-new_points change kept points more rows counted = (
-  subst (λ l. AreNumbered 0 (kept.points ++ l)) (sym more)
-      (numbered-append 0 (length kept.points) kept.points (numbered_on (length kept.points) points) (omega arith) counted (numbered_so (length kept.points) points)),
+new_points change kept more points rows numbered counted = (
+  subst (λ l. AreNumbered 0 (kept.points ++ l)) (sym points) (numbered-append 0 (length kept.points) kept.points more (omega arith) counted numbered),
   subst (λ l. AreNew kept.readings (as_rows l)) (sym rows) tt,
 )
 

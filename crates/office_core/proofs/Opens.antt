@@ -3,7 +3,8 @@ use Rattle.std.proofs.Common.{◌≡◌, ◌≢◌, ℕ, zero, suc, ◌+◌, ◌
 use Rattle.std.specs.Prelude.{slice_get, option_map, is_none, is_some, IsSome, ◌&&◌}
 use Rattle.std.proofs.lemmas.Bool.{false≢true, eqb-true, eq-eqb, ne_eqb, cases_eq}
 use Rattle.point_list.specs.declared.site.Site.{Site}
-use Rattle.poll_match.specs.Window.{Open as OpenOne, held, fresh, closed, line_of, Changes, IsLeastOf}
+use Rattle.poll_match.specs.Window.{Open as OpenOne, held, fresh, closed, line_of, greatest_of, Changes, IsLeastOf}
+use Rattle.poll_match.proofs.Greatest.{greatest_below}
 use Rattle.poll_book.specs.declared.rows.PointRow.{PointRow}
 use Rattle.poll_book.specs.Tables.{Tables}
 use Rattle.office_core.specs.declared.error.OfficeError.{OfficeError}
@@ -12,7 +13,7 @@ use Rattle.office_core.specs.Sites.{line_place}
 use Rattle.office_core.specs.Cover.{Question}
 use Rattle.office_core.specs.History.{Happening, Restart, Load, Open, Ask, Reply, Noise, History, tables, points, site_of, connections, open_line, open_fault, same_line, line_after, asked, is_answered, ask_fault}
 use Rattle.office_core.specs.Answers.{answer_of, refused_or}
-use Rattle.office_core.specs.Standing.{queries_from, queries, open_one, open_of, StandsFor}
+use Rattle.office_core.specs.Standing.{queries_from, queries, open_one, open_of, StandsFor, IsFormer, Closes}
 use Rattle.office_core.proofs.Asks.{ask_made, asked_not}
 use Rattle.office_core.proofs.Queries.{still_open}
 
@@ -105,17 +106,8 @@ one_a_line (Noise c frame ∷ before) a b line x y = one_a_line before a b line 
 
 -- ---- what an Open does to an office that stands for a history
 
--- what a matcher answers for the open connection of a line
-abbrev pub IsFormer : ℕ → List OpenOne → Option ℕ → Type 0
-IsFormer line all None = (conn : ℕ) → line_of (held conn all) ≡ Some line → ⊥
-IsFormer line all (Some former) = IsLeastOf line all former
-
-abbrev pub Closes : Option ℕ → List OpenOne → List OpenOne → Type 0
-Closes None old new = new ≡ old
-Closes (Some former) old new = Changes former closed old new
-
 module _ (holds : Tables → Type 0) (now : Site) (known : List PointRow) (all : List OpenOne) (before : History) (stands : StandsFor holds now known all before) where
-  line_held : (d : ℕ) → line_of (held d all) ≡ open_line before d
+  pub line_held : (d : ℕ) → line_of (held d all) ≡ open_line before d
   line_held d = ap line_of (stands.connections d) ∙ by (open_line before d)
     where
       by : (o : Option ℕ) → line_of (option_map (open_one d (queries before d)) o) ≡ o
@@ -129,6 +121,9 @@ module _ (holds : Tables → Type 0) (now : Site) (known : List PointRow) (all :
       by : (o : Option ℕ) → is_some (option_map (open_one d (queries before d)) o) ≡ true → IsSome o
       by None e = e
       by (Some line) e = refl
+
+  pub greatest_made : greatest_of all ≤ connections before
+  greatest_made = greatest_below all (connections before) held_made
 
   pub open_refused : (name : List ℕ) (e : OfficeError) → open_fault (line_place (site_of before) name) (connections before) ≡ Some e
       → StandsFor holds now known all (Open name ∷ before) × (answer.Refused e ≡ answer_of before (Open name))

@@ -96,8 +96,8 @@ placed (Ask conn device slot read ∷ before) c n q some at =
     by true is (Some f) fault earlier e = earlier e
     by true is None fault earlier e =
         elim (old_or_new (asked before c) n e) [
-          inl old ↦ earlier old
-        | inr same ↦ subst (λ (x : Question). device_name (site_of before) x.place ≡ Some x.device) same (new fault ∙ ap Some (sym (named_so (target (site_of before) device))))
+          | inl old ↦ earlier old
+          | inr same ↦ subst (λ (x : Question). device_name (site_of before) x.place ≡ Some x.device) same (new fault ∙ ap Some (sym (named_so (target (site_of before) device))))
         ]
       where
         named_so : (o : Option Target) → (question_to o device slot read (length (points before))).device ≡ device

@@ -33,13 +33,13 @@ use Rattle.office_core.specs.History.{Happening, Restart, Load, Open, Ask, Reply
 use Rattle.office_core.specs.Answers.{answer_of, unit_answer, query_frame}
 use Rattle.office_core.specs.Keeping.{IsCopy, with_given, rows_at, brought, arrival_of}
 use Rattle.office_core.specs.Legal.{MayHappen}
-use Rattle.office_core.specs.Standing.{queries, open_one, open_of, StandsFor, Sees, Goes, is_store}
+use Rattle.office_core.specs.Standing.{StandsFor, IsFormer, Closes, Sees, Goes, is_store}
 use Rattle.office_core.proofs.Cells.{cells_spelled, exception_spelled, bits_plain, words_plain, no_echo}
 use Rattle.office_core.proofs.Loaded.{numbered_points, load_done, restarted}
 use Rattle.office_core.proofs.Naming.{Accepted, accepted, found_is}
 use Rattle.office_core.proofs.Arrivals.{recorded, arrival_refused, arrival_accepted}
 use Rattle.office_core.proofs.Asks.{asks, ask_refused, ask_made_so}
-use Rattle.office_core.proofs.Opens.{IsFormer, Closes, open_refused, open_made_so}
+use Rattle.office_core.proofs.Opens.{open_refused, open_made_so}
 use Rattle.office_core.proofs.Placed.{placed}
 
 -- ---- what a reply brings is what its unit says
@@ -135,12 +135,13 @@ module _ (holds : Tables → Type 0) (now : Site) (known : List PointRow) (all :
         let spelled : spells_reply (request_of (asked_of q)) reply frame.unit = subst (λ (x : Asked). spells_reply (request_of x) reply frame.unit) here.1 here.2 in
         let kept = tables before in
         let as_unit : brought now known query reply kept ≡ recorded (points before) q frame.unit kept =
-            ap (λ (x : Asked). brought now known x reply kept) here.1 ∙ brought_is now known q frame.unit kept named reply spelled ∙ ap (λ l. recorded l q frame.unit kept) stands.points in
+        ap (λ (x : Asked). brought now known x reply kept) here.1 ∙ brought_is now known q frame.unit kept named reply spelled ∙ ap (λ l. recorded l q frame.unit kept) stands.points in
         let done = arrival_accepted holds now known all before stands happening conn frame n q may sees a holds'
-            (subst holds' as_unit (new kept stands.tables (copy_of before stands))) all' (subst (λ m. Changes conn (with_answer m) all all') here.0 settled) in
-        (done.0,
-         ap answer.Arrived (is kept stands.tables) ∙ ap (λ (x : Asked). answer.Arrived (arrival_of now known x reply kept)) here.1
-             ∙ told_is now known q frame.unit kept named reply spelled ∙ ap (λ l. unit_answer kept.readings l q frame.unit) stands.points ∙ done.1);
+        (subst holds' as_unit (new kept stands.tables (copy_of before stands))) all' (subst (λ m. Changes conn (with_answer m) all all') here.0 settled) in (
+          done.0,
+          ap answer.Arrived (is kept stands.tables) ∙ ap (λ (x : Asked). answer.Arrived (arrival_of now known x reply kept)) here.1
+              ∙ told_is now known q frame.unit kept named reply spelled ∙ ap (λ l. unit_answer kept.readings l q frame.unit) stands.points ∙ done.1,
+        );
   }
 
   -- ---- asks
@@ -182,8 +183,8 @@ module _ (holds : Tables → Type 0) (now : Site) (known : List PointRow) (all :
       by before (Ask c d s r) stands sees =
           let same : question now known device slot read ≡ asks before d s r = λ i. question (stands.site i) (stands.points i) (sees.1 i) (sees.2 i) (sees.3 i) in
           let done = ask_made_so holds now known all before stands c d s r
-              ((λ i. ask_fault (open_line before (sym sees.0 i)) (sym stands.site i) (sym stands.points i) (length (asked before (sym sees.0 i))) (sym sees.1 i) (sym sees.3 i)) ∙ fault before stands)
-              all' (subst (λ (x : ℕ × Question). Changes x.0 (with_query (asked_of x.1)) all all') (λ i. (sees.0 i, same i)) queried) in
+          ((λ i. ask_fault (open_line before (sym sees.0 i)) (sym stands.site i) (sym stands.points i) (length (asked before (sym sees.0 i))) (sym sees.1 i) (sym sees.3 i)) ∙ fault before stands)
+          all' (subst (λ (x : ℕ × Question). Changes x.0 (with_query (asked_of x.1)) all all') (λ i. (sees.0 i, same i)) queried) in
           (done.0, ap answer.Query (is before stands ∙ λ i. query_frame (length (asked before (sees.0 i))) (same i)) ∙ done.1)
       by before (Reply c n unit) stands sees = absurd sees
       by before (Noise c noise) stands sees = absurd sees
@@ -229,8 +230,8 @@ module _ (holds : Tables → Type 0) (now : Site) (known : List PointRow) (all :
           let there : line_place (site_of before) l ≡ Some line = (λ i. line_place (sym stands.site i) (sym sees i)) ∙ place in
           let fault : open_fault (line_place (site_of before) l) (connections before) ≡ None = (λ i. open_fault (line_place (sym stands.site i) (sym sees i)) (connections before)) ∙ m.1 in
           let done = open_made_so holds now known all before stands l line fault there former is_former all1 all'
-              (subst (λ n. Changes n (fresh n line) all all1) m.0 opens) closes
-              holds' (subst (λ n. holds' (record (tables before) { connections = n })) m.0 (kept (tables before) stands.tables (copy_of before stands))) in
+          (subst (λ n. Changes n (fresh n line) all all1) m.0 opens) closes
+          holds' (subst (λ n. holds' (record (tables before) { connections = n })) m.0 (kept (tables before) stands.tables (copy_of before stands))) in
           (done.0, ap answer.Opened m.0 ∙ done.1)
       by before (Ask c d s r) stands sees = absurd sees
       by before (Reply c n unit) stands sees = absurd sees
@@ -252,10 +253,10 @@ module _ (holds : Tables → Type 0) (now : Site) (known : List PointRow) (all :
       by before (Restart site) stands sees = absurd sees
       by before (Load l) stands sees =
           let new = subst (λ (x : List ℕ). holds' (record (tables before) { points = points before ++ added (length known) (loading now known x) })) sees
-              (kept (tables before) stands.tables (copy_of before stands)) in
+          (kept (tables before) stands.tables (copy_of before stands)) in
           let done = load_done holds now known all before stands l holds'
-              (subst (λ (x : Site × List PointRow). holds' (record (tables before) { points = points before ++ added (length x.1) (loading x.0 x.1 l) })) (λ i. (stands.site i, stands.points i)) new)
-              known' (more ∙ ap (λ (x : List ℕ). known ++ added (length known) (loading now known x)) sees) in
+          (subst (λ (x : Site × List PointRow). holds' (record (tables before) { points = points before ++ added (length x.1) (loading x.0 x.1 l) })) (λ i. (stands.site i, stands.points i)) new)
+          known' (more ∙ ap (λ (x : List ℕ). known ++ added (length known) (loading now known x)) sees) in
           (done.0, ap (λ (x : List ℕ). answer.Judged (outcome (loading now known x))) sees ∙ done.1)
       by before (Open line) stands sees = absurd sees
       by before (Ask c d s r) stands sees = absurd sees

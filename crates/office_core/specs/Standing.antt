@@ -4,7 +4,7 @@ use Rattle.mb_mbap.specs.declared.frame.Frame.{Frame}
 use Rattle.point_list.specs.declared.site.Site.{Site}
 use Rattle.read_planner.specs.declared.Read.{Read}
 use Rattle.poll_match.specs.declared.asked.Matched.{Matched}
-use Rattle.poll_match.specs.Window.{Open as OpenOne, held, last_of}
+use Rattle.poll_match.specs.Window.{Open as OpenOne, Changes, IsLeastOf, closed, held, last_of, line_of}
 use Rattle.poll_book.specs.declared.rows.PointRow.{PointRow}
 use Rattle.poll_book.specs.Tables.{Tables}
 use Rattle.office_core.specs.declared.error.OfficeError.{OfficeError}
@@ -65,6 +65,17 @@ SeesAll before [] [] = ⊤
 SeesAll before (happening ∷ rest) (seen ∷ more) = Sees before happening seen × SeesAll (happening ∷ before) rest more
 SeesAll before [] (seen ∷ more) = ⊥
 SeesAll before (happening ∷ rest) [] = ⊥
+
+-- ---- the former connection of a line
+
+-- what a matcher answers for the open connection of a line
+abbrev pub IsFormer : ℕ → List OpenOne → Option ℕ → Type 0
+IsFormer line all None = (conn : ℕ) → line_of (held conn all) ≡ Some line → ⊥
+IsFormer line all (Some former) = IsLeastOf line all former
+
+abbrev pub Closes : Option ℕ → List OpenOne → List OpenOne → Type 0
+Closes None old new = new ≡ old
+Closes (Some former) old new = Changes former closed old new
 
 -- ---- one event, which is refused by the store or happens
 

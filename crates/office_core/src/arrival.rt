@@ -30,8 +30,8 @@ pub(crate) fn bring<K: Keeper>(
         → MatchResult result (λ _. K.holds keeper.new (brought site.now known.now asked.now reply.now kept)) (λ _. K.holds keeper.new kept) }
     ensures crash { K.is_clean keeper.new → (kept : Tables) → Endures (K.holds keeper.old) (K.may_leave keeper.old) kept → IsCopy known.now kept
         → MatchResult result
-            (λ _. Endures (K.holds keeper.new) (K.may_leave keeper.new) (brought site.now known.now asked.now reply.now kept))
-            (λ _. Endures (K.holds keeper.new) (K.may_leave keeper.new) kept) }
+        (λ _. Endures (K.holds keeper.new) (K.may_leave keeper.new) (brought site.now known.now asked.now reply.now kept))
+        (λ _. Endures (K.holds keeper.new) (K.may_leave keeper.new) kept) }
     ensures err { OnErr result (Within (K.holds keeper.old) (K.holds keeper.new)) }
     ensures clean { K.is_clean keeper.new → K.is_clean keeper.old }
 {

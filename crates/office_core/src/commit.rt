@@ -15,8 +15,8 @@ pub(crate) fn commit<K: Keeper>(keeper: &mut K, change: &Change) -> Result<(), S
         → MatchResult result (λ _. K.holds keeper.new (applied change.now kept)) (λ _. K.holds keeper.new kept) }
     ensures crash { K.is_clean keeper.new → (kept : Tables) → Endures (K.holds keeper.old) (K.may_leave keeper.old) kept → IsNew change.now kept
         → MatchResult result
-            (λ _. Endures (K.holds keeper.new) (K.may_leave keeper.new) (applied change.now kept))
-            (λ _. Endures (K.holds keeper.new) (K.may_leave keeper.new) kept) }
+        (λ _. Endures (K.holds keeper.new) (K.may_leave keeper.new) (applied change.now kept))
+        (λ _. Endures (K.holds keeper.new) (K.may_leave keeper.new) kept) }
     ensures err { OnErr result (Within (K.holds keeper.old) (K.holds keeper.new)) }
     ensures clean { K.is_clean keeper.new → K.is_clean keeper.old }
 {
@@ -37,8 +37,8 @@ pub(crate) fn keep_readings<K: Keeper>(
         → MatchResult result (λ _. K.holds keeper.new (with_given (keyed slot covered.now) kept)) (λ _. K.holds keeper.new kept) }
     ensures crash { K.is_clean keeper.new → (kept : Tables) → Endures (K.holds keeper.old) (K.may_leave keeper.old) kept → IsCounted kept → Rises 0 (keyed slot covered.now)
         → MatchResult result
-            (λ _. Endures (K.holds keeper.new) (K.may_leave keeper.new) (with_given (keyed slot covered.now) kept))
-            (λ _. Endures (K.holds keeper.new) (K.may_leave keeper.new) kept) }
+        (λ _. Endures (K.holds keeper.new) (K.may_leave keeper.new) (with_given (keyed slot covered.now) kept))
+        (λ _. Endures (K.holds keeper.new) (K.may_leave keeper.new) kept) }
     ensures err { OnErr result (Within (K.holds keeper.old) (K.holds keeper.new)) }
     ensures clean { K.is_clean keeper.new → K.is_clean keeper.old }
 {

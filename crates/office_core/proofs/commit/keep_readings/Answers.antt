@@ -24,7 +24,7 @@ returns-clause-crash g c clean kept e counted rises =
     let points : change.points ≡ [] = c.from_vec.ensures ∙ c.new.ensures.items in
     let rows : as_rows change.readings ≡ new_rows kept.readings given = ap as_rows c.from_vec-2.ensures ∙ c.in_ok-rows.ensures.value (c.commit.ensures.clean clean) kept e.0 in
     let still = endures_still (holds c.args.keeper.now) (may c.args.keeper.now) (holds c.record.new.keeper) (may c.record.new.keeper) kept c.record.ensures.same
-        (c.record.ensures.crash (c.commit.ensures.clean clean)) e in
+    (c.record.ensures.crash (c.commit.ensures.clean clean)) e in
     subst (Endures (holds c.commit.new.keeper) (may c.commit.new.keeper)) (applied_readings change kept given points rows refl)
     (c.in_ok-commit.ensures.crash clean kept still (new_readings change kept given points rows counted rises))
 
@@ -37,7 +37,7 @@ returns-in_err-commit-clause-crash g c clean kept e counted rises =
     let points : change.points ≡ [] = c.from_vec.ensures ∙ c.new.ensures.items in
     let rows : as_rows change.readings ≡ new_rows kept.readings given = ap as_rows c.from_vec-2.ensures ∙ c.in_ok-rows.ensures.value (c.commit.ensures.clean clean) kept e.0 in
     let still = endures_still (holds c.args.keeper.now) (may c.args.keeper.now) (holds c.record.new.keeper) (may c.record.new.keeper) kept c.record.ensures.same
-        (c.record.ensures.crash (c.commit.ensures.clean clean)) e in
+    (c.record.ensures.crash (c.commit.ensures.clean clean)) e in
     let lost : Endures (holds c.commit.new.keeper) (may c.commit.new.keeper) kept =
-        c.in_err-commit.ensures.crash clean kept still (new_readings change kept given points rows counted rises) in
+    c.in_err-commit.ensures.crash clean kept still (new_readings change kept given points rows counted rises) in
     on_refusal _ c.from_residual-in_err-commit.result c.from_residual-in_err-commit.ensures.0 lost

@@ -1,0 +1,64 @@
+use Rattle.std.proofs.Common.{◌≡◌, ◌∙◌, length, subst, sym, ap, refl, rules}
+use Rattle.poll_match.specs.declared.asked.Asked.TheVariants.{Read}
+use Rattle.poll_match.specs.Window.{IsNextFrame, Changes, held, with_query}
+use Rattle.office_core.specs.declared.event.Event.TheVariants.{Ask}
+use Rattle.office_core.specs.Errors.{refused_by}
+use Rattle.office_core.specs.Sites.{target}
+use Rattle.office_core.specs.Cover.{is_readable}
+use Rattle.office_core.specs.Keeping.{Endures}
+use Rattle.office_core.specs.Standing.{Goes, StandsFor}
+use Rattle.office_core.proofs.Asking.{asking_refused, asking_goes}
+use Rattle.office_core.proofs.Telling.{asked_err}
+use Rattle.office_core.proofs.office.Office.ask.Goals as goal
+
+pub returns-in_err-next_query-clause-goes : goal.returns-in_err-next_query-clause-goes
+returns-in_err-next_query-clause-goes g c clean =
+    let office = c.args.self.now in
+    let holds = g.K.Neighbours.holds office.keeper in
+    let device = c.args.device.now in
+    let to = c.in_ok-to.ensures in
+    subst (Goes (StandsFor holds office.site office.points.items office.matcher) (StandsFor holds office.site office.points.items c.next_query.new.self) (Ask c.args.conn device c.args.slot c.args.read))
+    (sym (asked_err c.from_residual-in_err-next_query.result (refused_by c.in_err-next_query.field-0.0) c.from_residual-in_err-next_query.ensures.1))
+    (asking_refused holds office.site office.points.items office.matcher c.args.conn device c.args.slot c.args.read c.in_ok-to.to (sym c.line_of-line.ensures ∙ to.0)
+    (ap (target office.site) (sym c.as_bytes.ensures.value) ∙ to.1) ((λ i. is_readable (sym c.deref.ensures.value i) (sym c.as_bytes.ensures.value i) c.args.read) ∙ to.2)
+    c.in_err-next_query.field-0.0 c.in_err-next_query.ensures.refused c.next_query.new.self c.in_err-next_query.ensures.err)
+
+pub returns-in_err-next_query-clause-crash : goal.returns-in_err-next_query-clause-crash
+returns-in_err-next_query-clause-crash g c clean =
+    let office = c.args.self.now in
+    let holds = Endures (g.K.Neighbours.holds office.keeper) (g.K.Neighbours.may_leave office.keeper) in
+    let device = c.args.device.now in
+    let to = c.in_ok-to.ensures in
+    subst (Goes (StandsFor holds office.site office.points.items office.matcher) (StandsFor holds office.site office.points.items c.next_query.new.self) (Ask c.args.conn device c.args.slot c.args.read))
+    (sym (asked_err c.from_residual-in_err-next_query.result (refused_by c.in_err-next_query.field-0.0) c.from_residual-in_err-next_query.ensures.1))
+    (asking_refused holds office.site office.points.items office.matcher c.args.conn device c.args.slot c.args.read c.in_ok-to.to (sym c.line_of-line.ensures ∙ to.0)
+    (ap (target office.site) (sym c.as_bytes.ensures.value) ∙ to.1) ((λ i. is_readable (sym c.deref.ensures.value i) (sym c.as_bytes.ensures.value i) c.args.read) ∙ to.2)
+    c.in_err-next_query.field-0.0 c.in_err-next_query.ensures.refused c.next_query.new.self c.in_err-next_query.ensures.err)
+
+pub returns-clause-goes : goal.returns-clause-goes
+returns-clause-goes g c clean =
+    let office = c.args.self.now in
+    let holds = g.K.Neighbours.holds office.keeper in
+    let device = c.args.device.now in
+    let to = c.in_ok-to.ensures in
+    let count : c.len.result ≡ length office.points.items = search rules in
+    asking_goes holds office.site office.points.items office.matcher c.args.conn device c.args.slot c.args.read c.in_ok-to.to (sym c.line_of-line.ensures ∙ to.0)
+    (ap (target office.site) (sym c.as_bytes.ensures.value) ∙ to.1) ((λ i. is_readable (sym c.deref.ensures.value i) (sym c.as_bytes.ensures.value i) c.args.read) ∙ to.2)
+    c.in_ok-next_query.field-0 c.in_ok-next_query.ensures.accepted
+    (subst (λ n. IsNextFrame (Read c.in_ok-to.to.unit_id c.in_ok-to.to.place c.args.slot c.args.read n) (held c.args.conn office.matcher) c.in_ok-next_query.field-0) count c.in_ok-next_query.ensures.frame)
+    c.next_query.new.self
+    (subst (λ n. Changes c.args.conn (with_query (Read c.in_ok-to.to.unit_id c.in_ok-to.to.place c.args.slot c.args.read n)) office.matcher c.next_query.new.self) count c.in_ok-next_query.ensures.next)
+
+pub returns-clause-crash : goal.returns-clause-crash
+returns-clause-crash g c clean =
+    let office = c.args.self.now in
+    let holds = Endures (g.K.Neighbours.holds office.keeper) (g.K.Neighbours.may_leave office.keeper) in
+    let device = c.args.device.now in
+    let to = c.in_ok-to.ensures in
+    let count : c.len.result ≡ length office.points.items = search rules in
+    asking_goes holds office.site office.points.items office.matcher c.args.conn device c.args.slot c.args.read c.in_ok-to.to (sym c.line_of-line.ensures ∙ to.0)
+    (ap (target office.site) (sym c.as_bytes.ensures.value) ∙ to.1) ((λ i. is_readable (sym c.deref.ensures.value i) (sym c.as_bytes.ensures.value i) c.args.read) ∙ to.2)
+    c.in_ok-next_query.field-0 c.in_ok-next_query.ensures.accepted
+    (subst (λ n. IsNextFrame (Read c.in_ok-to.to.unit_id c.in_ok-to.to.place c.args.slot c.args.read n) (held c.args.conn office.matcher) c.in_ok-next_query.field-0) count c.in_ok-next_query.ensures.frame)
+    c.next_query.new.self
+    (subst (λ n. Changes c.args.conn (with_query (Read c.in_ok-to.to.unit_id c.in_ok-to.to.place c.args.slot c.args.read n)) office.matcher c.next_query.new.self) count c.in_ok-next_query.ensures.next)

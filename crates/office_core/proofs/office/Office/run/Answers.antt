@@ -1,0 +1,55 @@
+use Rattle.std.proofs.Common.{rules, ◌≡◌, ◌+◌, List, [], ◌∷◌, ◌++◌, length, true, cond, take, sym, ap, ◌∙◌, subst, arith, length-take}
+use Rattle.std.specs.Prelude.{is_ok}
+use Rattle.std.proofs.lemmas.List.{take_more}
+use Rattle.office_core.specs.declared.event.Event.{Event}
+use Rattle.office_core.specs.declared.event.EventAnswer.{EventAnswer}
+use Rattle.office_core.specs.History.{History}
+use Rattle.office_core.specs.Keeping.{Endures}
+use Rattle.office_core.specs.Standing.{StandsFor, Runs}
+use Rattle.office_core.proofs.Runs.{none_ran, one_ran}
+use Rattle.office_core.proofs.office.Office.run.Goals as goal
+
+pub loop-event-init : goal.loop-event-init
+loop-event-init g c =
+    let office = c.args.self.now in
+    let holds = g.K.Neighbours.holds office.keeper in
+    let stands : History → Type 0 = StandsFor holds office.site office.points.items office.matcher in
+    let endures : History → Type 0 = StandsFor (Endures holds (g.K.Neighbours.may_leave office.keeper)) office.site office.points.items office.matcher in
+    record {
+      each = search rules;
+      room = search rules;
+      clean = λ clean. clean;
+      runs = λ _. subst (Runs stands stands []) (sym c.in_ok-told.ensures.items) (none_ran stands);
+      crash = λ _. subst (Runs endures endures []) (sym c.in_ok-told.ensures.items) (none_ran endures);
+    }
+
+pub loop-event-preserved : goal.loop-event-preserved
+loop-event-preserved g c =
+    let holds = g.K.Neighbours.holds in
+    let may = g.K.Neighbours.may_leave in
+    let old = c.args.self.now in
+    let office = c.loop-event.self in
+    let next = c.step-answer.new.self in
+    let first : History → Type 0 = StandsFor (holds old.keeper) old.site old.points.items old.matcher in
+    let middle : History → Type 0 = StandsFor (holds office.keeper) office.site office.points.items office.matcher in
+    let last : History → Type 0 = StandsFor (holds next.keeper) next.site next.points.items next.matcher in
+    let first' : History → Type 0 = StandsFor (Endures (holds old.keeper) (may old.keeper)) old.site old.points.items old.matcher in
+    let middle' : History → Type 0 = StandsFor (Endures (holds office.keeper) (may office.keeper)) office.site office.points.items office.matcher in
+    let last' : History → Type 0 = StandsFor (Endures (holds next.keeper) (may next.keeper)) next.site next.points.items next.matcher in
+    let i = c.loop-event.event-index in
+    let events = c.args.events.now in
+    let told = c.loop-event.told.items in
+    let ok : is_ok c.push.result ≡ true = c.push.ensures.succeeds (omega (arith, c.loop-event.invariant.each, c.loop-event.invariant.room)) in
+    let items : c.push.new.self.items ≡ told ++ c.step-answer.result ∷ [] = c.push.ensures.items ∙ ap (λ b. cond b (told ++ c.step-answer.result ∷ []) told) ok in
+    let more : take (i + 1) events ≡ take i events ++ c.event-item.result ∷ [] =
+    take_more events i c.event-item.result c.loop-event-test.true ∙ ap (λ e. take i events ++ e ∷ []) (sym c.event-item.is) in
+    let same : length told ≡ length (take i events) = omega (arith, c.loop-event.invariant.each, c.loop-event.told.ok.0, length-take i events) in
+    record {
+      each = search rules;
+      room = omega (arith, c.loop-event.invariant.room, c.push.ensures.capacity);
+      clean = λ clean. c.loop-event.invariant.clean (c.step-answer.ensures.clean clean);
+      runs = λ clean. subst (λ (x : List Event × List EventAnswer). Runs first last x.0 x.1) (λ k. (sym more k, sym items k))
+          (one_ran first middle last (take i events) told c.event-item.result c.step-answer.result same (c.loop-event.invariant.runs (c.step-answer.ensures.clean clean)) (c.step-answer.ensures.goes clean));
+      crash = λ clean. subst (λ (x : List Event × List EventAnswer). Runs first' last' x.0 x.1) (λ k. (sym more k, sym items k))
+          (one_ran first' middle' last' (take i events) told c.event-item.result c.step-answer.result same (c.loop-event.invariant.crash (c.step-answer.ensures.clean clean)) (c.step-answer.ensures.crash clean));
+    }

@@ -1,0 +1,23 @@
+use Rattle.std.proofs.Common.{◌≡◌, ◌≤◌, length, take, vec_len, vec_capacity}
+use Rattle.office_core.specs.Keeping.{Endures}
+use Rattle.office_core.specs.Standing.{Runs, StandsFor}
+use Rattle.office_core.proofs.office.Office.run.Given as goal
+
+-- the events so far are a run
+abbrev pub invariant-loop-event : goal.invariant-loop-event
+invariant-loop-event g l =
+    let holds = g.K.Neighbours.holds in
+    let may = g.K.Neighbours.may_leave in
+    record {
+      each : vec_len l.told ≡ l.event-index;
+      room : length l.events ≤ vec_capacity l.told;
+      clean : g.K.Neighbours.is_clean l.self.keeper → g.K.Neighbours.is_clean l.fn.self.keeper;
+      runs : g.K.Neighbours.is_clean l.self.keeper → Runs
+          (StandsFor (holds l.fn.self.keeper) l.fn.self.site l.fn.self.points.items l.fn.self.matcher)
+          (StandsFor (holds l.self.keeper) l.self.site l.self.points.items l.self.matcher)
+          (take l.event-index l.events) l.told.items;
+      crash : g.K.Neighbours.is_clean l.self.keeper → Runs
+          (StandsFor (Endures (holds l.fn.self.keeper) (may l.fn.self.keeper)) l.fn.self.site l.fn.self.points.items l.fn.self.matcher)
+          (StandsFor (Endures (holds l.self.keeper) (may l.self.keeper)) l.self.site l.self.points.items l.self.matcher)
+          (take l.event-index l.events) l.told.items;
+    }
