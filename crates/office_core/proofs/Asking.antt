@@ -25,7 +25,8 @@ use Rattle.office_core.specs.declared.error.OfficeError.TheVariants as error
 use Rattle.office_core.specs.declared.event.Event.TheVariants as event
 use Rattle.office_core.specs.declared.event.EventAnswer.TheVariants as answer
 use Rattle.office_core.specs.declared.site.Target.{Target}
-use Rattle.office_core.specs.Errors.{refused_by}
+use Rattle.poll_book.specs.declared.fault.StoreFault.{StoreFault}
+use Rattle.office_core.specs.Errors.{refused_by, IsCaused}
 use Rattle.office_core.specs.Sites.{target}
 use Rattle.office_core.specs.Cover.{Question, asked_of, is_readable}
 use Rattle.office_core.specs.History.{History, open_line, asked, ask_fault, ask_fault_on, question, question_to}
@@ -108,3 +109,19 @@ module _ (holds : Tables → Type 0) (now : Site) (known : List PointRow) (all :
       (λ i. record { transaction = number i; unit_id = next.unit_id i; unit = text i })
       ∙ sym (ap (λ t. query_frame (length (asked before conn)) (question_to t device slot read (length known))) there))
       all' (subst (λ q. Changes conn (with_query q) all all') (sym same) queried)
+
+-- no refusal of an ask is the store's
+pub ask_caused : (may_refuse : StoreFault → Type 0) (line : Option ℕ) (now : Site) (known : List PointRow) (made : ℕ) (device : List ℕ) (read : Read) (e : OfficeError)
+    → ask_fault line now known made device read ≡ Some e → IsCaused may_refuse e
+ask_caused may None now known made device read e is = subst (IsCaused may) (same_Some error.NoConnection e is) tt
+ask_caused may (Some line) now known made device read e is = by_target (target now device) is
+  where
+    by : (x y z : Bool) → cond x (Some error.WrongLine) (cond y (Some error.NoRead) (cond z (Some error.Exhausted) None)) ≡ Some e → IsCaused may e
+    by true y z h = subst (IsCaused may) (same_Some error.WrongLine e h) tt
+    by false true z h = subst (IsCaused may) (same_Some error.NoRead e h) tt
+    by false false true h = subst (IsCaused may) (same_Some error.Exhausted e h) tt
+    by false false false h = absurd (cc)
+
+    by_target : (o : Option Target) → ask_fault_on o line known made device read ≡ Some e → IsCaused may e
+    by_target None h = subst (IsCaused may) (same_Some error.WrongLine e h) tt
+    by_target (Some to) h = by (not (eqb to.line line)) (not (is_readable known device read)) (leb 4294967295 made) h

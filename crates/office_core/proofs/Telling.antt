@@ -1,5 +1,6 @@
 -- How a call's refusal is told.
-use Rattle.std.proofs.Common.{◌≡◌, Result, Ok, Err, ℕ, true, ap, refl, sym, ◌∙◌}
+use Rattle.std.proofs.Common.{◌≡◌, Result, Ok, Err, ℕ, ap, sym, subst}
+use Rattle.std.specs.Prelude.{IfErr}
 use Rattle.std.specs.Result.{IsErr, IsErrAnd}
 use Rattle.mb_mbap.specs.declared.frame.Frame.{Frame}
 use Rattle.poll_book.specs.declared.fault.StoreFault.{StoreFault}
@@ -8,8 +9,8 @@ use Rattle.office_core.specs.declared.error.OfficeError.TheVariants as error
 use Rattle.office_core.specs.declared.event.Arrival.{Arrival}
 use Rattle.office_core.specs.declared.event.Outcome.{Outcome}
 use Rattle.office_core.specs.declared.event.EventAnswer.TheVariants as answer
+use Rattle.office_core.specs.Errors.{IsCaused}
 use Rattle.office_core.specs.Offices.{judged, opened, asked_so, arrived}
-use Rattle.office_core.specs.Standing.{is_store}
 
 pub arrived_err : (told : Result Arrival OfficeError) (e : OfficeError) → IsErrAnd told (λ x. x ≡ e) → arrived told ≡ answer.Refused e
 arrived_err (Ok x) e is = absurd is
@@ -26,3 +27,8 @@ opened_err (Err x) e is = ap answer.Refused is
 pub judged_err : (told : Result Outcome OfficeError) (e : OfficeError) → IsErrAnd told (λ x. x ≡ e) → judged told ≡ answer.Refused e
 judged_err (Ok x) e is = absurd is
 judged_err (Err x) e is = ap answer.Refused is
+
+-- what causes a refusal that is passed on
+pub caused_err : {X : Type 0} (may_refuse : StoreFault → Type 0) (told : Result X OfficeError) (e : OfficeError) → IsErrAnd told (λ x. x ≡ e) → IsCaused may_refuse e → IfErr told (IsCaused may_refuse)
+caused_err may (Ok x) e is cause = tt
+caused_err may (Err x) e is cause = subst (IsCaused may) (sym is) cause

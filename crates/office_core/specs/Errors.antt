@@ -1,6 +1,8 @@
--- How a refused query is told.
+-- How refusals are told, and what causes them.
 use Rattle.poll_book.specs.declared.fault.StoreFault.{StoreFault}
 use Rattle.poll_book.specs.declared.fault.StoreFault.TheVariants as fault
+use Rattle.std.specs.Prelude.{⊤}
+use Rattle.poll_book.specs.Fault.{HasCause}
 use Rattle.poll_match.specs.declared.error.MatchError.{MatchError}
 use Rattle.poll_match.specs.declared.error.MatchError.TheVariants as matching
 use Rattle.office_core.specs.declared.error.OfficeError.{OfficeError}
@@ -20,3 +22,8 @@ refused_by matching.Repeat = error.Repeat
 refused_by matching.WrongReply = error.WrongReply
 refused_by matching.Exhausted = error.Exhausted
 refused_by matching.Memory = no_memory
+
+-- a refusal that isn't the store's, or one for want of memory or by a fault that the keeper may answer
+abbrev pub IsCaused : (StoreFault → Type 0) → OfficeError → Type 0
+IsCaused may_refuse (error.Store f) = HasCause may_refuse f
+IsCaused may_refuse _ = ⊤

@@ -15,6 +15,8 @@ use Rattle.office_core.specs.declared.event.Arrival.{Arrival}
 use Rattle.office_core.specs.declared.event.Outcome.{Outcome}
 use Rattle.office_core.specs.declared.event.EventAnswer.{EventAnswer}
 use Rattle.office_core.specs.declared.event.EventAnswer.TheVariants as answer
+use Rattle.poll_book.specs.declared.fault.StoreFault.{StoreFault}
+use Rattle.office_core.specs.Errors.{IsCaused}
 use Rattle.office_core.specs.Loads.{known_named}
 use Rattle.office_core.specs.History.{History, points, readings, total}
 use Rattle.office_core.specs.Keeping.{Endures}
@@ -52,6 +54,11 @@ asked_so (Err e) = answer.Refused e
 abbrev pub arrived : Result Arrival OfficeError → EventAnswer
 arrived (Ok arrival) = answer.Arrived arrival
 arrived (Err e) = answer.Refused e
+
+-- a refusal by the store has its cause
+abbrev pub AnswerCaused : (StoreFault → Type 0) → EventAnswer → Type 0
+AnswerCaused may_refuse (answer.Refused e) = IsCaused may_refuse e
+AnswerCaused may_refuse _ = ⊤
 
 -- ---- queries by a point's name
 

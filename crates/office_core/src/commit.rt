@@ -1,7 +1,8 @@
 //! What is written to a keeper.
-ghost use Rattle.std.specs.Prelude.{◌≡◌, ◌≤◌, IfOk, OnErr, MatchResult, length};
+ghost use Rattle.std.specs.Prelude.{◌≡◌, ◌≤◌, IfErr, IfOk, OnErr, MatchResult, length};
 ghost use Rattle.poll_book.specs.Tables.{Tables, Within, new_rows};
 ghost use Rattle.poll_book.specs.Changes.{IsNew, applied, keyed};
+ghost use Rattle.poll_book.specs.Fault.{HasCause};
 ghost use Rattle.office_core.specs.Keeping.{Endures, IsCounted, Rises, with_given};
 
 use mb_pdu::Registers;
@@ -17,6 +18,7 @@ pub(crate) fn commit<K: Keeper>(keeper: &mut K, change: &Change) -> Result<(), S
         → MatchResult result
         (λ _. Endures (K.holds keeper.new) (K.may_leave keeper.new) (applied change.now kept))
         (λ _. Endures (K.holds keeper.new) (K.may_leave keeper.new) kept) }
+    ensures cause { IfErr result (λ fault. K.may_refuse fault) }
     ensures err { OnErr result (Within (K.holds keeper.old) (K.holds keeper.new)) }
     ensures clean { K.is_clean keeper.new → K.is_clean keeper.old }
 {
@@ -39,6 +41,7 @@ pub(crate) fn keep_readings<K: Keeper>(
         → MatchResult result
         (λ _. Endures (K.holds keeper.new) (K.may_leave keeper.new) (with_given (keyed slot covered.now) kept))
         (λ _. Endures (K.holds keeper.new) (K.may_leave keeper.new) kept) }
+    ensures cause { IfErr result (λ fault. HasCause K.may_refuse fault) }
     ensures err { OnErr result (Within (K.holds keeper.old) (K.holds keeper.new)) }
     ensures clean { K.is_clean keeper.new → K.is_clean keeper.old }
 {

@@ -1,5 +1,5 @@
 //! The office over any keeper.
-ghost use Rattle.std.specs.Prelude.{◌≡◌, ◌≤◌, ◌∷◌, ◌++◌, ◌+◌, ℕ, IfOk, IfErr, OnOk, OnErr, MatchResult, Some, None, length, false, true, vec_len, vec_capacity};
+ghost use Rattle.std.specs.Prelude.{All, ◌≡◌, ◌<◌, ◌≤◌, ◌⊎◌, ◌∷◌, ◌++◌, ◌+◌, ℕ, IfOk, IfErr, OnOk, OnErr, MatchResult, Some, None, length, false, true, vec_len, vec_capacity};
 ghost use Rattle.poll_book.specs.Tables.{Tables, Within};
 ghost use Rattle.point_list.specs.Sites.{IsSound};
 ghost use Rattle.office_core.specs.Sites as sites;
@@ -68,6 +68,7 @@ fn last_made<K: Keeper>(keeper: &mut K, greatest: u32) -> Result<u32, StoreFault
     ensures value { K.is_clean keeper.new → (kept : Tables) → K.holds keeper.old kept → greatest ≤ kept.connections
         → IfOk result (λ last. last ≡ kept.connections) }
     ensures above { IfOk result (λ last. greatest ≤ last) }
+    ensures cause { IfErr result (λ fault. K.may_refuse fault) }
     ensures same { Within (K.holds keeper.old) (K.holds keeper.new) }
     ensures crash { K.is_clean keeper.new → (kept : Tables) → Endures (K.holds keeper.old) (K.may_leave keeper.old) kept
         → Endures (K.holds keeper.new) (K.may_leave keeper.new) kept }
@@ -103,7 +104,8 @@ pub struct Office<K: Keeper> {
 
 impl<K: Keeper> Office<K> {
     ghost use Rattle.office_core.specs.History.{History, Restart, tables, points};
-    ghost use Rattle.office_core.specs.Offices.{IsAlike, Shows, Stands, StandsInCrash, arrived, asked_so, judged, opened, readings_of, total_of};
+    ghost use Rattle.office_core.specs.Errors.{IsCaused};
+    ghost use Rattle.office_core.specs.Offices.{AnswerCaused, IsAlike, Shows, Stands, StandsInCrash, arrived, asked_so, judged, opened, readings_of, total_of};
 
     /// An office over what a keeper holds, with no connection open. A keeper that can't be read is
     /// given back with `Store`, and one with a point whose device isn't in the site with
@@ -115,6 +117,8 @@ impl<K: Keeper> Office<K> {
             → StandsInCrash office (Restart site ∷ before)) }
         ensures devices { IfOk result (λ office. K.is_clean office.keeper → (kept : Tables) → K.holds keeper kept → has_devices site kept.points ≡ true) }
         ensures differs { IfErr result (λ e. e.0 ≡ OfficeError.SiteDiffers → K.is_clean e.1 → (kept : Tables) → K.holds keeper kept → has_devices site kept.points ≡ false) }
+        ensures cause { IfErr result (λ e. IsCaused K.may_refuse e.0
+            ⊎ (K.is_clean e.1 → (kept : Tables) → K.holds keeper kept → 10000 < length kept.points)) }
         ensures same { MatchResult result (λ office. Within (K.holds keeper) (K.holds office.keeper)) (λ e. Within (K.holds keeper) (K.holds e.1)) }
         ensures clean { MatchResult result (λ office. K.is_clean office.keeper → K.is_clean keeper) (λ e. K.is_clean e.1 → K.is_clean keeper) }
     {
@@ -151,6 +155,7 @@ impl<K: Keeper> Office<K> {
     pub fn load(&mut self, list: &[u8]) -> Result<Outcome, OfficeError>
         ensures goes { K.is_clean self.new.keeper → Goes (Stands self.old) (Stands self.new) (Event.Load list.now) (judged result) }
         ensures crash { K.is_clean self.new.keeper → Goes (StandsInCrash self.old) (StandsInCrash self.new) (Event.Load list.now) (judged result) }
+        ensures cause { IfErr result (λ e. IsCaused K.may_refuse e) }
         ensures same { is_refusal (judged result) ≡ true → IsAlike self.old self.new }
         ensures clean { K.is_clean self.new.keeper → K.is_clean self.old.keeper }
     {
@@ -175,6 +180,7 @@ impl<K: Keeper> Office<K> {
     pub fn open_line(&mut self, line: &str) -> Result<Conn, OfficeError>
         ensures goes { K.is_clean self.new.keeper → Goes (Stands self.old) (Stands self.new) (Event.Open line.now) (opened result) }
         ensures crash { K.is_clean self.new.keeper → Goes (StandsInCrash self.old) (StandsInCrash self.new) (Event.Open line.now) (opened result) }
+        ensures cause { IfErr result (λ e. IsCaused K.may_refuse e) }
         ensures same { OnErr result (IsAlike self.old self.new) }
         ensures clean { K.is_clean self.new.keeper → K.is_clean self.old.keeper }
     {
@@ -214,6 +220,7 @@ impl<K: Keeper> Office<K> {
     ) -> Result<Frame, OfficeError>
         ensures goes { K.is_clean self.new.keeper → Goes (Stands self.old) (Stands self.new) (Event.Ask conn device.now slot read) (asked_so result) }
         ensures crash { K.is_clean self.new.keeper → Goes (StandsInCrash self.old) (StandsInCrash self.new) (Event.Ask conn device.now slot read) (asked_so result) }
+        ensures cause { IfErr result (λ e. IsCaused K.may_refuse e) }
         ensures same { OnErr result (IsAlike self.old self.new) }
         ensures keeper { self.new.keeper ≡ self.old.keeper }
     {
@@ -236,6 +243,7 @@ impl<K: Keeper> Office<K> {
     pub fn arrive(&mut self, conn: Conn, frame: &Frame) -> Result<Arrival, OfficeError>
         ensures goes { K.is_clean self.new.keeper → Goes (Stands self.old) (Stands self.new) (Event.Arrive conn frame.now) (arrived result) }
         ensures crash { K.is_clean self.new.keeper → Goes (StandsInCrash self.old) (StandsInCrash self.new) (Event.Arrive conn frame.now) (arrived result) }
+        ensures cause { IfErr result (λ e. IsCaused K.may_refuse e) }
         ensures same { OnErr result (IsAlike self.old self.new) }
         ensures clean { K.is_clean self.new.keeper → K.is_clean self.old.keeper }
     {
@@ -265,6 +273,7 @@ impl<K: Keeper> Office<K> {
     pub fn step(&mut self, event: &Event) -> EventAnswer
         ensures goes { K.is_clean self.new.keeper → Goes (Stands self.old) (Stands self.new) event.now result }
         ensures crash { K.is_clean self.new.keeper → Goes (StandsInCrash self.old) (StandsInCrash self.new) event.now result }
+        ensures cause { AnswerCaused K.may_refuse result }
         ensures same { is_refusal result ≡ true → IsAlike self.old self.new }
         ensures clean { K.is_clean self.new.keeper → K.is_clean self.old.keeper }
     {
@@ -299,6 +308,7 @@ impl<K: Keeper> Office<K> {
         ensures each { IfOk result (λ told. length told.items ≡ length events.now) }
         ensures runs { K.is_clean self.new.keeper → IfOk result (λ told. Runs (Stands self.old) (Stands self.new) events.now told.items) }
         ensures crash { K.is_clean self.new.keeper → IfOk result (λ told. Runs (StandsInCrash self.old) (StandsInCrash self.new) events.now told.items) }
+        ensures cause { IfOk result (λ told. All (AnswerCaused K.may_refuse) told.items) }
         ensures clean { K.is_clean self.new.keeper → K.is_clean self.old.keeper }
         ensures memory { OnErr result (self.new ≡ self.old) }
     {
@@ -319,6 +329,7 @@ impl<K: Keeper> Office<K> {
     ) -> Result<Option<Vec<ReadingRow>>, OfficeError>
         ensures value { K.is_clean self.new.keeper → (before : History) → Stands self.old before
             → IfOk result (λ rows. Shows (readings_of before point.now from to) rows) }
+        ensures cause { IfErr result (λ e. IsCaused K.may_refuse e) }
         ensures same { IsAlike self.old self.new }
         ensures clean { K.is_clean self.new.keeper → K.is_clean self.old.keeper }
     {
@@ -334,6 +345,7 @@ impl<K: Keeper> Office<K> {
     pub fn total(&mut self, point: &str) -> Result<Option<u128>, OfficeError>
         ensures value { K.is_clean self.new.keeper → (before : History) → Stands self.old before
             → IfOk result (λ sum. sum ≡ total_of before point.now) }
+        ensures cause { IfErr result (λ e. IsCaused K.may_refuse e) }
         ensures same { IsAlike self.old self.new }
         ensures clean { K.is_clean self.new.keeper → K.is_clean self.old.keeper }
     {

@@ -1,4 +1,5 @@
-ghost use Rattle.std.specs.Prelude.{◌≡◌, ◌⊎◌, IfOk, OnOk, OnErr, option_map};
+ghost use Rattle.poll_book.specs.declared.fault.StoreFault.{StoreFault};
+ghost use Rattle.std.specs.Prelude.{◌≡◌, ◌⊎◌, IfErr, IfOk, OnOk, OnErr, option_map};
 ghost use Rattle.poll_book.specs.Tables.{Tables, Within, reading_at, readings_between};
 ghost use Rattle.poll_book.specs.Changes.{IsNew, applied, as_rows};
 ghost use Rattle.poll_book.specs.Totals.{total};
@@ -18,10 +19,14 @@ pub trait Neighbours {
     /// What a crash at this moment may leave.
     ghost may_leave: { Self → Tables → Type 0 };
 
+    /// The faults that its calls may answer.
+    ghost may_refuse: { StoreFault → Type 0 };
+
     /// The reading of a point in a slot, if there is one.
     fn reading(&mut self, point: &PointRow, slot: u32) -> Result<Option<Reading>, StoreFault>
         ensures value { is_clean self.new → (kept : Tables) → holds self.old kept
             → IfOk result (λ found. found ≡ reading_at kept.readings (point.now.number, slot)) }
+        ensures cause { IfErr result (λ fault. may_refuse fault) }
         ensures same { Within (holds self.old) (holds self.new) }
         ensures clean { is_clean self.new → is_clean self.old }
         ensures crash { is_clean self.new → Within (may_leave self.new) (may_leave self.old) };
@@ -30,6 +35,7 @@ pub trait Neighbours {
     fn total(&mut self, point: &PointRow) -> Result<u128, StoreFault>
         ensures value { is_clean self.new → (kept : Tables) → holds self.old kept
             → IfOk result (λ sum. sum ≡ total point.now kept.readings) }
+        ensures cause { IfErr result (λ fault. may_refuse fault) }
         ensures same { Within (holds self.old) (holds self.new) }
         ensures clean { is_clean self.new → is_clean self.old }
         ensures crash { is_clean self.new → Within (may_leave self.new) (may_leave self.old) };
@@ -41,6 +47,7 @@ pub trait Keeper: Neighbours {
     fn points(&mut self, alloc: Global) -> Result<Vec<PointRow>, StoreFault>
         ensures value { Self.is_clean self.new → (kept : Tables) → Self.holds self.old kept
             → IfOk result (λ points. points.items ≡ kept.points) }
+        ensures cause { IfErr result (λ fault. Self.may_refuse fault) }
         ensures same { Within (Self.holds self.old) (Self.holds self.new) }
         ensures clean { Self.is_clean self.new → Self.is_clean self.old }
         ensures crash { Self.is_clean self.new
@@ -56,6 +63,7 @@ pub trait Keeper: Neighbours {
     ) -> Result<Vec<ReadingRow>, StoreFault>
         ensures value { Self.is_clean self.new → (kept : Tables) → Self.holds self.old kept
             → IfOk result (λ rows. as_rows rows.items ≡ readings_between point from to kept.readings) }
+        ensures cause { IfErr result (λ fault. Self.may_refuse fault) }
         ensures same { Within (Self.holds self.old) (Self.holds self.new) }
         ensures clean { Self.is_clean self.new → Self.is_clean self.old }
         ensures crash { Self.is_clean self.new
@@ -65,6 +73,7 @@ pub trait Keeper: Neighbours {
     fn connections(&mut self) -> Result<u32, StoreFault>
         ensures value { Self.is_clean self.new → (kept : Tables) → Self.holds self.old kept
             → IfOk result (λ connections. connections ≡ kept.connections) }
+        ensures cause { IfErr result (λ fault. Self.may_refuse fault) }
         ensures same { Within (Self.holds self.old) (Self.holds self.new) }
         ensures clean { Self.is_clean self.new → Self.is_clean self.old }
         ensures crash { Self.is_clean self.new
@@ -74,6 +83,7 @@ pub trait Keeper: Neighbours {
     fn apply(&mut self, change: &Change) -> Result<(), StoreFault>
         ensures ok { (kept : Tables) → Self.holds self.old kept → IsNew change.now kept
             → OnOk result (Self.holds self.new (applied change.now kept)) }
+        ensures cause { IfErr result (λ fault. Self.may_refuse fault) }
         ensures err { OnErr result (Within (Self.holds self.old) (Self.holds self.new)) }
         ensures clean { Self.is_clean self.new → Self.is_clean self.old }
 

@@ -131,12 +131,15 @@ fn rows_between(
 
 impl Neighbours for MemKeeper {
     ghost use Rattle.std.specs.Prelude.{◌≡◌};
+    ghost use Rattle.poll_book.specs.declared.fault.StoreFault.TheVariants.{Memory};
 
     ghost holds = { λ k kept. k ≡ kept };
 
     ghost is_clean = { λ _. Unit {0} };
 
     ghost may_leave = { λ k kept. k ≡ kept };
+
+    ghost may_refuse = { λ fault. fault ≡ Memory };
 
     fn reading(&mut self, point: &PointRow, slot: u32) -> Result<Option<Reading>, StoreFault> {
         let slots = slots_in(&self.histories, point.number);

@@ -1,4 +1,4 @@
-use Rattle.std.proofs.Common.{◌≡◌, ◌∙◌, subst, sym, ap}
+use Rattle.std.proofs.Common.{◌≡◌, ◌∙◌, subst, sym, ap, rules}
 use Rattle.std.specs.Prelude.{length}
 use Rattle.poll_book.specs.Tables.{Readings, new_rows}
 use Rattle.poll_book.specs.Changes.{AreNumbered, keyed}
@@ -22,6 +22,7 @@ returns-in_err-count-in_default g c =
       crash = λ clean kept e copy. on_refusal _ c.from_residual-in_err-count-in_default.result failed
           (c.in_err-count-in_default.ensures.crash clean kept e (subst (AreNumbered 0) copy.0 copy.1)
           (subst (Rises 0) (sym is) (rises_at c.args.site.now known c.args.asked.now c.args.reply.now copy.1)));
+      cause = search rules;
       err = on_err c.from_residual-in_err-count-in_default.result c.in_err-count-in_default.ensures.err;
       clean = c.keep_readings.ensures.clean;
     }
@@ -46,6 +47,7 @@ returns-in_ok-count-in_default g c =
           (ap (λ (l : Readings). with_given l kept) is ∙ sym (brought_rows site known query reply kept c.in_default.not-Excepted))
           (c.in_ok-count-in_default.ensures.crash clean kept e (subst (AreNumbered 0) copy.0 copy.1)
           (subst (Rises 0) (sym is) (rises_at site known query reply copy.1)));
+      cause = tt;
       err = tt;
       clean = c.keep_readings.ensures.clean;
     }

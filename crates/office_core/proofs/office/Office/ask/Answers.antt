@@ -7,8 +7,8 @@ use Rattle.office_core.specs.Sites.{target}
 use Rattle.office_core.specs.Cover.{is_readable}
 use Rattle.office_core.specs.Keeping.{Endures}
 use Rattle.office_core.specs.Standing.{Goes, StandsFor}
-use Rattle.office_core.proofs.Asking.{asking_refused, asking_goes}
-use Rattle.office_core.proofs.Telling.{asked_err}
+use Rattle.office_core.proofs.Asking.{ask_caused, asking_refused, asking_goes}
+use Rattle.office_core.proofs.Telling.{asked_err, caused_err}
 use Rattle.office_core.proofs.office.Office.ask.Goals as goal
 
 pub returns-in_err-next_query-clause-goes : goal.returns-in_err-next_query-clause-goes
@@ -62,3 +62,8 @@ returns-clause-crash g c clean =
     (subst (λ n. IsNextFrame (Read c.in_ok-to.to.unit_id c.in_ok-to.to.place c.args.slot c.args.read n) (held c.args.conn office.matcher) c.in_ok-next_query.field-0) count c.in_ok-next_query.ensures.frame)
     c.next_query.new.self
     (subst (λ n. Changes c.args.conn (with_query (Read c.in_ok-to.to.unit_id c.in_ok-to.to.place c.args.slot c.args.read n)) office.matcher c.next_query.new.self) count c.in_ok-next_query.ensures.next)
+
+pub returns-in_err-to-clause-cause : goal.returns-in_err-to-clause-cause
+returns-in_err-to-clause-cause g c =
+    caused_err g.K.Neighbours.may_refuse c.from_residual.result c.in_err-to.field-0.0 c.from_residual.ensures.1
+    (ask_caused g.K.Neighbours.may_refuse c.line_of-line.result c.args.self.now.site c.deref.result.now 0 c.as_bytes.result.now c.args.read c.in_err-to.field-0.0 (c.in_err-to.ensures 0))

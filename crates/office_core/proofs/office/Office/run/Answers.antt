@@ -1,10 +1,12 @@
 use Rattle.std.proofs.Common.{rules, ◌≡◌, ◌+◌, List, [], ◌∷◌, ◌++◌, length, true, cond, take, sym, ap, ◌∙◌, subst, arith, length-take}
-use Rattle.std.specs.Prelude.{is_ok}
+use Rattle.std.specs.Prelude.{All, is_ok}
+use Rattle.std.proofs.lemmas.List.Elements.{All-push}
 use Rattle.std.proofs.lemmas.List.{take_more}
 use Rattle.office_core.specs.declared.event.Event.{Event}
 use Rattle.office_core.specs.declared.event.EventAnswer.{EventAnswer}
 use Rattle.office_core.specs.History.{History}
 use Rattle.office_core.specs.Keeping.{Endures}
+use Rattle.office_core.specs.Offices.{AnswerCaused}
 use Rattle.office_core.specs.Standing.{StandsFor, Runs}
 use Rattle.office_core.proofs.Runs.{none_ran, one_ran}
 use Rattle.office_core.proofs.office.Office.run.Goals as goal
@@ -18,6 +20,7 @@ loop-event-init g c =
     record {
       each = search rules;
       room = search rules;
+      cause = search rules;
       clean = λ clean. clean;
       runs = λ _. subst (Runs stands stands []) (sym c.in_ok-told.ensures.items) (none_ran stands);
       crash = λ _. subst (Runs endures endures []) (sym c.in_ok-told.ensures.items) (none_ran endures);
@@ -47,6 +50,7 @@ loop-event-preserved g c =
     record {
       each = search rules;
       room = omega (arith, c.loop-event.invariant.room, c.push.ensures.capacity);
+      cause = subst (All (AnswerCaused g.K.Neighbours.may_refuse)) (sym items) (All-push (AnswerCaused g.K.Neighbours.may_refuse) told c.step-answer.result c.loop-event.invariant.cause c.step-answer.ensures.cause);
       clean = λ clean. c.loop-event.invariant.clean (c.step-answer.ensures.clean clean);
       runs = λ clean. subst (λ (x : List Event × List EventAnswer). Runs first last x.0 x.1) (λ k. (sym more k, sym items k))
           (one_ran first middle last (take i events) told c.event-item.result c.step-answer.result same (c.loop-event.invariant.runs (c.step-answer.ensures.clean clean)) (c.step-answer.ensures.goes clean));
