@@ -1,8 +1,13 @@
 -- What an office stands for.
-use Rattle.std.specs.Prelude.{◌≡◌, ℕ, Result, Ok, Err}
+use Rattle.std.specs.Prelude.{◌≡◌, ℕ, ⊤, List, Option, Some, None, if◌then◌else◌, Result, Ok, Err, Vec}
+use Rattle.std.specs.Global.{Global}
 use Rattle.mb_mbap.specs.declared.frame.Frame.{Frame}
 use Rattle.poll_match.specs.Window.{held}
-use Rattle.poll_book.specs.Tables.{Within}
+use Rattle.poll_book.specs.declared.rows.PointRow.{PointRow}
+use Rattle.poll_book.specs.declared.rows.ReadingRow.{ReadingRow}
+use Rattle.poll_book.specs.Changes.{as_rows}
+use Rattle.poll_book.specs.Totals.{is_counter}
+use Rattle.poll_book.specs.Tables.{Readings, Within, readings_between}
 use Rattle.poll_book.specs.declared.keeper.Neighbours.{Ghosts}
 use Rattle.office_core.specs.declared.office.Office.{Office}
 use Rattle.office_core.specs.declared.error.OfficeError.{OfficeError}
@@ -10,7 +15,8 @@ use Rattle.office_core.specs.declared.event.Arrival.{Arrival}
 use Rattle.office_core.specs.declared.event.Outcome.{Outcome}
 use Rattle.office_core.specs.declared.event.EventAnswer.{EventAnswer}
 use Rattle.office_core.specs.declared.event.EventAnswer.TheVariants as answer
-use Rattle.office_core.specs.History.{History}
+use Rattle.office_core.specs.Loads.{known_named}
+use Rattle.office_core.specs.History.{History, points, readings, total}
 use Rattle.office_core.specs.Keeping.{Endures}
 use Rattle.office_core.specs.Standing.{StandsFor}
 
@@ -46,3 +52,27 @@ asked_so (Err e) = answer.Refused e
 abbrev pub arrived : Result Arrival OfficeError → EventAnswer
 arrived (Ok arrival) = answer.Arrived arrival
 arrived (Err e) = answer.Refused e
+
+-- ---- queries by a point's name
+
+abbrev pub readings_at : History → Option PointRow → ℕ → ℕ → Option Readings
+readings_at before None from to = None
+readings_at before (Some known) from to = Some (readings_between known.number from to (readings before))
+
+-- the readings of a known point in the slots from the one to the other
+abbrev pub readings_of : History → List ℕ → ℕ → ℕ → Option Readings
+readings_of before name from to = readings_at before (known_named (points before) name) from to
+
+-- rows that are these readings, or none
+abbrev pub Shows : Option Readings → Option (Vec ReadingRow Global) → Type 0
+Shows None None = ⊤
+Shows (Some table) (Some rows) = as_rows rows.items ≡ table
+Shows table rows = ⊥
+
+abbrev pub total_at : History → Option PointRow → Option ℕ
+total_at before None = None
+total_at before (Some known) = if is_counter known.point.role then Some (total before known) else None
+
+-- how far a known counter went
+abbrev pub total_of : History → List ℕ → Option ℕ
+total_of before name = total_at before (known_named (points before) name)

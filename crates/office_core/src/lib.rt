@@ -15,4 +15,5 @@ mod text;
 
 pub use error::OfficeError;
 pub use event::{Arrival, Event, EventAnswer, LoadFault, Outcome, Reason};
+pub use office::Office;
 pub use text::Text;

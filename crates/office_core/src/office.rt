@@ -1,26 +1,26 @@
 //! The office over any keeper.
-ghost use Rattle.std.specs.Prelude.{◌≡◌, ◌≤◌, ◌++◌, ◌+◌, ℕ, IfOk, IfErr, OnOk, OnErr, MatchResult, Some, None, length, false, true, vec_len, vec_capacity};
+ghost use Rattle.std.specs.Prelude.{◌≡◌, ◌≤◌, ◌∷◌, ◌++◌, ◌+◌, ℕ, IfOk, IfErr, OnOk, OnErr, MatchResult, Some, None, length, false, true, vec_len, vec_capacity};
 ghost use Rattle.poll_book.specs.Tables.{Tables, Within};
 ghost use Rattle.point_list.specs.Sites.{IsSound};
 ghost use Rattle.office_core.specs.Sites as sites;
 ghost use Rattle.office_core.specs.Sites.{has_devices};
 ghost use Rattle.office_core.specs.Cover.{is_readable};
 ghost use Rattle.office_core.specs.History as history;
-ghost use Rattle.office_core.specs.Standing.{Goes, is_refusal};
+ghost use Rattle.office_core.specs.Standing.{Goes, Runs, is_refusal};
 
 use crate::arrival::bring;
 use crate::commit::commit;
 use crate::cover::is_readable;
 use crate::error::OfficeError;
-use crate::event::{Arrival, Event, Outcome};
-use crate::loads::judge;
+use crate::event::{Arrival, Event, EventAnswer, Outcome};
+use crate::loads::{judge, known_named};
 use crate::site::{Target, find_target, has_devices, line_place};
 use mb_mbap::Frame;
-use point_list::{Items, Site};
-use poll_book::{Change, Keeper, PointRow, StoreFault};
+use point_list::{Items, Role, Site};
+use poll_book::{Change, Keeper, PointRow, ReadingRow, StoreFault};
 use poll_match::{Asked, Conn, Matcher};
 use read_planner::Read;
-use std::alloc::Global;
+use std::alloc::{AllocError, Global};
 
 /// The device to ask, or the first refusal that holds, but for that of a connection that made all
 /// its queries.
@@ -75,8 +75,143 @@ pub struct Office<K: Keeper> {
 }
 
 impl<K: Keeper> Office<K> {
-    ghost use Rattle.office_core.specs.History.{History, Restart, tables};
-    ghost use Rattle.office_core.specs.Offices.{Stands, StandsInCrash, IsAlike, arrived, asked_so, judged, opened};
+    ghost use Rattle.office_core.specs.History.{History, Restart, tables, points};
+    ghost use Rattle.office_core.specs.Keeping.{Endures};
+    ghost use Rattle.office_core.specs.Offices.{IsAlike, Shows, Stands, StandsInCrash, arrived, asked_so, judged, opened, readings_of, total_of};
+
+    /// An office over what a keeper holds, with no connection open. A keeper that can't be read is
+    /// given back with `Store`, and one with a point whose device isn't in the site with
+    /// `SiteDiffers`. More than 10,000 points are no office's: that is `Store(Other)`.
+    pub fn new(alloc: Global, mut keeper: K, site: Site) -> Result<Office<K>, (OfficeError, K)>
+        requires { IsSound site }
+        ensures stands { IfOk result (λ office. K.is_clean office.keeper → (before : History) → K.holds keeper (tables before) → Stands office (Restart site ∷ before)) }
+        ensures crash { IfOk result (λ office. K.is_clean office.keeper → (before : History) → Endures (K.holds keeper) (K.may_leave keeper) (tables before)
+            → StandsInCrash office (Restart site ∷ before)) }
+        ensures devices { IfOk result (λ office. K.is_clean office.keeper → (kept : Tables) → K.holds keeper kept → has_devices site kept.points ≡ true) }
+        ensures differs { IfErr result (λ e. e.0 ≡ OfficeError.SiteDiffers → K.is_clean e.1 → (kept : Tables) → K.holds keeper kept → has_devices site kept.points ≡ false) }
+        ensures same { MatchResult result (λ office. Within (K.holds keeper) (K.holds office.keeper)) (λ e. Within (K.holds keeper) (K.holds e.1)) }
+        ensures clean { MatchResult result (λ office. K.is_clean office.keeper → K.is_clean keeper) (λ e. K.is_clean e.1 → K.is_clean keeper) }
+    {
+        let points = match keeper.points(alloc) {
+            Ok(points) => points,
+            Err(fault) => return Err((OfficeError::Store(fault), keeper)),
+        };
+        if !has_devices(&site, &points) {
+            return Err((OfficeError::SiteDiffers, keeper));
+        }
+        if points.len() > 10000 {
+            return Err((OfficeError::Store(StoreFault::Other), keeper));
+        }
+        Ok(Office {
+            keeper,
+            site,
+            points,
+            matcher: Matcher::new(alloc),
+            alloc,
+        })
+    }
+
+    /// The keeper again.
+    pub fn into_keeper(self) -> K
+        ensures { result ≡ self.keeper }
+    {
+        self.keeper
+    }
+
+    /// Makes the points of a list known, all or none. A list is refused for its own first fault,
+    /// then at the first row whose name is known with another definition, then where more than
+    /// 10,000 points would be known; a point that is known already changes nothing. The error is
+    /// `Store` alone.
+    pub fn load(&mut self, list: &[u8]) -> Result<Outcome, OfficeError>
+        ensures goes { K.is_clean self.new.keeper → Goes (Stands self.old) (Stands self.new) (Event.Load list.now) (judged result) }
+        ensures crash { K.is_clean self.new.keeper → Goes (StandsInCrash self.old) (StandsInCrash self.new) (Event.Load list.now) (judged result) }
+        ensures same { is_refusal (judged result) ≡ true → IsAlike self.old self.new }
+        ensures clean { K.is_clean self.new.keeper → K.is_clean self.old.keeper }
+    {
+        let (outcome, rows) = judge(self.alloc, &self.site, &self.points, list)?;
+        if rows.is_empty() {
+            return Ok(outcome);
+        }
+        self.points.reserve(rows.len())?;
+        let change = Change {
+            points: Items::from_vec(rows),
+            readings: Items::from_vec(Vec::new(self.alloc)),
+            connections: None,
+        };
+        commit(&mut self.keeper, &change)?;
+        add_points(&mut self.points, change.points.as_slice());
+        Ok(outcome)
+    }
+
+    /// Opens a line, and closes its former connection. The new one takes the number after the
+    /// keeper's last. `WrongLine` for a line that isn't in the site, `Exhausted` where no number is
+    /// left, and `Store`: then the former connection stays open, and the number isn't used.
+    pub fn open_line(&mut self, line: &str) -> Result<Conn, OfficeError>
+        ensures goes { K.is_clean self.new.keeper → Goes (Stands self.old) (Stands self.new) (Event.Open line.now) (opened result) }
+        ensures crash { K.is_clean self.new.keeper → Goes (StandsInCrash self.old) (StandsInCrash self.new) (Event.Open line.now) (opened result) }
+        ensures same { OnErr result (IsAlike self.old self.new) }
+        ensures clean { K.is_clean self.new.keeper → K.is_clean self.old.keeper }
+    {
+        let Some(line) = line_place(&self.site, line.as_bytes()) else {
+            return Err(OfficeError::WrongLine);
+        };
+        let conn = self.next_conn()?;
+        let former = self.matcher.conn_of(line);
+        self.matcher.open(conn, line)?;
+        let change = Change {
+            points: Items::from_vec(Vec::new(self.alloc)),
+            readings: Items::from_vec(Vec::new(self.alloc)),
+            connections: Some(conn.number()),
+        };
+        if let Err(fault) = commit(&mut self.keeper, &change) {
+            self.matcher.close(conn);
+            return Err(OfficeError::Store(fault));
+        }
+        if let Some(former) = former {
+            self.matcher.close(former);
+        }
+        Ok(conn)
+    }
+
+    /// The number of the next connection: one more than the keeper's last, and than those that are
+    /// open, whatever the keeper says.
+    fn next_conn(&mut self) -> Result<Conn, OfficeError>
+    {
+        let made = self.keeper.connections()?;
+        let last = made.max(self.matcher.greatest());
+        if last >= u32::MAX {
+            return Err(OfficeError::Exhausted);
+        }
+        Ok(Conn::new(last + 1))
+    }
+
+    /// Asks a device of a connection's line for the values of a slot, and gives the frame to send.
+    /// Refusals, in this order: `NoConnection`; `WrongLine` for a device that isn't one of the
+    /// connection's line; `NoRead` for a read that isn't valid, passes address 65,535 or holds no
+    /// known point whole; `Exhausted`; `Store(Memory)`. It makes no store call.
+    pub fn ask(
+        &mut self,
+        conn: Conn,
+        device: &str,
+        slot: u32,
+        read: Read,
+    ) -> Result<Frame, OfficeError>
+        ensures goes { K.is_clean self.new.keeper → Goes (Stands self.old) (Stands self.new) (Event.Ask conn device.now slot read) (asked_so result) }
+        ensures crash { K.is_clean self.new.keeper → Goes (StandsInCrash self.old) (StandsInCrash self.new) (Event.Ask conn device.now slot read) (asked_so result) }
+        ensures same { OnErr result (IsAlike self.old self.new) }
+        ensures keeper { self.new.keeper ≡ self.old.keeper }
+    {
+        let line = self.matcher.line_of(conn);
+        let to = judge_ask(&self.site, &self.points, line, device.as_bytes(), &read)?;
+        let asked = Asked::Read {
+            unit_id: to.unit_id,
+            device: to.place,
+            slot,
+            read,
+            known: self.points.len() as u32,
+        };
+        Ok(self.matcher.next_query(conn, asked)?)
+    }
 
     /// A frame came over a connection. A normal reply to a read gives a reading of the query's slot
     /// to each point that the read covers and that was known when it was asked; a point that has
@@ -99,5 +234,116 @@ impl<K: Keeper> Office<K> {
         )?;
         self.matcher.settle(conn, found.number);
         Ok(arrival)
+    }
+
+    /// Closes all connections, as a new start with the same site does.
+    pub fn restart(&mut self)
+        ensures goes { Goes (Stands self.old) (Stands self.new) Event.Restart EventAnswer.Restarted }
+        ensures crash { Goes (StandsInCrash self.old) (StandsInCrash self.new) Event.Restart EventAnswer.Restarted }
+        ensures keeper { self.new.keeper ≡ self.old.keeper }
+    {
+        self.matcher.close_all();
+    }
+
+    /// One event, answered as the call of its name answers it.
+    pub fn step(&mut self, event: &Event) -> EventAnswer
+        ensures goes { K.is_clean self.new.keeper → Goes (Stands self.old) (Stands self.new) event.now result }
+        ensures crash { K.is_clean self.new.keeper → Goes (StandsInCrash self.old) (StandsInCrash self.new) event.now result }
+        ensures same { is_refusal result ≡ true → IsAlike self.old self.new }
+        ensures clean { K.is_clean self.new.keeper → K.is_clean self.old.keeper }
+    {
+        match event {
+            Event::Load(list) => match self.load(list.as_slice()) {
+                Ok(outcome) => EventAnswer::Judged(outcome),
+                Err(error) => EventAnswer::Refused(error),
+            },
+            Event::Open(line) => match self.open_line(line.as_str()) {
+                Ok(conn) => EventAnswer::Opened(conn),
+                Err(error) => EventAnswer::Refused(error),
+            },
+            Event::Ask(conn, device, slot, read) => {
+                match self.ask(*conn, device.as_str(), *slot, *read) {
+                    Ok(frame) => EventAnswer::Query(frame),
+                    Err(error) => EventAnswer::Refused(error),
+                }
+            }
+            Event::Arrive(conn, frame) => match self.arrive(*conn, frame) {
+                Ok(arrival) => EventAnswer::Arrived(arrival),
+                Err(error) => EventAnswer::Refused(error),
+            },
+            Event::Restart => {
+                self.restart();
+                EventAnswer::Restarted
+            }
+        }
+    }
+
+    /// Many events, in order, each with its answer. Without memory for the answers none is taken.
+    pub fn run(&mut self, events: &[Event]) -> Result<Vec<EventAnswer>, AllocError>
+        ensures each { IfOk result (λ told. length told.items ≡ length events.now) }
+        ensures runs { K.is_clean self.new.keeper → IfOk result (λ told. Runs (Stands self.old) (Stands self.new) events.now told.items) }
+        ensures crash { K.is_clean self.new.keeper → IfOk result (λ told. Runs (StandsInCrash self.old) (StandsInCrash self.new) events.now told.items) }
+        ensures clean { K.is_clean self.new.keeper → K.is_clean self.old.keeper }
+        ensures memory { OnErr result (self.new ≡ self.old) }
+    {
+        let mut told = Vec::with_capacity(self.alloc, events.len())?;
+        for event in events {
+            let answer = self.step(event);
+            let _ = told.push(answer);
+        }
+        Ok(told)
+    }
+
+    /// The readings of a point in the slots `from` to `to`, by slot; `None` for an unknown point.
+    pub fn readings(
+        &mut self,
+        point: &str,
+        from: u32,
+        to: u32,
+    ) -> Result<Option<Vec<ReadingRow>>, OfficeError>
+        ensures value { K.is_clean self.new.keeper → (before : History) → Stands self.old before
+            → IfOk result (λ rows. Shows (readings_of before point.now from to) rows) }
+        ensures same { IsAlike self.old self.new }
+        ensures clean { K.is_clean self.new.keeper → K.is_clean self.old.keeper }
+    {
+        let Some(row) = known_named(&self.points, point.as_bytes()) else {
+            return Ok(None);
+        };
+        let rows = self
+            .keeper
+            .readings(self.alloc, row.number, from, to)?;
+        Ok(Some(rows))
+    }
+
+    /// How far a counter went by its counted readings; `None` where no counter of this name is
+    /// known.
+    pub fn total(&mut self, point: &str) -> Result<Option<u128>, OfficeError>
+        ensures value { K.is_clean self.new.keeper → (before : History) → Stands self.old before
+            → IfOk result (λ sum. sum ≡ total_of before point.now) }
+        ensures same { IsAlike self.old self.new }
+        ensures clean { K.is_clean self.new.keeper → K.is_clean self.old.keeper }
+    {
+        let Some(row) = known_named(&self.points, point.as_bytes()) else {
+            return Ok(None);
+        };
+        if row.point.role != Role::Counter {
+            return Ok(None);
+        }
+        Ok(Some(self.keeper.total(&row)?))
+    }
+
+    /// The known points, by their numbers.
+    pub fn points(&self) -> &[PointRow]
+        ensures value { result.now ≡ self.now.points.items }
+        ensures history { (before : History) → Stands self.now before → result.now ≡ points before }
+    {
+        &self.points
+    }
+
+    /// The site in force.
+    pub fn site(&self) -> &Site
+        ensures { result.now ≡ self.now.site }
+    {
+        &self.site
     }
 }
