@@ -2,13 +2,18 @@
 ghost use Rattle.std.specs.Prelude.{IfOk};
 ghost use Rattle.point_list.specs.Sites.{IsSound};
 
+mod faults;
+mod memory;
+mod refusals;
+mod refusing;
 mod rows;
+mod totals;
 
-use crate::{Arrival, EventAnswer, Office, OfficeError, Outcome};
+use crate::{Arrival, Event, EventAnswer, Office, OfficeError, Outcome, Text};
 use mb_mbap::Frame;
 use mb_pdu::{Span, Unit};
-use point_list::{ListFault, Site, read_site};
-use poll_book::{MemKeeper, StoreFault};
+use point_list::{Items, ListFault, Site, read_site};
+use poll_book::{Keeper, MemKeeper, StoreFault};
 use poll_match::Conn;
 use read_planner::Read;
 use std::alloc::Global;
@@ -16,9 +21,11 @@ use std::process::Abort;
 
 const HEADER: &str = "name,device,table,address,type,length,scale,role,roll\n";
 
-const ROOF: &str = "[[line]]\nname = \"roof\"\naddress = \"127.0.0.1:502\"\n[[device]]\nname = \"m1\"\nline = \"roof\"\nunit = 17\ngap = 8\n";
+const ROOF: &str =
+    "[[line]]\nname = \"roof\"\naddress = \"127.0.0.1:502\"\n[[device]]\nname = \"m1\"\nline = \"roof\"\nunit = 17\ngap = 8\n";
 
-const GAUGES: &str = "a,m1,holding,107,uint16,,,gauge,\nb,m1,holding,108,uint16,,,gauge,\nc,m1,holding,109,uint16,,,gauge,\n";
+const GAUGES: &str =
+    "a,m1,holding,107,uint16,,,gauge,\nb,m1,holding,108,uint16,,,gauge,\nc,m1,holding,109,uint16,,,gauge,\n";
 
 /// Three registers: 555, 0, 100.
 const THREE: [u8; 8] = [3, 6, 0x02, 0x2B, 0, 0, 0, 0x64];
@@ -31,7 +38,7 @@ fn site(alloc: Global, text: &str) -> Result<Site, OfficeError>
     match read_site(alloc, text.as_bytes()) {
         Ok(site) => Ok(site),
         Err(e) if e.fault == ListFault::Memory => Err(MEMORY),
-        Err(_) => Err(OfficeError::SiteDiffers),
+        Err(_) => Err(OfficeError::NoRead),
     }
 }
 
@@ -126,4 +133,50 @@ fn assert_reading(
         assert_eq!(rt; row.words.as_slice(), words, "{point}");
     }
     Ok(())
+}
+
+fn push<T: Drop>(items: &mut Vec<T>, item: T) -> Result<(), OfficeError> {
+    match items.push(item) {
+        Ok(()) => Ok(()),
+        Err(_) => Err(MEMORY),
+    }
+}
+
+fn load_event(alloc: Global, records: &str) -> Result<Event, OfficeError> {
+    let list = format!(in alloc; "{HEADER}{records}")?;
+    let bytes = Vec::from_slice(alloc, list.as_bytes())?;
+    Ok(Event::Load(Items::from_vec(bytes)))
+}
+
+fn text(alloc: Global, name: &str) -> Result<Text, OfficeError> {
+    Ok(Text::from_string(String::from_str(alloc, name)?))
+}
+
+fn open_event(alloc: Global, line: &str) -> Result<Event, OfficeError> {
+    Ok(Event::Open(text(alloc, line)?))
+}
+
+/// A read of device m1.
+fn ask_event(alloc: Global, conn: Conn, slot: u32, read: Read) -> Result<Event, OfficeError> {
+    Ok(Event::Ask(conn, text(alloc, "m1")?, slot, read))
+}
+
+/// A reply of device 17.
+fn arrive_event(conn: Conn, transaction: u16, bytes: &[u8]) -> Result<Event, OfficeError> {
+    Ok(Event::Arrive(conn, frame(transaction, 17, bytes)?))
+}
+
+/// The points, readings and totals as text.
+fn shown<K: Keeper>(alloc: Global, office: &mut Office<K>) -> Result<String, OfficeError> {
+    let mut text = String::new(alloc);
+    for point in ["a", "b", "c", "e", "f"] {
+        let rows = office.readings(point, 0, u32::MAX)?;
+        let total = office.total(point)?;
+        let line = format!(in alloc; "{point} {rows:?} {total:?}\n")?;
+        text.push_str(line.as_str())?;
+    }
+    let count = office.points().len();
+    let line = format!(in alloc; "{count} points")?;
+    text.push_str(line.as_str())?;
+    Ok(text)
 }

@@ -38,7 +38,10 @@ fn assert_exception(rt: &impl Abort, alloc: Global) -> Result<(), OfficeError> {
     let mut office = office_of(alloc, GAUGES)?;
     let conn = office.open_line("roof")?;
     office.ask(conn, "m1", 5, read(3, 107, 3))?;
-    assert_eq!(rt; reply(&mut office, conn, 0, &[0x83, 2])?, Arrival::Excepted(2));
+    assert_eq!(rt;
+        reply(&mut office, conn, 0, &[0x83, 2])?,
+        Arrival::Excepted(2)
+    );
     assert_reading(rt, &mut office, "a", 5, &[])?;
     let answer = reply(&mut office, conn, 0, &THREE);
     assert_eq!(rt; refusal(answer)?, Some(OfficeError::Repeat));
@@ -77,7 +80,8 @@ fn points_of_later_lists_wait(rt: HostRuntime) -> Result<(), Fail> {
     Ok(())
 }
 
-const BITS: &str = "on,m1,coil,3,bit,,,gauge,\noff,m1,coil,5,bit,,,gauge,\nfar,m1,coil,13,bit,,,gauge,\nin,m1,discrete,12,bit,,,gauge,\n";
+const BITS: &str =
+    "on,m1,coil,3,bit,,,gauge,\noff,m1,coil,5,bit,,,gauge,\nfar,m1,coil,13,bit,,,gauge,\nin,m1,discrete,12,bit,,,gauge,\n";
 
 fn assert_bits(rt: &impl Abort, alloc: Global) -> Result<(), OfficeError> {
     let mut office = office_of(alloc, BITS)?;
@@ -90,7 +94,10 @@ fn assert_bits(rt: &impl Abort, alloc: Global) -> Result<(), OfficeError> {
     assert_reading(rt, &mut office, "far", 1, &[])?;
     assert_reading(rt, &mut office, "in", 1, &[])?;
     office.ask(conn, "m1", 1, read(2, 4, 9))?;
-    assert_eq!(rt; reply(&mut office, conn, 1, &[2, 2, 0, 1])?, Arrival::Recorded(1));
+    assert_eq!(rt;
+        reply(&mut office, conn, 1, &[2, 2, 0, 1])?,
+        Arrival::Recorded(1)
+    );
     assert_reading(rt, &mut office, "in", 1, &[1])
 }
 
@@ -102,7 +109,8 @@ fn bits_are_ones_and_zeros(rt: HostRuntime) -> Result<(), Fail> {
     Ok(())
 }
 
-const LONG: &str = "label,m1,input,12,string,5,,gauge,\nenergy,m1,input,18,acc64,,,counter,\ncut,m1,input,22,uint32,,,gauge,\n";
+const LONG: &str =
+    "label,m1,input,12,string,5,,gauge,\nenergy,m1,input,18,acc64,,,counter,\ncut,m1,input,22,uint32,,,gauge,\n";
 
 fn assert_long(rt: &impl Abort, alloc: Global) -> Result<(), OfficeError> {
     let mut office = office_of(alloc, LONG)?;
@@ -118,7 +126,13 @@ fn assert_long(rt: &impl Abort, alloc: Global) -> Result<(), OfficeError> {
     // Register 10 stands in the bytes 2 and 3.
     let label = [0x0607, 0x0809, 0x0A0B, 0x0C0D, 0x0E0F];
     assert_reading(rt, &mut office, "label", 9, &label)?;
-    assert_reading(rt, &mut office, "energy", 9, &[0x1213, 0x1415, 0x1617, 0x1819])?;
+    assert_reading(
+        rt,
+        &mut office,
+        "energy",
+        9,
+        &[0x1213, 0x1415, 0x1617, 0x1819],
+    )?;
     assert_reading(rt, &mut office, "cut", 9, &[])
 }
 
