@@ -3,7 +3,9 @@ ghost use Rattle.std.specs.Prelude.{IfOk};
 ghost use Rattle.point_list.specs.Sites.{IsSound};
 
 mod faults;
+mod histories;
 mod memory;
+mod model;
 mod refusals;
 mod refusing;
 mod rows;

@@ -18,7 +18,7 @@ const TWO: &str =
 const BARE: &str =
     "[[line]]\nname = \"roof\"\naddress = \"127.0.0.1:502\"\n[[device]]\nname = \"m2\"\nline = \"roof\"\nunit = 17\n";
 
-fn office_of_two(alloc: Global) -> Result<Office<MemKeeper>, OfficeError> {
+pub(crate) fn office_of_two(alloc: Global) -> Result<Office<MemKeeper>, OfficeError> {
     match Office::new(alloc, MemKeeper::new(alloc), site(alloc, TWO)?) {
         Ok(office) => Ok(office),
         Err((error, _)) => Err(error),
