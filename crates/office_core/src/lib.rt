@@ -17,3 +17,6 @@ pub use error::OfficeError;
 pub use event::{Arrival, Event, EventAnswer, LoadFault, Outcome, Reason};
 pub use office::Office;
 pub use text::Text;
+
+#[cfg(test)]
+mod tests;
