@@ -8,10 +8,11 @@ use std::env;
 mod frames;
 mod lists;
 mod map;
+mod office;
 mod pace;
 mod units;
 
-const WORDS: &str = "units frames map lists";
+const WORDS: &str = "units frames map lists office";
 
 fn main(rt: HostRuntime) -> Result<()> {
     for word in env::args(&rt)?.skip(1) {
@@ -20,6 +21,7 @@ fn main(rt: HostRuntime) -> Result<()> {
             "frames" => frames::measure(&rt)?,
             "map" => map::measure(&rt)?,
             "lists" => lists::measure(&rt)?,
+            "office" => office::measure(&rt)?,
             other => bail!("no measure '{other}'; there are: {WORDS}"),
         }
     }

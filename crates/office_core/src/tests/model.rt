@@ -187,12 +187,13 @@ pub(crate) fn queries(
 ) -> Result<Vec<Query>, OfficeError> {
     let mut queries = Vec::new(alloc);
     for place in 0..past.len() {
+        let happened = past[place];
         if let Happened::Ask {
             conn,
             slot,
             start,
             quantity,
-        } = past[place]
+        } = happened
             && conn == of
         {
             let known = known(alloc, &past[..place])?;
@@ -244,12 +245,13 @@ fn is_answered(
     number: u16,
 ) -> Result<bool, OfficeError> {
     for place in 0..past.len() {
+        let happened = past[place];
         if let Happened::Arrive {
             conn,
             transaction,
             unit_id,
             brought,
-        } = past[place]
+        } = happened
             && conn == of
             && transaction == number
             && let Ok(query) = query_of(alloc, &past[..place], conn, transaction, unit_id)?
@@ -297,12 +299,13 @@ fn give(
 pub(crate) fn all_given(alloc: Global, past: &[Happened]) -> Result<Vec<Given>, OfficeError> {
     let mut given = Vec::new(alloc);
     for place in 0..past.len() {
+        let happened = past[place];
         if let Happened::Arrive {
             conn,
             transaction,
             unit_id,
             brought: Brought::Words(number, count),
-        } = past[place]
+        } = happened
             && let Ok(query) = query_of(alloc, &past[..place], conn, transaction, unit_id)?
             && fits(&query, Brought::Words(number, count))
             && !is_answered(alloc, &past[..place], conn, transaction)?
