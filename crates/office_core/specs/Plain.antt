@@ -1,0 +1,32 @@
+-- Happenings as a program holds them.
+use Rattle.std.specs.Prelude.{List, [], ◌∷◌, ⊤}
+use Rattle.point_list.specs.Sites.{IsSound}
+use Rattle.office_core.specs.declared.plain.Happening.{Happening as Held}
+use Rattle.office_core.specs.declared.plain.Happening.TheVariants as held
+use Rattle.office_core.specs.History.{Happening, Restart, Load, Open, Ask, Reply, Noise, History}
+
+abbrev pub happening_of : Held → Happening
+happening_of (held.Restart site) = Restart site
+happening_of (held.Load list) = Load list
+happening_of (held.Open line) = Open line
+happening_of (held.Ask conn device slot read) = Ask conn device slot read
+happening_of (held.Reply conn number unit) = Reply conn number unit
+happening_of (held.Noise conn frame) = Noise conn frame
+
+-- the history that is held, the newest first
+abbrev pub history_of : List Held → History
+history_of [] = []
+history_of (happening ∷ before) = happening_of happening ∷ history_of before
+
+abbrev pub HasSoundSite : Held → Type 0
+HasSoundSite (held.Restart site) = IsSound site
+HasSoundSite (held.Load list) = ⊤
+HasSoundSite (held.Open line) = ⊤
+HasSoundSite (held.Ask conn device slot read) = ⊤
+HasSoundSite (held.Reply conn number unit) = ⊤
+HasSoundSite (held.Noise conn frame) = ⊤
+
+-- each site is sound
+abbrev pub AreSound : List Held → Type 0
+AreSound [] = ⊤
+AreSound (happening ∷ before) = HasSoundSite happening × AreSound before
