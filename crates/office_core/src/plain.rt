@@ -1,14 +1,18 @@
 //! What follows from a list of happenings, by that list alone: plain and slow.
-ghost use Rattle.std.specs.Prelude.{◌≡◌, ◌+◌, is_none, if◌then◌else◌};
+ghost use Rattle.std.specs.Prelude.{◌≡◌, ◌≤◌, ◌+◌, ◌++◌, is_none, if◌then◌else◌, length, IfOk, IfErr};
 ghost use Rattle.office_core.specs.History as history;
 ghost use Rattle.office_core.specs.Sites as sites;
+ghost use Rattle.office_core.specs.Loads as loads;
 ghost use Rattle.office_core.specs.Plain.{AreSound, history_of};
 
+use crate::loads::judge;
 use crate::site::{Target, find_target, line_place};
 use crate::text::Text;
 use mb_mbap::Frame;
 use point_list::{Items, Site};
+use poll_book::{PointRow, StoreFault};
 use read_planner::Read;
+use std::alloc::Global;
 
 /// What may happen. A reply is named by its connection and the number of its query there.
 #[derive(Debug, Drop)]
@@ -76,5 +80,113 @@ pub fn connections(before: &[Happening]) -> u32
     match first {
         Happening::Open(line) => with_opened(connections(rest), place_of_line(rest, line)),
         _ => connections(rest),
+    }
+}
+
+fn line_after(line: Option<u16>, new: u32, conn: u32, former: Option<u16>) -> Option<u16>
+    ensures { result ≡ history.line_after line new conn former }
+{
+    if conn == new {
+        return line;
+    }
+    match (line, former) {
+        (Some(line), Some(former)) if line == former => None,
+        _ => former,
+    }
+}
+
+/// The line of a connection once a line was opened, or refused.
+fn line_once_opened(
+    line: Option<u16>,
+    made: u32,
+    conn: u32,
+    former: Option<u16>,
+) -> Option<u16>
+    ensures { result ≡ (if is_none (history.open_fault line made) then history.line_after line (made + 1) conn former else former) }
+{
+    match line {
+        Some(_) if made < u32::MAX => line_after(line, made + 1, conn, former),
+        _ => former,
+    }
+}
+
+/// The place of the line of a connection that is open.
+pub fn open_line(before: &[Happening], conn: u32) -> Option<u16>
+    requires { AreSound before.now }
+    ensures { result ≡ history.open_line (history_of before.now) conn }
+{
+    let [first, rest @ ..] = before else {
+        return None;
+    };
+    match first {
+        Happening::Restart(_) => None,
+        Happening::Open(line) => {
+            let former = open_line(rest, conn);
+            line_once_opened(place_of_line(rest, line), connections(rest), conn, former)
+        }
+        _ => open_line(rest, conn),
+    }
+}
+
+fn no_site(alloc: Global) -> Site
+    ensures { result ≡ sites.no_site }
+{
+    Site {
+        lines: Items::from_vec(Vec::new(alloc)),
+        devices: Items::from_vec(Vec::new(alloc)),
+    }
+}
+
+/// The rows of the points that a list adds by the site in force.
+fn added(
+    alloc: Global,
+    before: &[Happening],
+    known: &[PointRow],
+    list: &[u8],
+) -> Result<Vec<PointRow>, StoreFault>
+    requires { length known.now ≤ 10000 }
+    ensures rows { IfOk result (λ rows. rows.items ≡ loads.added (length known.now) (loads.loading (history.site_of (history_of before.now)) known.now list.now)) }
+    ensures few { IfOk result (λ rows. length known.now + length rows.items ≤ 10000) }
+    ensures memory { IfErr result (λ e. e ≡ StoreFault.Memory) }
+{
+    let [first, rest @ ..] = before else {
+        return Ok(judge(alloc, &no_site(alloc), known, list)?.1);
+    };
+    match first {
+        Happening::Restart(site) => Ok(judge(alloc, site, known, list)?.1),
+        _ => added(alloc, rest, known, list),
+    }
+}
+
+/// These points, and those that a list adds by the site in force.
+fn with_loaded(
+    alloc: Global,
+    before: &[Happening],
+    mut known: Vec<PointRow>,
+    list: &[u8],
+) -> Result<Vec<PointRow>, StoreFault>
+    requires { length known.items ≤ 10000 }
+    ensures rows { IfOk result (λ rows. rows.items ≡ known.items ++ loads.added (length known.items) (loads.loading (history.site_of (history_of before.now)) known.items list.now)) }
+    ensures few { IfOk result (λ rows. length rows.items ≤ 10000) }
+    ensures memory { IfErr result (λ e. e ≡ StoreFault.Memory) }
+{
+    let rows = added(alloc, before, &known, list)?;
+    known.extend_from_slice(&rows)?;
+    Ok(known)
+}
+
+/// The points that were accepted, in order.
+pub fn points(alloc: Global, before: &[Happening]) -> Result<Vec<PointRow>, StoreFault>
+    ensures rows { IfOk result (λ rows. rows.items ≡ history.points (history_of before.now)) }
+    ensures few { IfOk result (λ rows. length rows.items ≤ 10000) }
+    ensures memory { IfErr result (λ e. e ≡ StoreFault.Memory) }
+{
+    let [first, rest @ ..] = before else {
+        return Ok(Vec::new(alloc));
+    };
+    let known = points(alloc, rest)?;
+    match first {
+        Happening::Load(list) => with_loaded(alloc, rest, known, list.as_slice()),
+        _ => Ok(known),
     }
 }
