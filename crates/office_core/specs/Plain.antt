@@ -1,8 +1,10 @@
 -- Happenings as a program holds them.
-use Rattle.std.specs.Prelude.{List, [], ◌∷◌, ⊤}
+use Rattle.std.specs.Prelude.{List, [], ◌∷◌, map, ⊤}
 use Rattle.point_list.specs.Sites.{IsSound}
 use Rattle.office_core.specs.declared.plain.Happening.{Happening as Held}
 use Rattle.office_core.specs.declared.plain.Happening.TheVariants as held
+use Rattle.office_core.specs.declared.plain.Question.{Question as HeldQuestion}
+use Rattle.office_core.specs.Cover.{Question}
 use Rattle.office_core.specs.History.{Happening, Restart, Load, Open, Ask, Reply, Noise, History}
 
 abbrev pub happening_of : Held → Happening
@@ -30,3 +32,9 @@ HasSoundSite (held.Noise conn frame) = ⊤
 abbrev pub AreSound : List Held → Type 0
 AreSound [] = ⊤
 AreSound (happening ∷ before) = HasSoundSite happening × AreSound before
+
+abbrev pub question_of : HeldQuestion → Question
+question_of q = record { device = q.device; place = q.place; unit_id = q.unit_id; slot = q.slot; read = q.read; known = q.known }
+
+abbrev pub questions_of : List HeldQuestion → List Question
+questions_of queries = map question_of queries

@@ -1,18 +1,22 @@
 //! What follows from a list of happenings, by that list alone: plain and slow.
-ghost use Rattle.std.specs.Prelude.{◌≡◌, ◌≤◌, ◌+◌, ◌++◌, is_none, if◌then◌else◌, length, IfOk, IfErr};
+ghost use Rattle.std.specs.Prelude.{◌≡◌, ◌≤◌, ◌+◌, ◌++◌, ◌∷◌, [], is_none, if◌then◌else◌, length, slice_get, IfOk, IfErr};
 ghost use Rattle.office_core.specs.History as history;
 ghost use Rattle.office_core.specs.Sites as sites;
 ghost use Rattle.office_core.specs.Loads as loads;
-ghost use Rattle.office_core.specs.Plain.{AreSound, history_of};
+ghost use Rattle.office_core.specs.Cover as cover;
+ghost use Rattle.read_planner.specs.Read.{read_request};
+ghost use Rattle.office_core.specs.Plain.{AreSound, history_of, question_of, questions_of};
 
+use crate::cover::is_readable;
 use crate::loads::judge;
 use crate::site::{Target, find_target, line_place};
 use crate::text::Text;
 use mb_mbap::Frame;
+use mb_pdu::{Reply, Request};
 use point_list::{Items, Site};
 use poll_book::{PointRow, StoreFault};
 use read_planner::Read;
-use std::alloc::Global;
+use std::alloc::{AllocError, Global};
 
 /// What may happen. A reply is named by its connection and the number of its query there.
 #[derive(Debug, Drop)]
@@ -29,6 +33,18 @@ pub enum Happening {
     Reply(u32, u32, Items<u8>),
     /// Any other frame that came over a connection.
     Noise(u32, Frame),
+}
+
+/// What a query asks: of which device, in which slot, and how many points were known.
+#[derive(Debug, Drop)]
+pub struct Question {
+    pub device: Items<u8>,
+    /// The place of the device in its site.
+    pub place: u16,
+    pub unit_id: u8,
+    pub slot: u32,
+    pub read: Read,
+    pub known: u32,
 }
 
 /// The place of the line of a name in the site in force.
@@ -188,5 +204,181 @@ pub fn points(alloc: Global, before: &[Happening]) -> Result<Vec<PointRow>, Stor
     match first {
         Happening::Load(list) => with_loaded(alloc, rest, known, list.as_slice()),
         _ => Ok(known),
+    }
+}
+
+fn may_ask_to(
+    to: Option<Target>,
+    line: u16,
+    known: &[PointRow],
+    made: usize,
+    device: &[u8],
+    read: &Read,
+) -> bool
+    ensures { result ≡ is_none (history.ask_fault_on to line known.now made device.now read.now) }
+{
+    match to {
+        Some(to) => to.line == line && is_readable(known, device, read) && made < 4294967295,
+        None => false,
+    }
+}
+
+/// Whether an Ask of a connection that made so many queries is accepted.
+fn may_ask(
+    before: &[Happening],
+    conn: u32,
+    known: &[PointRow],
+    made: usize,
+    device: &Text,
+    read: &Read,
+) -> bool
+    requires { AreSound before.now }
+    ensures { result ≡ is_none (history.ask_fault (history.open_line (history_of before.now) conn) (history.site_of (history_of before.now)) known.now made device.now read.now) }
+{
+    match open_line(before, conn) {
+        Some(line) => {
+            let to = target_named(before, device);
+            may_ask_to(to, line, known, made, device.as_str().as_bytes(), read)
+        }
+        None => false,
+    }
+}
+
+fn question_to(
+    alloc: Global,
+    to: Option<Target>,
+    device: &[u8],
+    slot: u32,
+    read: &Read,
+    known: u32,
+) -> Result<Question, AllocError>
+    ensures { IfOk result (λ q. question_of q ≡ history.question_to to device.now slot read.now known) }
+{
+    let (place, unit_id) = match to {
+        Some(to) => (to.place, to.unit_id),
+        None => (0, 0),
+    };
+    Ok(Question {
+        device: Items::from_vec(Vec::from_slice(alloc, device)?),
+        place,
+        unit_id,
+        slot,
+        read: *read,
+        known,
+    })
+}
+
+/// These queries of a connection, and one more where it is accepted.
+fn with_asked(
+    alloc: Global,
+    before: &[Happening],
+    conn: u32,
+    mut queries: Vec<Question>,
+    device: &Text,
+    slot: u32,
+    read: &Read,
+) -> Result<Vec<Question>, StoreFault>
+    requires { AreSound before.now }
+    ensures queries { IfOk result (λ all. questions_of all.items ≡ (
+      if is_none (history.ask_fault (history.open_line (history_of before.now) conn) (history.site_of (history_of before.now))
+        (history.points (history_of before.now)) (length queries.items) device.now read.now)
+      then questions_of queries.items ++ history.question (history.site_of (history_of before.now)) (history.points (history_of before.now)) device.now slot read.now ∷ []
+      else questions_of queries.items)) }
+    ensures memory { IfErr result (λ e. e ≡ StoreFault.Memory) }
+{
+    let known = points(alloc, before)?;
+    if may_ask(before, conn, &known, queries.len(), device, read) {
+        let to = target_named(before, device);
+        let count = known.len() as u32;
+        queries.push(question_to(alloc, to, device.as_str().as_bytes(), slot, read, count)?)?;
+    }
+    Ok(queries)
+}
+
+/// The queries that a connection made, in order.
+pub fn asked(
+    alloc: Global,
+    before: &[Happening],
+    conn: u32,
+) -> Result<Vec<Question>, StoreFault>
+    requires { AreSound before.now }
+    ensures queries { IfOk result (λ queries. questions_of queries.items ≡ history.asked (history_of before.now) conn) }
+    ensures memory { IfErr result (λ e. e ≡ StoreFault.Memory) }
+{
+    let [first, rest @ ..] = before else {
+        return Ok(Vec::new(alloc));
+    };
+    let queries = asked(alloc, rest, conn)?;
+    match first {
+        Happening::Ask(c, device, slot, read) if *c == conn => {
+            with_asked(alloc, rest, conn, queries, device, *slot, read)
+        }
+        _ => Ok(queries),
+    }
+}
+
+fn request_of(read: &Read) -> Request
+    ensures { result ≡ read_request read.now }
+{
+    match read.function {
+        1 => Request::ReadCoils(read.span),
+        2 => Request::ReadDiscrete(read.span),
+        3 => Request::ReadHolding(read.span),
+        _ => Request::ReadInput(read.span),
+    }
+}
+
+fn fits(query: &Question, unit: &[u8]) -> bool
+    ensures { result ≡ cover.fits (question_of query.now) unit.now }
+{
+    Reply::decode(&request_of(&query.read), unit).is_ok()
+}
+
+fn fits_number(queries: &[Question], number: u32, unit: &[u8]) -> bool
+    ensures { result ≡ history.fits_query (slice_get (questions_of queries.now) number) unit.now }
+{
+    match queries.get(number as usize) {
+        Some(query) => fits(query, unit),
+        None => false,
+    }
+}
+
+fn fits_query(
+    alloc: Global,
+    before: &[Happening],
+    conn: u32,
+    number: u32,
+    unit: &[u8],
+) -> Result<bool, StoreFault>
+    requires { AreSound before.now }
+    ensures fits { IfOk result (λ fits. fits ≡ history.fits_query (slice_get (history.asked (history_of before.now) conn) number) unit.now) }
+    ensures memory { IfErr result (λ e. e ≡ StoreFault.Memory) }
+{
+    let queries = asked(alloc, before, conn)?;
+    Ok(fits_number(&queries, number, unit))
+}
+
+/// Whether the query of a connection was answered.
+pub fn is_answered(
+    alloc: Global,
+    before: &[Happening],
+    conn: u32,
+    number: u32,
+) -> Result<bool, StoreFault>
+    requires { AreSound before.now }
+    ensures answered { IfOk result (λ answered. answered ≡ history.is_answered (history_of before.now) conn number) }
+    ensures memory { IfErr result (λ e. e ≡ StoreFault.Memory) }
+{
+    let [first, rest @ ..] = before else {
+        return Ok(false);
+    };
+    if is_answered(alloc, rest, conn, number)? {
+        return Ok(true);
+    }
+    match first {
+        Happening::Reply(c, n, unit) if *c == conn && *n == number => {
+            fits_query(alloc, rest, conn, number, unit.as_slice())
+        }
+        _ => Ok(false),
     }
 }
