@@ -20,3 +20,4 @@ pub mod FirstArrivals
 pub mod BySlot
 pub mod Asking
 pub mod Opening
+pub mod GivenPlainly

@@ -1,20 +1,22 @@
 //! What follows from a list of happenings, by that list alone: plain and slow.
-ghost use Rattle.std.specs.Prelude.{◌≡◌, ◌≤◌, ◌+◌, ◌++◌, ◌∷◌, [], is_none, if◌then◌else◌, length, slice_get, IfOk, IfErr};
+ghost use Rattle.std.specs.Prelude.{◌≡◌, ◌≤◌, ◌+◌, ◌++◌, ◌∷◌, [], ◌<◌, is_none, is_some, if◌then◌else◌, length, slice_get, take, IfOk, IfErr, IfSome, Some};
 ghost use Rattle.office_core.specs.History as history;
 ghost use Rattle.office_core.specs.Sites as sites;
 ghost use Rattle.office_core.specs.Loads as loads;
 ghost use Rattle.office_core.specs.Cover as cover;
 ghost use Rattle.read_planner.specs.Read.{read_request};
-ghost use Rattle.office_core.specs.Plain.{AreSound, history_of, question_of, questions_of};
+ghost use Rattle.office_core.specs.Plain.{AreSound, history_of, question_of, questions_of, is_excepted, is_normal};
+ghost use Rattle.poll_book.specs.Changes.{as_row, as_rows, keyed};
+ghost use Rattle.poll_book.specs.Totals.{is_counted};
 
-use crate::cover::is_readable;
+use crate::cover::{covered, is_readable};
 use crate::loads::judge;
 use crate::site::{Target, find_target, line_place};
 use crate::text::Text;
 use mb_mbap::Frame;
-use mb_pdu::{Reply, Request};
+use mb_pdu::{Registers, Reply, Request};
 use point_list::{Items, Site};
-use poll_book::{PointRow, StoreFault};
+use poll_book::{PointRow, ReadingRow, StoreFault, Words, counted_number};
 use read_planner::Read;
 use std::alloc::{AllocError, Global};
 
@@ -381,4 +383,144 @@ pub fn is_answered(
         }
         _ => Ok(false),
     }
+}
+
+fn row_of(
+    alloc: Global,
+    known: &PointRow,
+    slot: u32,
+    words: &[u16],
+) -> Result<ReadingRow, AllocError>
+    requires not_empty { 0 < length words.now }
+    requires short { length words.now ≤ 125 }
+    ensures { IfOk result (λ row. as_row row ≡ ((known.now.number, slot), record {
+      words = words.now;
+      counted = is_counted known.now.point words.now;
+    })) }
+{
+    Ok(ReadingRow {
+        point: known.number,
+        slot,
+        words: Words::new(alloc, words)?,
+        counted: counted_number(&known.point, words).is_some(),
+    })
+}
+
+fn rows_of(
+    alloc: Global,
+    covered: &[(PointRow, Registers)],
+    slot: u32,
+) -> Result<Vec<ReadingRow>, AllocError>
+    ensures { IfOk result (λ rows. as_rows rows.items ≡ keyed slot covered.now) }
+{
+    let mut rows = Vec::new(alloc);
+    for entry in covered {
+        rows.push(row_of(alloc, &entry.0, slot, entry.1.as_slice())?)?;
+    }
+    Ok(rows)
+}
+
+/// What a reply gives to the points that were known to its query.
+fn given_rows(
+    alloc: Global,
+    known: &[PointRow],
+    query: &Question,
+    reply: &Reply,
+) -> Result<Vec<ReadingRow>, AllocError>
+    requires { cover.Brings query.now.read reply.now }
+    ensures { IfOk result (λ rows. as_rows rows.items
+      ≡ keyed query.now.slot (cover.given_of (take query.now.known known.now) query.now.device query.now.read (cover.reply_cells reply.now))) }
+{
+    let count = known.len().min(query.known as usize);
+    let device = query.device.as_slice();
+    let covered = covered(alloc, &known[..count], device, &query.read, reply)?;
+    rows_of(alloc, &covered, query.slot)
+}
+
+fn is_excepted(reply: &Reply) -> bool
+    ensures { result ≡ is_excepted reply.now }
+{
+    match reply {
+        Reply::Excepted(_) => true,
+        _ => false,
+    }
+}
+
+/// The reply to a read that a unit spells, if it is no exception.
+fn normal_reply(read: &Read, unit: &[u8]) -> Option<Reply>
+    ensures some { is_some result ≡ is_normal read.now unit.now }
+    ensures cells { IfSome result (λ reply. cover.cells read.now unit.now ≡ cover.reply_cells reply) }
+    ensures brings { IfSome result (λ reply. cover.Brings read.now reply) }
+{
+    match Reply::decode(&request_of(read), unit) {
+        Ok(reply) if !is_excepted(&reply) => Some(reply),
+        _ => None,
+    }
+}
+
+fn given_to(
+    alloc: Global,
+    known: &[PointRow],
+    query: &Question,
+    unit: &[u8],
+) -> Result<Vec<ReadingRow>, AllocError>
+    ensures { IfOk result (λ rows. as_rows rows.items ≡ history.given_by known.now (Some (question_of query.now)) unit.now) }
+{
+    match normal_reply(&query.read, unit) {
+        Some(reply) => given_rows(alloc, known, query, &reply),
+        None => Ok(Vec::new(alloc)),
+    }
+}
+
+fn given_to_number(
+    alloc: Global,
+    known: &[PointRow],
+    queries: &[Question],
+    number: u32,
+    unit: &[u8],
+) -> Result<Vec<ReadingRow>, AllocError>
+    ensures { IfOk result (λ rows. as_rows rows.items ≡ history.given_by known.now (slice_get (questions_of queries.now) number) unit.now) }
+{
+    match queries.get(number as usize) {
+        Some(query) => given_to(alloc, known, query, unit),
+        None => Ok(Vec::new(alloc)),
+    }
+}
+
+/// The readings that a reply gives, if it is the first to its query.
+fn given_first(
+    alloc: Global,
+    before: &[Happening],
+    conn: u32,
+    number: u32,
+    unit: &[u8],
+) -> Result<Vec<ReadingRow>, StoreFault>
+    requires { AreSound before.now }
+    ensures rows { IfOk result (λ rows. as_rows rows.items ≡ (
+      if history.is_answered (history_of before.now) conn number then []
+      else history.given_by (history.points (history_of before.now)) (slice_get (history.asked (history_of before.now) conn) number) unit.now)) }
+    ensures memory { IfErr result (λ e. e ≡ StoreFault.Memory) }
+{
+    if is_answered(alloc, before, conn, number)? {
+        return Ok(Vec::new(alloc));
+    }
+    let known = points(alloc, before)?;
+    let queries = asked(alloc, before, conn)?;
+    Ok(given_to_number(alloc, &known, &queries, number, unit)?)
+}
+
+/// The readings that the first answering reply to each query gives, in order.
+pub fn given(alloc: Global, before: &[Happening]) -> Result<Vec<ReadingRow>, StoreFault>
+    requires { AreSound before.now }
+    ensures rows { IfOk result (λ rows. as_rows rows.items ≡ history.given (history_of before.now)) }
+    ensures memory { IfErr result (λ e. e ≡ StoreFault.Memory) }
+{
+    let [first, rest @ ..] = before else {
+        return Ok(Vec::new(alloc));
+    };
+    let mut rows = given(alloc, rest)?;
+    if let Happening::Reply(conn, number, unit) = first {
+        rows.append(&mut given_first(alloc, rest, *conn, *number, unit.as_slice())?)?;
+    }
+    Ok(rows)
 }
