@@ -21,3 +21,4 @@ pub mod BySlot
 pub mod Asking
 pub mod Opening
 pub mod GivenPlainly
+pub mod PutPlainly

@@ -1,12 +1,13 @@
 //! What follows from a list of happenings, by that list alone: plain and slow.
-ghost use Rattle.std.specs.Prelude.{◌≡◌, ◌≤◌, ◌+◌, ◌++◌, ◌∷◌, [], ◌<◌, is_none, is_some, if◌then◌else◌, length, slice_get, take, IfOk, IfErr, IfSome, Some};
+ghost use Rattle.std.specs.Prelude.{◌≡◌, ◌≤◌, ◌+◌, ◌++◌, ◌∷◌, [], ◌<◌, is_none, is_some, if◌then◌else◌, length, slice_get, take, IfOk, IfErr, IfSome, OnOk, Some, true};
 ghost use Rattle.office_core.specs.History as history;
 ghost use Rattle.office_core.specs.Sites as sites;
 ghost use Rattle.office_core.specs.Loads as loads;
 ghost use Rattle.office_core.specs.Cover as cover;
 ghost use Rattle.read_planner.specs.Read.{read_request};
-ghost use Rattle.office_core.specs.Plain.{AreSound, history_of, question_of, questions_of, is_excepted, is_normal};
+ghost use Rattle.office_core.specs.Plain.{AreSound, history_of, question_of, questions_of, tables_of, is_excepted, is_normal, is_before, has_key, place_of};
 ghost use Rattle.poll_book.specs.Changes.{as_row, as_rows, keyed};
+ghost use Rattle.poll_book.specs.Tables.{with_row, with_rows};
 ghost use Rattle.poll_book.specs.Totals.{is_counted};
 
 use crate::cover::{covered, is_readable};
@@ -47,6 +48,15 @@ pub struct Question {
     pub slot: u32,
     pub read: Read,
     pub known: u32,
+}
+
+/// What an office keeps: points in order, readings in the order of their keys, and the number of
+/// the last connection.
+#[derive(Debug, Drop)]
+pub struct Plain {
+    pub points: Vec<PointRow>,
+    pub readings: Vec<ReadingRow>,
+    pub connections: u32,
 }
 
 /// The place of the line of a name in the site in force.
@@ -523,4 +533,82 @@ pub fn given(alloc: Global, before: &[Happening]) -> Result<Vec<ReadingRow>, Sto
         rows.append(&mut given_first(alloc, rest, *conn, *number, unit.as_slice())?)?;
     }
     Ok(rows)
+}
+
+fn is_before(row: &ReadingRow, point: u32, slot: u32) -> bool
+    ensures { result ≡ is_before (point, slot) row.now }
+{
+    row.point < point || (row.point == point && row.slot < slot)
+}
+
+/// The place of the first row that isn't before a key.
+fn place_of(table: &[ReadingRow], point: u32, slot: u32) -> usize
+    ensures place { result ≡ place_of (point, slot) table.now }
+    ensures within { result ≤ length table.now }
+{
+    let [first, rest @ ..] = table else {
+        return 0;
+    };
+    if is_before(first, point, slot) {
+        place_of(rest, point, slot) + 1
+    } else {
+        0
+    }
+}
+
+fn has_key_at(table: &[ReadingRow], place: usize, point: u32, slot: u32) -> bool
+    ensures test { result ≡ has_key (point, slot) (slice_get table.now place) }
+    ensures within { result ≡ true → place < length table.now }
+{
+    match table.get(place) {
+        Some(row) => row.point == point && row.slot == slot,
+        None => false,
+    }
+}
+
+/// Puts a row into a table in its place, or over the one of its key.
+fn put(table: &mut Vec<ReadingRow>, row: ReadingRow) -> Result<(), AllocError>
+    ensures { OnOk result (as_rows table.new.items
+      ≡ with_row (row.point, row.slot) (record { words = row.words; counted = row.counted }) (as_rows table.old.items)) }
+{
+    let place = place_of(table, row.point, row.slot);
+    if has_key_at(table, place, row.point, row.slot) {
+        table[place] = row;
+    } else {
+        table.insert(place, row)?;
+    }
+    Ok(())
+}
+
+/// The rows in the order of their keys, of each key the first.
+fn sorted(alloc: Global, mut rows: Vec<ReadingRow>) -> Result<Vec<ReadingRow>, AllocError>
+    ensures { IfOk result (λ table. as_rows table.items ≡ with_rows (as_rows rows.items) []) }
+{
+    let mut table = Vec::new(alloc);
+    while let Some(row) = rows.pop() {
+        put(&mut table, row)?;
+    }
+    Ok(table)
+}
+
+/// Of each point and slot the earliest reading that was given, in the order of points and slots.
+pub fn readings(alloc: Global, before: &[Happening]) -> Result<Vec<ReadingRow>, StoreFault>
+    requires { AreSound before.now }
+    ensures rows { IfOk result (λ rows. as_rows rows.items ≡ history.readings (history_of before.now)) }
+    ensures memory { IfErr result (λ e. e ≡ StoreFault.Memory) }
+{
+    Ok(sorted(alloc, given(alloc, before)?)?)
+}
+
+/// What an office keeps once these happened, the newest first. It refuses for memory alone.
+pub fn tables(alloc: Global, before: &[Happening]) -> Result<Plain, StoreFault>
+    requires { AreSound before.now }
+    ensures tables { IfOk result (λ plain. tables_of plain ≡ history.tables (history_of before.now)) }
+    ensures memory { IfErr result (λ e. e ≡ StoreFault.Memory) }
+{
+    Ok(Plain {
+        points: points(alloc, before)?,
+        readings: readings(alloc, before)?,
+        connections: connections(before),
+    })
 }
