@@ -22,3 +22,4 @@ pub mod Asking
 pub mod Opening
 pub mod GivenPlainly
 pub mod PutPlainly
+pub mod TotalPlainly

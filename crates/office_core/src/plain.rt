@@ -1,5 +1,5 @@
 //! What follows from a list of happenings, by that list alone: plain and slow.
-ghost use Rattle.std.specs.Prelude.{◌≡◌, ◌≤◌, ◌+◌, ◌++◌, ◌∷◌, [], ◌<◌, is_none, is_some, if◌then◌else◌, length, slice_get, take, IfOk, IfErr, IfSome, OnOk, Some, true};
+ghost use Rattle.std.specs.Prelude.{◌≡◌, ◌≤◌, ◌+◌, ◌-◌, ◌*◌, ◌%◌, ◌^◌, ◌==◌, ◌&&◌, None, ◌++◌, ◌∷◌, [], ◌<◌, is_none, is_some, if◌then◌else◌, length, slice_get, take, IfOk, IfErr, IfSome, OnOk, Some, true};
 ghost use Rattle.office_core.specs.History as history;
 ghost use Rattle.office_core.specs.Sites as sites;
 ghost use Rattle.office_core.specs.Loads as loads;
@@ -8,7 +8,8 @@ ghost use Rattle.read_planner.specs.Read.{read_request};
 ghost use Rattle.office_core.specs.Plain.{AreSound, history_of, question_of, questions_of, tables_of, is_excepted, is_normal, is_before, has_key, place_of};
 ghost use Rattle.poll_book.specs.Changes.{as_row, as_rows, keyed};
 ghost use Rattle.poll_book.specs.Tables.{with_row, with_rows};
-ghost use Rattle.poll_book.specs.Totals.{is_counted};
+ghost use Rattle.poll_book.specs.Totals.{counted_numbers, is_counted, steps};
+ghost use Rattle.poll_book.specs.Totals as totals;
 
 use crate::cover::{covered, is_readable};
 use crate::loads::judge;
@@ -611,4 +612,80 @@ pub fn tables(alloc: Global, before: &[Happening]) -> Result<Plain, StoreFault>
         readings: readings(alloc, before)?,
         connections: connections(before),
     })
+}
+
+/// The number of a row that counts for a point's total.
+fn number_in(known: &PointRow, row: &ReadingRow) -> Option<u64>
+    ensures { result ≡ (if row.now.point == known.now.number && row.now.counted then totals.counted_number known.now.point row.now.words else None) }
+{
+    if row.point == known.number && row.counted {
+        counted_number(&known.point, row.words.as_slice())
+    } else {
+        None
+    }
+}
+
+/// The numbers of a point's rows that count, in order.
+fn numbers(
+    alloc: Global,
+    known: &PointRow,
+    rows: &[ReadingRow],
+) -> Result<Vec<u64>, AllocError>
+    ensures { IfOk result (λ numbers. numbers.items ≡ counted_numbers known.now (as_rows rows.now)) }
+{
+    let mut numbers = Vec::new(alloc);
+    for row in rows {
+        if let Some(number) = number_in(known, row) {
+            numbers.push(number)?;
+        }
+    }
+    Ok(numbers)
+}
+
+/// From v to w modulo roll + 1.
+fn step(roll: u64, v: u64, w: u64) -> u64
+    ensures { result ≡ (w + (roll + 1) - v) % (roll + 1) }
+{
+    let span = roll as u128 + 1;
+    ((w as u128 + span).saturating_sub(v as u128) % span) as u64
+}
+
+/// The sum of the steps between neighbours.
+fn sum_of_steps(roll: u64, numbers: &[u64]) -> u128
+    ensures sum { result ≡ steps roll numbers.now }
+    ensures bound { result ≤ length numbers.now * 2 ^ 64 }
+{
+    let [first, rest @ ..] = numbers else {
+        return 0;
+    };
+    match rest.first() {
+        Some(second) => step(roll, *first, *second) as u128 + sum_of_steps(roll, rest),
+        None => 0,
+    }
+}
+
+/// How far a point went by these rows, in the order of their slots.
+pub fn total_of(
+    alloc: Global,
+    known: &PointRow,
+    rows: &[ReadingRow],
+) -> Result<u128, AllocError>
+    ensures { IfOk result (λ total. total ≡ totals.total known.now (as_rows rows.now)) }
+{
+    let numbers = numbers(alloc, known, rows)?;
+    Ok(sum_of_steps(known.point.roll, &numbers))
+}
+
+/// How far a counter went by its counted readings.
+pub fn total(
+    alloc: Global,
+    before: &[Happening],
+    known: &PointRow,
+) -> Result<u128, StoreFault>
+    requires { AreSound before.now }
+    ensures total { IfOk result (λ total. total ≡ history.total (history_of before.now) known.now) }
+    ensures memory { IfErr result (λ e. e ≡ StoreFault.Memory) }
+{
+    let rows = readings(alloc, before)?;
+    Ok(total_of(alloc, known, &rows)?)
 }
