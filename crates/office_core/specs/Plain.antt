@@ -1,5 +1,5 @@
 -- Happenings as a program holds them.
-use Rattle.std.specs.Prelude.{ℕ, suc, Bool, true, false, not, ◌&&◌, ◌||◌, ◌==◌, nat_lt, if◌then◌else◌, ◌+◌, Option, Some, None, List, [], ◌∷◌, map, ⊤}
+use Rattle.std.specs.Prelude.{ℕ, suc, Bool, true, false, not, ◌&&◌, ◌||◌, ◌==◌, nat_lt, if◌then◌else◌, Option, Some, None, List, [], ◌∷◌, map, ⊤}
 use Rattle.mb_pdu.specs.Replies.{answers}
 use Rattle.mb_pdu.specs.declared.reply.Reply.{Reply as Replied}
 use Rattle.mb_pdu.specs.declared.reply.Reply.TheVariants as replied

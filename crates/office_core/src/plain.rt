@@ -125,12 +125,7 @@ fn line_after(line: Option<u16>, new: u32, conn: u32, former: Option<u16>) -> Op
 }
 
 /// The line of a connection once a line was opened, or refused.
-fn line_once_opened(
-    line: Option<u16>,
-    made: u32,
-    conn: u32,
-    former: Option<u16>,
-) -> Option<u16>
+fn line_once_opened(line: Option<u16>, made: u32, conn: u32, former: Option<u16>) -> Option<u16>
     ensures { result ≡ (if is_none (history.open_fault line made) then history.line_after line (made + 1) conn former else former) }
 {
     match line {
@@ -293,10 +288,10 @@ fn with_asked(
 ) -> Result<Vec<Question>, StoreFault>
     requires { AreSound before.now }
     ensures queries { IfOk result (λ all. questions_of all.items ≡ (
-      if is_none (history.ask_fault (history.open_line (history_of before.now) conn) (history.site_of (history_of before.now))
+        if is_none (history.ask_fault (history.open_line (history_of before.now) conn) (history.site_of (history_of before.now))
         (history.points (history_of before.now)) (length queries.items) device.now read.now)
-      then questions_of queries.items ++ history.question (history.site_of (history_of before.now)) (history.points (history_of before.now)) device.now slot read.now ∷ []
-      else questions_of queries.items)) }
+        then questions_of queries.items ++ history.question (history.site_of (history_of before.now)) (history.points (history_of before.now)) device.now slot read.now ∷ []
+        else questions_of queries.items)) }
     ensures memory { IfErr result (λ e. e ≡ StoreFault.Memory) }
 {
     let known = points(alloc, before)?;
@@ -309,11 +304,7 @@ fn with_asked(
 }
 
 /// The queries that a connection made, in order.
-pub fn asked(
-    alloc: Global,
-    before: &[Happening],
-    conn: u32,
-) -> Result<Vec<Question>, StoreFault>
+pub fn asked(alloc: Global, before: &[Happening], conn: u32) -> Result<Vec<Question>, StoreFault>
     requires { AreSound before.now }
     ensures queries { IfOk result (λ queries. questions_of queries.items ≡ history.asked (history_of before.now) conn) }
     ensures memory { IfErr result (λ e. e ≡ StoreFault.Memory) }
@@ -404,10 +395,13 @@ fn row_of(
 ) -> Result<ReadingRow, AllocError>
     requires not_empty { 0 < length words.now }
     requires short { length words.now ≤ 125 }
-    ensures { IfOk result (λ row. as_row row ≡ ((known.now.number, slot), record {
-      words = words.now;
-      counted = is_counted known.now.point words.now;
-    })) }
+    ensures { IfOk result (λ row. as_row row ≡ (
+      (known.now.number, slot),
+      record {
+        words = words.now;
+        counted = is_counted known.now.point words.now;
+      },
+    )) }
 {
     Ok(ReadingRow {
         point: known.number,
@@ -440,7 +434,7 @@ fn given_rows(
 ) -> Result<Vec<ReadingRow>, AllocError>
     requires { cover.Brings query.now.read reply.now }
     ensures { IfOk result (λ rows. as_rows rows.items
-      ≡ keyed query.now.slot (cover.given_of (take query.now.known known.now) query.now.device query.now.read (cover.reply_cells reply.now))) }
+        ≡ keyed query.now.slot (cover.given_of (take query.now.known known.now) query.now.device query.now.read (cover.reply_cells reply.now))) }
 {
     let count = known.len().min(query.known as usize);
     let device = query.device.as_slice();
@@ -508,8 +502,8 @@ fn given_first(
 ) -> Result<Vec<ReadingRow>, StoreFault>
     requires { AreSound before.now }
     ensures rows { IfOk result (λ rows. as_rows rows.items ≡ (
-      if history.is_answered (history_of before.now) conn number then []
-      else history.given_by (history.points (history_of before.now)) (slice_get (history.asked (history_of before.now) conn) number) unit.now)) }
+        if history.is_answered (history_of before.now) conn number then []
+        else history.given_by (history.points (history_of before.now)) (slice_get (history.asked (history_of before.now) conn) number) unit.now)) }
     ensures memory { IfErr result (λ e. e ≡ StoreFault.Memory) }
 {
     if is_answered(alloc, before, conn, number)? {
@@ -570,7 +564,7 @@ fn has_key_at(table: &[ReadingRow], place: usize, point: u32, slot: u32) -> bool
 /// Puts a row into a table in its place, or over the one of its key.
 fn put(table: &mut Vec<ReadingRow>, row: ReadingRow) -> Result<(), AllocError>
     ensures { OnOk result (as_rows table.new.items
-      ≡ with_row (row.point, row.slot) (record { words = row.words; counted = row.counted }) (as_rows table.old.items)) }
+        ≡ with_row (row.point, row.slot) (record { words = row.words; counted = row.counted }) (as_rows table.old.items)) }
 {
     let place = place_of(table, row.point, row.slot);
     if has_key_at(table, place, row.point, row.slot) {
@@ -626,11 +620,7 @@ fn number_in(known: &PointRow, row: &ReadingRow) -> Option<u64>
 }
 
 /// The numbers of a point's rows that count, in order.
-fn numbers(
-    alloc: Global,
-    known: &PointRow,
-    rows: &[ReadingRow],
-) -> Result<Vec<u64>, AllocError>
+fn numbers(alloc: Global, known: &PointRow, rows: &[ReadingRow]) -> Result<Vec<u64>, AllocError>
     ensures { IfOk result (λ numbers. numbers.items ≡ counted_numbers known.now (as_rows rows.now)) }
 {
     let mut numbers = Vec::new(alloc);
@@ -665,11 +655,7 @@ fn sum_of_steps(roll: u64, numbers: &[u64]) -> u128
 }
 
 /// How far a point went by these rows, in the order of their slots.
-pub fn total_of(
-    alloc: Global,
-    known: &PointRow,
-    rows: &[ReadingRow],
-) -> Result<u128, AllocError>
+pub fn total_of(alloc: Global, known: &PointRow, rows: &[ReadingRow]) -> Result<u128, AllocError>
     ensures { IfOk result (λ total. total ≡ totals.total known.now (as_rows rows.now)) }
 {
     let numbers = numbers(alloc, known, rows)?;
@@ -677,11 +663,7 @@ pub fn total_of(
 }
 
 /// How far a counter went by its counted readings.
-pub fn total(
-    alloc: Global,
-    before: &[Happening],
-    known: &PointRow,
-) -> Result<u128, StoreFault>
+pub fn total(alloc: Global, before: &[Happening], known: &PointRow) -> Result<u128, StoreFault>
     requires { AreSound before.now }
     ensures total { IfOk result (λ total. total ≡ history.total (history_of before.now) known.now) }
     ensures memory { IfErr result (λ e. e ≡ StoreFault.Memory) }

@@ -1,4 +1,4 @@
-use Rattle.std.proofs.Common.{◌≡◌, ◌∙◌, true, sym, ap, subst}
+use Rattle.std.proofs.Common.{◌≡◌, ◌∙◌, true, sym, subst}
 use Rattle.mb_pdu.specs.Replies.{spells_reply, answers}
 use Rattle.office_core.proofs.GivenPlainly.{IsNormal, normal_spelled}
 use Rattle.office_core.proofs.plain.normal_reply.Goals as goal
