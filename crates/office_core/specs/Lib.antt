@@ -10,3 +10,4 @@ pub mod Standing
 pub mod Keeping
 pub mod Offices
 pub mod FirstArrivals
+pub mod Plain

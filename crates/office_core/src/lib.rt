@@ -10,6 +10,7 @@ mod event;
 pub mod laws;
 mod loads;
 mod office;
+pub mod plain;
 mod site;
 mod text;
 
