@@ -1,11 +1,11 @@
 //! What follows from a list of happenings, by that list alone: plain and slow.
-ghost use Rattle.std.specs.Prelude.{◌≡◌, ◌≤◌, ◌+◌, ◌-◌, ◌*◌, ◌%◌, ◌^◌, ◌==◌, ◌&&◌, None, ◌++◌, ◌∷◌, [], ◌<◌, is_none, is_some, if◌then◌else◌, length, slice_get, take, IfOk, IfErr, IfSome, OnOk, Some, true};
+ghost use Rattle.std.specs.Prelude.{◌≡◌, ◌↔◌, ◌≤◌, IsTrue, ◌+◌, ◌-◌, ◌*◌, ◌%◌, ◌^◌, ◌==◌, ◌&&◌, None, ◌++◌, ◌∷◌, [], ◌<◌, is_none, is_some, if◌then◌else◌, length, slice_get, take, IfOk, IfErr, IfSome, OnOk, Some, true};
 ghost use Rattle.office_core.specs.History as history;
 ghost use Rattle.office_core.specs.Sites as sites;
 ghost use Rattle.office_core.specs.Loads as loads;
 ghost use Rattle.office_core.specs.Cover as cover;
 ghost use Rattle.read_planner.specs.Read.{read_request};
-ghost use Rattle.office_core.specs.Plain.{AreSound, history_of, question_of, questions_of, tables_of, is_excepted, is_normal, is_before, has_key, place_of};
+ghost use Rattle.office_core.specs.Plain.{AreSmall, IsSmall, history_of, question_of, questions_of, tables_of, is_excepted, is_normal, is_before, has_key, place_of};
 ghost use Rattle.poll_book.specs.Changes.{as_row, as_rows, keyed};
 ghost use Rattle.poll_book.specs.Tables.{with_row, with_rows};
 ghost use Rattle.poll_book.specs.Totals.{counted_numbers, is_counted, steps};
@@ -60,9 +60,30 @@ pub struct Plain {
     pub connections: u32,
 }
 
+fn is_small(happening: &Happening) -> bool
+    ensures { IsTrue result ↔ IsSmall happening.now }
+{
+    match happening {
+        Happening::Restart(site) => {
+            site.lines.as_slice().len() <= 65536 && site.devices.as_slice().len() <= 65536
+        }
+        _ => true,
+    }
+}
+
+/// Whether each site has at most 65,536 lines and as many devices.
+pub fn are_small(before: &[Happening]) -> bool
+    ensures { IsTrue result ↔ AreSmall before.now }
+{
+    let [first, rest @ ..] = before else {
+        return true;
+    };
+    is_small(first) && are_small(rest)
+}
+
 /// The place of the line of a name in the site in force.
 fn place_of_line(before: &[Happening], name: &Text) -> Option<u16>
-    requires { AreSound before.now }
+    requires { AreSmall before.now }
     ensures { result ≡ sites.line_place (history.site_of (history_of before.now)) name.now }
 {
     let [first, rest @ ..] = before else {
@@ -76,7 +97,7 @@ fn place_of_line(before: &[Happening], name: &Text) -> Option<u16>
 
 /// The device of a name in the site in force.
 fn target_named(before: &[Happening], name: &Text) -> Option<Target>
-    requires { AreSound before.now }
+    requires { AreSmall before.now }
     ensures { result ≡ sites.target (history.site_of (history_of before.now)) name.now }
 {
     let [first, rest @ ..] = before else {
@@ -100,7 +121,7 @@ fn with_opened(made: u32, line: Option<u16>) -> u32
 
 /// How many connections were made.
 pub fn connections(before: &[Happening]) -> u32
-    requires { AreSound before.now }
+    requires { AreSmall before.now }
     ensures { result ≡ history.connections (history_of before.now) }
 {
     let [first, rest @ ..] = before else {
@@ -136,7 +157,7 @@ fn line_once_opened(line: Option<u16>, made: u32, conn: u32, former: Option<u16>
 
 /// The place of the line of a connection that is open.
 pub fn open_line(before: &[Happening], conn: u32) -> Option<u16>
-    requires { AreSound before.now }
+    requires { AreSmall before.now }
     ensures { result ≡ history.open_line (history_of before.now) conn }
 {
     let [first, rest @ ..] = before else {
@@ -240,7 +261,7 @@ fn may_ask(
     device: &Text,
     read: &Read,
 ) -> bool
-    requires { AreSound before.now }
+    requires { AreSmall before.now }
     ensures { result ≡ is_none (history.ask_fault (history.open_line (history_of before.now) conn) (history.site_of (history_of before.now)) known.now made device.now read.now) }
 {
     match open_line(before, conn) {
@@ -286,7 +307,7 @@ fn with_asked(
     slot: u32,
     read: &Read,
 ) -> Result<Vec<Question>, StoreFault>
-    requires { AreSound before.now }
+    requires { AreSmall before.now }
     ensures queries { IfOk result (λ all. questions_of all.items ≡ (
         if is_none (history.ask_fault (history.open_line (history_of before.now) conn) (history.site_of (history_of before.now))
         (history.points (history_of before.now)) (length queries.items) device.now read.now)
@@ -305,7 +326,7 @@ fn with_asked(
 
 /// The queries that a connection made, in order.
 pub fn asked(alloc: Global, before: &[Happening], conn: u32) -> Result<Vec<Question>, StoreFault>
-    requires { AreSound before.now }
+    requires { AreSmall before.now }
     ensures queries { IfOk result (λ queries. questions_of queries.items ≡ history.asked (history_of before.now) conn) }
     ensures memory { IfErr result (λ e. e ≡ StoreFault.Memory) }
 {
@@ -354,7 +375,7 @@ fn fits_query(
     number: u32,
     unit: &[u8],
 ) -> Result<bool, StoreFault>
-    requires { AreSound before.now }
+    requires { AreSmall before.now }
     ensures fits { IfOk result (λ fits. fits ≡ history.fits_query (slice_get (history.asked (history_of before.now) conn) number) unit.now) }
     ensures memory { IfErr result (λ e. e ≡ StoreFault.Memory) }
 {
@@ -369,7 +390,7 @@ pub fn is_answered(
     conn: u32,
     number: u32,
 ) -> Result<bool, StoreFault>
-    requires { AreSound before.now }
+    requires { AreSmall before.now }
     ensures answered { IfOk result (λ answered. answered ≡ history.is_answered (history_of before.now) conn number) }
     ensures memory { IfErr result (λ e. e ≡ StoreFault.Memory) }
 {
@@ -500,7 +521,7 @@ fn given_first(
     number: u32,
     unit: &[u8],
 ) -> Result<Vec<ReadingRow>, StoreFault>
-    requires { AreSound before.now }
+    requires { AreSmall before.now }
     ensures rows { IfOk result (λ rows. as_rows rows.items ≡ (
         if history.is_answered (history_of before.now) conn number then []
         else history.given_by (history.points (history_of before.now)) (slice_get (history.asked (history_of before.now) conn) number) unit.now)) }
@@ -516,7 +537,7 @@ fn given_first(
 
 /// The readings that the first answering reply to each query gives, in order.
 pub fn given(alloc: Global, before: &[Happening]) -> Result<Vec<ReadingRow>, StoreFault>
-    requires { AreSound before.now }
+    requires { AreSmall before.now }
     ensures rows { IfOk result (λ rows. as_rows rows.items ≡ history.given (history_of before.now)) }
     ensures memory { IfErr result (λ e. e ≡ StoreFault.Memory) }
 {
@@ -588,7 +609,7 @@ fn sorted(alloc: Global, mut rows: Vec<ReadingRow>) -> Result<Vec<ReadingRow>, A
 
 /// Of each point and slot the earliest reading that was given, in the order of points and slots.
 pub fn readings(alloc: Global, before: &[Happening]) -> Result<Vec<ReadingRow>, StoreFault>
-    requires { AreSound before.now }
+    requires { AreSmall before.now }
     ensures rows { IfOk result (λ rows. as_rows rows.items ≡ history.readings (history_of before.now)) }
     ensures memory { IfErr result (λ e. e ≡ StoreFault.Memory) }
 {
@@ -597,7 +618,7 @@ pub fn readings(alloc: Global, before: &[Happening]) -> Result<Vec<ReadingRow>, 
 
 /// What an office keeps once these happened, the newest first. It refuses for memory alone.
 pub fn tables(alloc: Global, before: &[Happening]) -> Result<Plain, StoreFault>
-    requires { AreSound before.now }
+    requires { AreSmall before.now }
     ensures tables { IfOk result (λ plain. tables_of plain ≡ history.tables (history_of before.now)) }
     ensures memory { IfErr result (λ e. e ≡ StoreFault.Memory) }
 {
@@ -664,7 +685,7 @@ pub fn total_of(alloc: Global, known: &PointRow, rows: &[ReadingRow]) -> Result<
 
 /// How far a counter went by its counted readings.
 pub fn total(alloc: Global, before: &[Happening], known: &PointRow) -> Result<u128, StoreFault>
-    requires { AreSound before.now }
+    requires { AreSmall before.now }
     ensures total { IfOk result (λ total. total ≡ history.total (history_of before.now) known.now) }
     ensures memory { IfErr result (λ e. e ≡ StoreFault.Memory) }
 {
