@@ -10,7 +10,7 @@ use Rattle.std.specs.FinMap.Entries as rows
 use Rattle.std.proofs.lemmas.Bool.Decides.{nat_tests}
 use Rattle.poll_book.specs.declared.rows.ReadingRow.{ReadingRow}
 use Rattle.poll_book.specs.declared.rows.Reading.{Reading}
-use Rattle.poll_book.specs.Tables.{Key, key_cmp, with_row}
+use Rattle.poll_book.specs.Tables.{Key, Readings, key_cmp, with_row}
 use Rattle.poll_book.specs.Changes.{as_row, as_rows}
 use Rattle.office_core.specs.Plain.{is_before, has_key, place_of}
 
@@ -62,34 +62,44 @@ after_key p s row h g = by (eqb row.point p) refl
 
 -- ---- the row put
 
-put_by : (row x : ReadingRow) (xs : List ReadingRow) (o : Ordering) → key_cmp (key_of row) (key_of x) ≡ o
-    → with_row (key_of row) (reading_of row) (as_rows (x ∷ xs))
-    ≡ rows.by_order o (as_row row ∷ as_row x ∷ as_rows xs) ((key_of x, reading_of row) ∷ as_rows xs) (as_row x ∷ with_row (key_of row) (reading_of row) (as_rows xs))
-put_by row x xs o is =
-    ap (λ o. rows.by_order o (as_row row ∷ as_row x ∷ as_rows xs) ((key_of x, reading_of row) ∷ as_rows xs) (as_row x ∷ with_row (key_of row) (reading_of row) (as_rows xs))) is
+abbrev place : ReadingRow → List ReadingRow → ℕ
+place row xs = place_of (key_of row) xs
+
+abbrev with_put : ReadingRow → List ReadingRow → Readings
+with_put row xs = with_row (key_of row) (reading_of row) (as_rows xs)
+
+abbrev put_by : Ordering → ReadingRow → ReadingRow → List ReadingRow → Readings
+put_by o row x xs =
+    rows.by_order o (as_row row ∷ as_row x ∷ as_rows xs) ((key_of x, reading_of row) ∷ as_rows xs) (as_row x ∷ with_put row xs)
+
+put_is : (o : Ordering) (row x : ReadingRow) (xs : List ReadingRow) → key_cmp (key_of row) (key_of x) ≡ o
+    → put_by o row x xs ≡ with_put row (x ∷ xs)
+put_is o row x xs is = ap (λ o. put_by o row x xs) (sym is)
 
 -- to write over the row of its key is to put it
-pub put_over : (row : ReadingRow) (xs : List ReadingRow) → has_key (key_of row) (slice_get xs (place_of (key_of row) xs)) ≡ true
-    → as_rows (set xs (place_of (key_of row) xs) row) ≡ with_row (key_of row) (reading_of row) (as_rows xs)
+pub put_over : (row : ReadingRow) (xs : List ReadingRow) → has_key (key_of row) (slice_get xs (place row xs)) ≡ true
+    → as_rows (set xs (place row xs) row) ≡ with_put row xs
 put_over row [] h = absurd (cc)
 put_over row (x ∷ xs) h = by (is_before (key_of row) x) refl h (put_over row xs)
   where
-    by : (b : Bool) → is_before (key_of row) x ≡ b → has_key (key_of row) (slice_get (x ∷ xs) (cond b (suc (place_of (key_of row) xs)) 0)) ≡ true
-        → (has_key (key_of row) (slice_get xs (place_of (key_of row) xs)) ≡ true → as_rows (set xs (place_of (key_of row) xs) row) ≡ with_row (key_of row) (reading_of row) (as_rows xs))
-        → as_rows (set (x ∷ xs) (cond b (suc (place_of (key_of row) xs)) 0) row) ≡ with_row (key_of row) (reading_of row) (as_rows (x ∷ xs))
-    by true e h rest = ap (λ l. as_row x ∷ l) (rest h) ∙ sym (put_by row x xs Greater (before_key row.point row.slot x e))
+    by : (b : Bool) → is_before (key_of row) x ≡ b → has_key (key_of row) (slice_get (x ∷ xs) (cond b (suc (place row xs)) 0)) ≡ true
+        → (has_key (key_of row) (slice_get xs (place row xs)) ≡ true → as_rows (set xs (place row xs) row) ≡ with_put row xs)
+        → as_rows (set (x ∷ xs) (cond b (suc (place row xs)) 0) row) ≡ with_put row (x ∷ xs)
+    by true e h rest =
+        ap (λ l. as_row x ∷ l) (rest h) ∙ put_is Greater row x xs (before_key row.point row.slot x e)
     by false e h rest =
         let at = at_key row.point row.slot x h in
-        (λ i. ((sym at.0 i, sym at.1 i), reading_of row) ∷ as_rows xs) ∙ sym (put_by row x xs Equal (same_key row.point row.slot x h))
+        (λ i. ((sym at.0 i, sym at.1 i), reading_of row) ∷ as_rows xs) ∙ put_is Equal row x xs (same_key row.point row.slot x h)
 
 -- to insert a row whose key isn't there is to put it
-pub put_in : (row : ReadingRow) (xs : List ReadingRow) → has_key (key_of row) (slice_get xs (place_of (key_of row) xs)) ≡ false
-    → as_rows (insert xs (place_of (key_of row) xs) row) ≡ with_row (key_of row) (reading_of row) (as_rows xs)
+pub put_in : (row : ReadingRow) (xs : List ReadingRow) → has_key (key_of row) (slice_get xs (place row xs)) ≡ false
+    → as_rows (insert xs (place row xs) row) ≡ with_put row xs
 put_in row [] h = refl
 put_in row (x ∷ xs) h = by (is_before (key_of row) x) refl h (put_in row xs)
   where
-    by : (b : Bool) → is_before (key_of row) x ≡ b → has_key (key_of row) (slice_get (x ∷ xs) (cond b (suc (place_of (key_of row) xs)) 0)) ≡ false
-        → (has_key (key_of row) (slice_get xs (place_of (key_of row) xs)) ≡ false → as_rows (insert xs (place_of (key_of row) xs) row) ≡ with_row (key_of row) (reading_of row) (as_rows xs))
-        → as_rows (insert (x ∷ xs) (cond b (suc (place_of (key_of row) xs)) 0) row) ≡ with_row (key_of row) (reading_of row) (as_rows (x ∷ xs))
-    by true e h rest = ap (λ l. as_row x ∷ l) (rest h) ∙ sym (put_by row x xs Greater (before_key row.point row.slot x e))
-    by false e h rest = sym (put_by row x xs Less (after_key row.point row.slot x e h))
+    by : (b : Bool) → is_before (key_of row) x ≡ b → has_key (key_of row) (slice_get (x ∷ xs) (cond b (suc (place row xs)) 0)) ≡ false
+        → (has_key (key_of row) (slice_get xs (place row xs)) ≡ false → as_rows (insert xs (place row xs) row) ≡ with_put row xs)
+        → as_rows (insert (x ∷ xs) (cond b (suc (place row xs)) 0) row) ≡ with_put row (x ∷ xs)
+    by true e h rest =
+        ap (λ l. as_row x ∷ l) (rest h) ∙ put_is Greater row x xs (before_key row.point row.slot x e)
+    by false e h rest = put_is Less row x xs (after_key row.point row.slot x e h)

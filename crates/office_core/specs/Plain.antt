@@ -1,9 +1,8 @@
 -- Happenings as a program holds them.
-use Rattle.std.specs.Prelude.{ℕ, suc, Bool, true, false, not, ◌&&◌, ◌||◌, ◌==◌, nat_lt, if◌then◌else◌, Option, Some, None, List, [], ◌∷◌, map, ⊤}
+use Rattle.std.specs.Prelude.{ℕ, suc, ◌≤◌, length, Bool, true, false, not, ◌&&◌, ◌||◌, ◌==◌, nat_lt, if◌then◌else◌, Option, Some, None, List, [], ◌∷◌, map, ⊤}
 use Rattle.mb_pdu.specs.Replies.{answers}
 use Rattle.mb_pdu.specs.declared.reply.Reply.{Reply as Replied}
 use Rattle.mb_pdu.specs.declared.reply.Reply.TheVariants as replied
-use Rattle.point_list.specs.Sites.{IsSound}
 use Rattle.read_planner.specs.declared.Read.{Read}
 use Rattle.read_planner.specs.Read.{read_request}
 use Rattle.poll_book.specs.declared.rows.ReadingRow.{ReadingRow}
@@ -29,18 +28,19 @@ abbrev pub history_of : List Held → History
 history_of [] = []
 history_of (happening ∷ before) = happening_of happening ∷ history_of before
 
-abbrev pub HasSoundSite : Held → Type 0
-HasSoundSite (held.Restart site) = IsSound site
-HasSoundSite (held.Load list) = ⊤
-HasSoundSite (held.Open line) = ⊤
-HasSoundSite (held.Ask conn device slot read) = ⊤
-HasSoundSite (held.Reply conn number unit) = ⊤
-HasSoundSite (held.Noise conn frame) = ⊤
+-- places of lines and of devices have 16 bits
+abbrev pub IsSmall : Held → Type 0
+IsSmall (held.Restart site) = (length site.lines ≤ 65536) × (length site.devices ≤ 65536)
+IsSmall (held.Load list) = ⊤
+IsSmall (held.Open line) = ⊤
+IsSmall (held.Ask conn device slot read) = ⊤
+IsSmall (held.Reply conn number unit) = ⊤
+IsSmall (held.Noise conn frame) = ⊤
 
--- each site is sound
-abbrev pub AreSound : List Held → Type 0
-AreSound [] = ⊤
-AreSound (happening ∷ before) = HasSoundSite happening × AreSound before
+-- each site has at most 65,536 lines and as many devices
+abbrev pub AreSmall : List Held → Type 0
+AreSmall [] = ⊤
+AreSmall (happening ∷ before) = IsSmall happening × AreSmall before
 
 abbrev pub question_of : HeldQuestion → Question
 question_of q = record { device = q.device; place = q.place; unit_id = q.unit_id; slot = q.slot; read = q.read; known = q.known }

@@ -1,11 +1,13 @@
 //! What follows from a list of happenings, by that list alone: plain and slow.
-ghost use Rattle.std.specs.Prelude.{◌≡◌, ◌≤◌, ◌+◌, ◌-◌, ◌*◌, ◌%◌, ◌^◌, ◌==◌, ◌&&◌, None, ◌++◌, ◌∷◌, [], ◌<◌, is_none, is_some, if◌then◌else◌, length, slice_get, take, IfOk, IfErr, IfSome, OnOk, Some, true};
+ghost use Rattle.std.specs.Prelude.{◌≡◌, ◌↔◌, ◌<◌, ◌≤◌, ◌+◌, ◌-◌, ◌*◌, ◌%◌, ◌^◌, ◌==◌, ◌&&◌, if◌then◌else◌, IsTrue, true};
+ghost use Rattle.std.specs.Prelude.{[], ◌∷◌, ◌++◌, length, slice_get, take, IfOk, IfErr, OnOk, IfSome, is_some, is_none, Some, None};
 ghost use Rattle.office_core.specs.History as history;
 ghost use Rattle.office_core.specs.Sites as sites;
 ghost use Rattle.office_core.specs.Loads as loads;
 ghost use Rattle.office_core.specs.Cover as cover;
 ghost use Rattle.read_planner.specs.Read.{read_request};
-ghost use Rattle.office_core.specs.Plain.{AreSound, history_of, question_of, questions_of, tables_of, is_excepted, is_normal, is_before, has_key, place_of};
+ghost use Rattle.office_core.specs.Plain.{AreSmall, IsSmall, history_of, question_of, questions_of, tables_of};
+ghost use Rattle.office_core.specs.Plain.{is_excepted, is_normal, is_before, has_key, place_of};
 ghost use Rattle.poll_book.specs.Changes.{as_row, as_rows, keyed};
 ghost use Rattle.poll_book.specs.Tables.{with_row, with_rows};
 ghost use Rattle.poll_book.specs.Totals.{counted_numbers, is_counted, steps};
@@ -60,9 +62,30 @@ pub struct Plain {
     pub connections: u32,
 }
 
+fn is_small(happening: &Happening) -> bool
+    ensures { IsTrue result ↔ IsSmall happening.now }
+{
+    match happening {
+        Happening::Restart(site) => {
+            site.lines.as_slice().len() <= 65536 && site.devices.as_slice().len() <= 65536
+        }
+        _ => true,
+    }
+}
+
+/// Whether each site has at most 65,536 lines and as many devices.
+pub fn are_small(before: &[Happening]) -> bool
+    ensures { IsTrue result ↔ AreSmall before.now }
+{
+    let [first, rest @ ..] = before else {
+        return true;
+    };
+    is_small(first) && are_small(rest)
+}
+
 /// The place of the line of a name in the site in force.
 fn place_of_line(before: &[Happening], name: &Text) -> Option<u16>
-    requires { AreSound before.now }
+    requires { AreSmall before.now }
     ensures { result ≡ sites.line_place (history.site_of (history_of before.now)) name.now }
 {
     let [first, rest @ ..] = before else {
@@ -76,7 +99,7 @@ fn place_of_line(before: &[Happening], name: &Text) -> Option<u16>
 
 /// The device of a name in the site in force.
 fn target_named(before: &[Happening], name: &Text) -> Option<Target>
-    requires { AreSound before.now }
+    requires { AreSmall before.now }
     ensures { result ≡ sites.target (history.site_of (history_of before.now)) name.now }
 {
     let [first, rest @ ..] = before else {
@@ -100,7 +123,7 @@ fn with_opened(made: u32, line: Option<u16>) -> u32
 
 /// How many connections were made.
 pub fn connections(before: &[Happening]) -> u32
-    requires { AreSound before.now }
+    requires { AreSmall before.now }
     ensures { result ≡ history.connections (history_of before.now) }
 {
     let [first, rest @ ..] = before else {
@@ -126,7 +149,9 @@ fn line_after(line: Option<u16>, new: u32, conn: u32, former: Option<u16>) -> Op
 
 /// The line of a connection once a line was opened, or refused.
 fn line_once_opened(line: Option<u16>, made: u32, conn: u32, former: Option<u16>) -> Option<u16>
-    ensures { result ≡ (if is_none (history.open_fault line made) then history.line_after line (made + 1) conn former else former) }
+    ensures { result ≡ (
+        if is_none (history.open_fault line made) then history.line_after line (made + 1) conn former
+        else former) }
 {
     match line {
         Some(_) if made < u32::MAX => line_after(line, made + 1, conn, former),
@@ -136,7 +161,7 @@ fn line_once_opened(line: Option<u16>, made: u32, conn: u32, former: Option<u16>
 
 /// The place of the line of a connection that is open.
 pub fn open_line(before: &[Happening], conn: u32) -> Option<u16>
-    requires { AreSound before.now }
+    requires { AreSmall before.now }
     ensures { result ≡ history.open_line (history_of before.now) conn }
 {
     let [first, rest @ ..] = before else {
@@ -169,7 +194,8 @@ fn added(
     list: &[u8],
 ) -> Result<Vec<PointRow>, StoreFault>
     requires { length known.now ≤ 10000 }
-    ensures rows { IfOk result (λ rows. rows.items ≡ loads.added (length known.now) (loads.loading (history.site_of (history_of before.now)) known.now list.now)) }
+    ensures rows { let site = history.site_of (history_of before.now) in
+        IfOk result (λ rows. rows.items ≡ loads.added (length known.now) (loads.loading site known.now list.now)) }
     ensures few { IfOk result (λ rows. length known.now + length rows.items ≤ 10000) }
     ensures memory { IfErr result (λ e. e ≡ StoreFault.Memory) }
 {
@@ -190,7 +216,8 @@ fn with_loaded(
     list: &[u8],
 ) -> Result<Vec<PointRow>, StoreFault>
     requires { length known.items ≤ 10000 }
-    ensures rows { IfOk result (λ rows. rows.items ≡ known.items ++ loads.added (length known.items) (loads.loading (history.site_of (history_of before.now)) known.items list.now)) }
+    ensures rows { let site = history.site_of (history_of before.now) in
+        IfOk result (λ rows. rows.items ≡ known.items ++ loads.added (length known.items) (loads.loading site known.items list.now)) }
     ensures few { IfOk result (λ rows. length rows.items ≤ 10000) }
     ensures memory { IfErr result (λ e. e ≡ StoreFault.Memory) }
 {
@@ -240,8 +267,9 @@ fn may_ask(
     device: &Text,
     read: &Read,
 ) -> bool
-    requires { AreSound before.now }
-    ensures { result ≡ is_none (history.ask_fault (history.open_line (history_of before.now) conn) (history.site_of (history_of before.now)) known.now made device.now read.now) }
+    requires { AreSmall before.now }
+    ensures { let h = history_of before.now in
+        result ≡ is_none (history.ask_fault (history.open_line h conn) (history.site_of h) known.now made device.now read.now) }
 {
     match open_line(before, conn) {
         Some(line) => {
@@ -286,11 +314,10 @@ fn with_asked(
     slot: u32,
     read: &Read,
 ) -> Result<Vec<Question>, StoreFault>
-    requires { AreSound before.now }
-    ensures queries { IfOk result (λ all. questions_of all.items ≡ (
-        if is_none (history.ask_fault (history.open_line (history_of before.now) conn) (history.site_of (history_of before.now))
-        (history.points (history_of before.now)) (length queries.items) device.now read.now)
-        then questions_of queries.items ++ history.question (history.site_of (history_of before.now)) (history.points (history_of before.now)) device.now slot read.now ∷ []
+    requires { AreSmall before.now }
+    ensures queries { let h = history_of before.now in IfOk result (λ all. questions_of all.items ≡ (
+        if is_none (history.ask_fault (history.open_line h conn) (history.site_of h) (history.points h) (length queries.items) device.now read.now)
+        then questions_of queries.items ++ history.question (history.site_of h) (history.points h) device.now slot read.now ∷ []
         else questions_of queries.items)) }
     ensures memory { IfErr result (λ e. e ≡ StoreFault.Memory) }
 {
@@ -305,7 +332,7 @@ fn with_asked(
 
 /// The queries that a connection made, in order.
 pub fn asked(alloc: Global, before: &[Happening], conn: u32) -> Result<Vec<Question>, StoreFault>
-    requires { AreSound before.now }
+    requires { AreSmall before.now }
     ensures queries { IfOk result (λ queries. questions_of queries.items ≡ history.asked (history_of before.now) conn) }
     ensures memory { IfErr result (λ e. e ≡ StoreFault.Memory) }
 {
@@ -354,8 +381,9 @@ fn fits_query(
     number: u32,
     unit: &[u8],
 ) -> Result<bool, StoreFault>
-    requires { AreSound before.now }
-    ensures fits { IfOk result (λ fits. fits ≡ history.fits_query (slice_get (history.asked (history_of before.now) conn) number) unit.now) }
+    requires { AreSmall before.now }
+    ensures fits { let h = history_of before.now in
+        IfOk result (λ fits. fits ≡ history.fits_query (slice_get (history.asked h conn) number) unit.now) }
     ensures memory { IfErr result (λ e. e ≡ StoreFault.Memory) }
 {
     let queries = asked(alloc, before, conn)?;
@@ -369,7 +397,7 @@ pub fn is_answered(
     conn: u32,
     number: u32,
 ) -> Result<bool, StoreFault>
-    requires { AreSound before.now }
+    requires { AreSmall before.now }
     ensures answered { IfOk result (λ answered. answered ≡ history.is_answered (history_of before.now) conn number) }
     ensures memory { IfErr result (λ e. e ≡ StoreFault.Memory) }
 {
@@ -433,8 +461,8 @@ fn given_rows(
     reply: &Reply,
 ) -> Result<Vec<ReadingRow>, AllocError>
     requires { cover.Brings query.now.read reply.now }
-    ensures { IfOk result (λ rows. as_rows rows.items
-        ≡ keyed query.now.slot (cover.given_of (take query.now.known known.now) query.now.device query.now.read (cover.reply_cells reply.now))) }
+    ensures { let q = query.now in IfOk result (λ rows. as_rows rows.items
+        ≡ keyed q.slot (cover.given_of (take q.known known.now) q.device q.read (cover.reply_cells reply.now))) }
 {
     let count = known.len().min(query.known as usize);
     let device = query.device.as_slice();
@@ -484,7 +512,8 @@ fn given_to_number(
     number: u32,
     unit: &[u8],
 ) -> Result<Vec<ReadingRow>, AllocError>
-    ensures { IfOk result (λ rows. as_rows rows.items ≡ history.given_by known.now (slice_get (questions_of queries.now) number) unit.now) }
+    ensures { IfOk result (λ rows. as_rows rows.items
+        ≡ history.given_by known.now (slice_get (questions_of queries.now) number) unit.now) }
 {
     match queries.get(number as usize) {
         Some(query) => given_to(alloc, known, query, unit),
@@ -500,10 +529,10 @@ fn given_first(
     number: u32,
     unit: &[u8],
 ) -> Result<Vec<ReadingRow>, StoreFault>
-    requires { AreSound before.now }
-    ensures rows { IfOk result (λ rows. as_rows rows.items ≡ (
-        if history.is_answered (history_of before.now) conn number then []
-        else history.given_by (history.points (history_of before.now)) (slice_get (history.asked (history_of before.now) conn) number) unit.now)) }
+    requires { AreSmall before.now }
+    ensures rows { let h = history_of before.now in IfOk result (λ rows. as_rows rows.items ≡ (
+        if history.is_answered h conn number then []
+        else history.given_by (history.points h) (slice_get (history.asked h conn) number) unit.now)) }
     ensures memory { IfErr result (λ e. e ≡ StoreFault.Memory) }
 {
     if is_answered(alloc, before, conn, number)? {
@@ -516,7 +545,7 @@ fn given_first(
 
 /// The readings that the first answering reply to each query gives, in order.
 pub fn given(alloc: Global, before: &[Happening]) -> Result<Vec<ReadingRow>, StoreFault>
-    requires { AreSound before.now }
+    requires { AreSmall before.now }
     ensures rows { IfOk result (λ rows. as_rows rows.items ≡ history.given (history_of before.now)) }
     ensures memory { IfErr result (λ e. e ≡ StoreFault.Memory) }
 {
@@ -588,7 +617,7 @@ fn sorted(alloc: Global, mut rows: Vec<ReadingRow>) -> Result<Vec<ReadingRow>, A
 
 /// Of each point and slot the earliest reading that was given, in the order of points and slots.
 pub fn readings(alloc: Global, before: &[Happening]) -> Result<Vec<ReadingRow>, StoreFault>
-    requires { AreSound before.now }
+    requires { AreSmall before.now }
     ensures rows { IfOk result (λ rows. as_rows rows.items ≡ history.readings (history_of before.now)) }
     ensures memory { IfErr result (λ e. e ≡ StoreFault.Memory) }
 {
@@ -597,7 +626,7 @@ pub fn readings(alloc: Global, before: &[Happening]) -> Result<Vec<ReadingRow>, 
 
 /// What an office keeps once these happened, the newest first. It refuses for memory alone.
 pub fn tables(alloc: Global, before: &[Happening]) -> Result<Plain, StoreFault>
-    requires { AreSound before.now }
+    requires { AreSmall before.now }
     ensures tables { IfOk result (λ plain. tables_of plain ≡ history.tables (history_of before.now)) }
     ensures memory { IfErr result (λ e. e ≡ StoreFault.Memory) }
 {
@@ -610,7 +639,9 @@ pub fn tables(alloc: Global, before: &[Happening]) -> Result<Plain, StoreFault>
 
 /// The number of a row that counts for a point's total.
 fn number_in(known: &PointRow, row: &ReadingRow) -> Option<u64>
-    ensures { result ≡ (if row.now.point == known.now.number && row.now.counted then totals.counted_number known.now.point row.now.words else None) }
+    ensures { result ≡ (
+        if row.now.point == known.now.number && row.now.counted then totals.counted_number known.now.point row.now.words
+        else None) }
 {
     if row.point == known.number && row.counted {
         counted_number(&known.point, row.words.as_slice())
@@ -664,7 +695,7 @@ pub fn total_of(alloc: Global, known: &PointRow, rows: &[ReadingRow]) -> Result<
 
 /// How far a counter went by its counted readings.
 pub fn total(alloc: Global, before: &[Happening], known: &PointRow) -> Result<u128, StoreFault>
-    requires { AreSound before.now }
+    requires { AreSmall before.now }
     ensures total { IfOk result (λ total. total ≡ history.total (history_of before.now) known.now) }
     ensures memory { IfErr result (λ e. e ≡ StoreFault.Memory) }
 {

@@ -1,9 +1,8 @@
 //! Lines and devices of a site, by their names.
-ghost use Rattle.std.specs.Prelude.{◌≡◌};
+ghost use Rattle.std.specs.Prelude.{◌≡◌, ◌≤◌, length};
 ghost use Rattle.std.specs.List.{position};
 ghost use Rattle.std.specs.Str.{bytes_eq};
 ghost use Rattle.point_list.specs.Columns.{is_device};
-ghost use Rattle.point_list.specs.Sites.{IsSound};
 ghost use Rattle.office_core.specs.Sites as sites;
 
 use point_list::{Device, Line, Site};
@@ -33,7 +32,7 @@ fn place_of_device(devices: &[Device], name: &[u8]) -> Option<usize>
 
 /// The place of the line of a name.
 pub(crate) fn line_place(site: &Site, name: &[u8]) -> Option<u16>
-    requires { IsSound site.now }
+    requires { length site.now.lines ≤ 65536 }
     ensures { result ≡ sites.line_place site.now name.now }
 {
     match place_of_line(site.lines.as_slice(), name) {
@@ -44,7 +43,7 @@ pub(crate) fn line_place(site: &Site, name: &[u8]) -> Option<u16>
 
 /// The device of a name.
 pub(crate) fn find_target(site: &Site, name: &[u8]) -> Option<Target>
-    requires { IsSound site.now }
+    requires { length site.now.devices ≤ 65536 }
     ensures { result ≡ sites.target site.now name.now }
 {
     let devices = site.devices.as_slice();

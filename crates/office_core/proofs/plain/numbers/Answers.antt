@@ -13,7 +13,9 @@ loop-row-preserved c =
     let rows = c.args.rows.now in
     let old = counted_numbers known (as_rows (take i rows)) in
     let more : (o : Option ℕ) → c.number_in.result ≡ o → counted_numbers known (as_rows (take (i + 1) rows)) ≡ old ++ cons_option o [] =
-    λ o is. numbers_more known rows i c.row-item.result c.loop-row-test.true c.row-item.is ∙ ap (λ p. old ++ cons_option p []) (sym c.number_in.ensures ∙ is) in
+    λ o is.
+    numbers_more known rows i c.row-item.result c.loop-row-test.true c.row-item.is
+    ∙ ap (λ p. old ++ cons_option p []) (sym c.number_in.ensures ∙ is) in
     elim c.match-number_in.branch [
       | in-Some+in_ok-push w ↦
           let number = w.in-Some.number in
