@@ -6,6 +6,7 @@ mod faults;
 mod histories;
 mod memory;
 mod model;
+mod plainly;
 mod refusals;
 mod refusing;
 mod rows;

@@ -21,8 +21,8 @@ const SLOTS: u32 = 4;
 
 /// Numbers that follow from the first one alone.
 #[derive(Drop)]
-struct Chance {
-    state: u64,
+pub(crate) struct Chance {
+    pub(crate) state: u64,
 }
 
 impl Chance {
@@ -93,7 +93,11 @@ fn draw_arrival(
     })
 }
 
-fn draw(alloc: Global, chance: &mut Chance, past: &[Happened]) -> Result<Happened, OfficeError> {
+pub(crate) fn draw(
+    alloc: Global,
+    chance: &mut Chance,
+    past: &[Happened],
+) -> Result<Happened, OfficeError> {
     match past.len() {
         0 => return Ok(Happened::Load(chance.below(3) as u32)),
         1 => return Ok(Happened::Open(0)),
@@ -163,7 +167,7 @@ fn unit_of(alloc: Global, brought: Brought) -> Result<Vec<u8>, OfficeError> {
     Ok(bytes)
 }
 
-fn event_of(alloc: Global, happened: Happened) -> Result<Event, OfficeError> {
+pub(crate) fn event_of(alloc: Global, happened: Happened) -> Result<Event, OfficeError> {
     match happened {
         Happened::Load(list) => list_event(alloc, list),
         Happened::Open(0) => open_event(alloc, "roof"),

@@ -136,7 +136,7 @@ pub(crate) fn made(past: &[Happened]) -> u32 {
 }
 
 /// The place of a connection's line, if it is open.
-fn line_of(past: &[Happened], conn: u32) -> Option<u32> {
+pub(crate) fn line_of(past: &[Happened], conn: u32) -> Option<u32> {
     let mut made = 0u32;
     let mut found = None;
     for happened in past {

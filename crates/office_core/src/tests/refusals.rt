@@ -3,7 +3,7 @@ use super::{
     GAUGES, THREE, assert_reading, frame, load, office_of, office_over, read, refusal, reply, site,
 };
 use crate::{Arrival, LoadFault, Office, OfficeError, Outcome, Reason};
-use point_list::ListFault;
+use point_list::{ListFault, Site};
 use poll_book::MemKeeper;
 use poll_match::Conn;
 use std::alloc::Global;
@@ -17,6 +17,10 @@ const TWO: &str =
 /// The roof without its device.
 const BARE: &str =
     "[[line]]\nname = \"roof\"\naddress = \"127.0.0.1:502\"\n[[device]]\nname = \"m2\"\nline = \"roof\"\nunit = 17\n";
+
+pub(crate) fn site_of_two(alloc: Global) -> Result<Site, OfficeError> {
+    site(alloc, TWO)
+}
 
 pub(crate) fn office_of_two(alloc: Global) -> Result<Office<MemKeeper>, OfficeError> {
     match Office::new(alloc, MemKeeper::new(alloc), site(alloc, TWO)?) {
