@@ -141,7 +141,7 @@ fn assert_refusals(rt: &impl Abort, alloc: Global, fault: StoreFault) -> Result<
     let events = events(alloc)?;
     let expected = undisturbed(alloc, &events)?;
     let count = calls(alloc, &events)?;
-    assert!(rt; count > events.len() as u32);
+    assert!(rt; count as usize > events.len());
     for at in 0..count {
         // Another number of refusals is told as an error: it can be of memory refused to the test.
         if refused_once(rt, alloc, &events, &expected, at, fault)? != 1 {
