@@ -1,4 +1,6 @@
-//! What follows from a list of happenings, by that list alone: plain and slow.
+//! What follows from a list of happenings, by that list alone: plain and slow. Each function takes
+//! what happened so far, the newest first, and goes down the list as the definitions do. Those that
+//! need memory refuse for memory alone.
 ghost use Rattle.std.specs.Prelude.{◌≡◌, ◌↔◌, ◌<◌, ◌≤◌, ◌+◌, ◌-◌, ◌*◌, ◌%◌, ◌^◌, ◌==◌, ◌&&◌, if◌then◌else◌, IsTrue, true};
 ghost use Rattle.std.specs.Prelude.{[], ◌∷◌, ◌++◌, length, slice_get, take, IfOk, IfErr, OnOk, IfSome, is_some, is_none, Some, None};
 ghost use Rattle.office_core.specs.History as history;
