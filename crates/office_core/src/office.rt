@@ -363,7 +363,7 @@ impl<K: Keeper> Office<K> {
         ensures value { result.now ≡ self.now.points.items }
         ensures history { (before : History) → Stands self.now before → result.now ≡ points before }
     {
-        &self.points
+        self.points.as_slice()
     }
 
     /// The site in force.
