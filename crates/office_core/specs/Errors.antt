@@ -27,3 +27,8 @@ refused_by matching.Memory = no_memory
 abbrev pub IsCaused : (StoreFault → Type 0) → OfficeError → Type 0
 IsCaused may_refuse (error.Store f) = HasCause may_refuse f
 IsCaused may_refuse _ = ⊤
+
+-- a refusal by the store alone
+abbrev pub IsOfStore : (StoreFault → Type 0) → OfficeError → Type 0
+IsOfStore may_refuse (error.Store f) = HasCause may_refuse f
+IsOfStore may_refuse _ = ⊥

@@ -104,7 +104,7 @@ pub struct Office<K: Keeper> {
 
 impl<K: Keeper> Office<K> {
     ghost use Rattle.office_core.specs.History.{History, Restart, tables, points};
-    ghost use Rattle.office_core.specs.Errors.{IsCaused};
+    ghost use Rattle.office_core.specs.Errors.{IsCaused, IsOfStore};
     ghost use Rattle.office_core.specs.Offices.{AnswerCaused, IsAlike, Shows, Stands, StandsInCrash, arrived, asked_so, judged, opened, readings_of, total_of};
 
     /// An office over what a keeper holds, with no connection open. A keeper that can't be read is
@@ -155,7 +155,7 @@ impl<K: Keeper> Office<K> {
     pub fn load(&mut self, list: &[u8]) -> Result<Outcome, OfficeError>
         ensures goes { K.is_clean self.new.keeper → Goes (Stands self.old) (Stands self.new) (Event.Load list.now) (judged result) }
         ensures crash { K.is_clean self.new.keeper → Goes (StandsInCrash self.old) (StandsInCrash self.new) (Event.Load list.now) (judged result) }
-        ensures cause { IfErr result (λ e. IsCaused K.may_refuse e) }
+        ensures cause { IfErr result (λ e. IsOfStore K.may_refuse e) }
         ensures same { is_refusal (judged result) ≡ true → IsAlike self.old self.new }
         ensures clean { K.is_clean self.new.keeper → K.is_clean self.old.keeper }
     {
@@ -329,7 +329,7 @@ impl<K: Keeper> Office<K> {
     ) -> Result<Option<Vec<ReadingRow>>, OfficeError>
         ensures value { K.is_clean self.new.keeper → (before : History) → Stands self.old before
             → IfOk result (λ rows. Shows (readings_of before point.now from to) rows) }
-        ensures cause { IfErr result (λ e. IsCaused K.may_refuse e) }
+        ensures cause { IfErr result (λ e. IsOfStore K.may_refuse e) }
         ensures same { IsAlike self.old self.new }
         ensures clean { K.is_clean self.new.keeper → K.is_clean self.old.keeper }
     {
@@ -345,7 +345,7 @@ impl<K: Keeper> Office<K> {
     pub fn total(&mut self, point: &str) -> Result<Option<u128>, OfficeError>
         ensures value { K.is_clean self.new.keeper → (before : History) → Stands self.old before
             → IfOk result (λ sum. sum ≡ total_of before point.now) }
-        ensures cause { IfErr result (λ e. IsCaused K.may_refuse e) }
+        ensures cause { IfErr result (λ e. IsOfStore K.may_refuse e) }
         ensures same { IsAlike self.old self.new }
         ensures clean { K.is_clean self.new.keeper → K.is_clean self.old.keeper }
     {
