@@ -1,16 +1,14 @@
 -- What the arrival of a frame does to an office that stands for a history.
 use Rattle.std.proofs.Common.{◌≡◌, ◌≢◌, ℕ, zero, suc, ◌+◌, ◌%◌, ◌<◌, ◌≤◌, Bool, true, false, cond, not, eqb, List, [], ◌∷◌, ◌++◌, length, Some, None, Option, refl, sym, ap, ◌∙◌, arith, subst, ◌⊎◌, inl, inr, ⊎_elim}
-use Rattle.std.specs.Prelude.{slice_get, option_map, is_none, IsSome, ◌&&◌, ◌||◌}
+use Rattle.std.specs.Prelude.{slice_get, option_map, IsSome, ◌&&◌, ◌||◌}
 use Rattle.std.proofs.lemmas.Bool.{false≢true, and_parts, and_from, eqb-true, eq-eqb, ne_eqb, not-true, cases_eq}
-use Rattle.std.proofs.lemmas.Bool.Decides.{nat_tests}
 use Rattle.std.proofs.lemmas.Option.{same_Some}
 use Rattle.mb_mbap.specs.declared.frame.Frame.{Frame}
 use Rattle.point_list.specs.declared.site.Site.{Site}
-use Rattle.poll_match.specs.declared.asked.Asked.{Asked}
 use Rattle.poll_match.specs.declared.asked.Matched.{Matched}
 use Rattle.poll_match.specs.declared.error.MatchError.{MatchError}
 use Rattle.poll_match.specs.declared.error.MatchError.TheVariants as matching
-use Rattle.poll_match.specs.Window.{Open as OpenOne, held, refusal, settled_at, with_settled, with_answer, Changes, numbered}
+use Rattle.poll_match.specs.Window.{Open as OpenOne, held, refusal, settled_at, with_settled, with_answer, Changes}
 use Rattle.poll_match.proofs.Numbers.{numbered_at, numbered_is}
 use Rattle.poll_book.specs.declared.rows.PointRow.{PointRow}
 use Rattle.poll_book.specs.Tables.{Tables, Readings, with_rows}
@@ -18,14 +16,14 @@ use Rattle.office_core.specs.declared.event.Event.TheVariants as event
 use Rattle.office_core.specs.declared.event.EventAnswer.TheVariants as answer
 use Rattle.office_core.specs.Errors.{refused_by}
 use Rattle.office_core.specs.Cover.{Question, asked_of, fits, excepts, given_rows}
-use Rattle.office_core.specs.History.{Happening, Restart, Load, Open, Ask, Reply, Noise, History, tables, readings, points, site_of, connections, open_line, asked, is_answered, fits_query, given, given_by}
-use Rattle.office_core.specs.Answers.{answer_of, unit_answer, frame_answer, reply_frame, unit_id_of}
-use Rattle.office_core.specs.Legal.{MayHappen, IsTimely, IsNoise, frame_answers}
+use Rattle.office_core.specs.History.{Happening, Restart, Load, Open, Ask, Reply, Noise, History, tables, readings, points, connections, open_line, asked, is_answered, fits_query, given, given_by}
+use Rattle.office_core.specs.Answers.{answer_of, unit_answer, frame_answer, reply_frame}
+use Rattle.office_core.specs.Legal.{MayHappen, IsTimely, IsNoise}
 use Rattle.office_core.specs.Keeping.{with_given}
 use Rattle.office_core.specs.Standing.{queries_from, queries, open_one, open_of, StandsFor, Sees}
 use Rattle.office_core.proofs.Rows.{readings_more, readings_same}
-use Rattle.office_core.proofs.Queries.{length-queries, same_queries, still_open, open-settled}
-use Rattle.office_core.proofs.Naming.{named_by, number_by, line_by, refusal_is, refused_told, Accepted, accepted, accepted_told, reply_told}
+use Rattle.office_core.proofs.Queries.{length-queries, still_open, open-settled}
+use Rattle.office_core.proofs.Naming.{named_by, number_by, line_by, refusal_is, refused_told, Accepted, accepted_told, reply_told}
 
 -- ---- the tables after a reply
 

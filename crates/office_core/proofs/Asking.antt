@@ -1,18 +1,16 @@
 -- What the matcher answers to a query is what the history says of an ask.
-use Rattle.std.proofs.Common.{◌≡◌, ◌≢◌, ℕ, ◌+◌, ◌%◌, ◌≤◌, Bool, true, false, cond, not, eqb, leb, List, [], ◌∷◌, ◌++◌, length, Some, None, Option, refl, sym, ap, ◌∙◌, arith, subst, ◌⊎◌, inl, inr}
+use Rattle.std.proofs.Common.{◌≡◌, ℕ, ◌%◌, ◌≤◌, Bool, true, false, cond, not, eqb, leb, List, ◌∷◌, ◌++◌, length, Some, None, Option, refl, sym, ap, ◌∙◌, arith, subst, ◌⊎◌, inl, inr}
 use Rattle.std.specs.Prelude.{option_map}
 use Rattle.std.proofs.lemmas.Bool.{eqb-true, eq-eqb, and_parts}
 use Rattle.std.proofs.lemmas.Bool.Decides.{nat_tests}
 use Rattle.std.proofs.lemmas.Option.{same_Some}
 use Rattle.mb_pdu.specs.Packing.{two}
 use Rattle.mb_pdu.specs.Grammar.{spells, span_text}
-use Rattle.mb_pdu.specs.declared.request.Request.{Request}
 use Rattle.mb_pdu.specs.declared.request.Request.TheVariants.{ReadCoils, ReadDiscrete, ReadHolding, ReadInput}
 use Rattle.mb_mbap.specs.declared.frame.Frame.{Frame}
 use Rattle.point_list.specs.declared.site.Site.{Site}
 use Rattle.read_planner.specs.declared.Read.{Read}
 use Rattle.read_planner.specs.Read.{is_valid_read, read_request}
-use Rattle.poll_match.specs.declared.asked.Asked.{Asked}
 use Rattle.poll_match.specs.declared.asked.Asked.TheVariants as asking
 use Rattle.poll_match.specs.declared.error.MatchError.{MatchError}
 use Rattle.poll_match.specs.declared.error.MatchError.TheVariants as matching
@@ -28,7 +26,7 @@ use Rattle.office_core.specs.declared.site.Target.{Target}
 use Rattle.poll_book.specs.declared.fault.StoreFault.{StoreFault}
 use Rattle.office_core.specs.Errors.{refused_by, IsCaused}
 use Rattle.office_core.specs.Sites.{target}
-use Rattle.office_core.specs.Cover.{Question, asked_of, is_readable}
+use Rattle.office_core.specs.Cover.{asked_of, is_readable}
 use Rattle.office_core.specs.History.{History, open_line, asked, ask_fault, ask_fault_on, question, question_to}
 use Rattle.office_core.specs.Answers.{query_frame, read_text}
 use Rattle.office_core.specs.Standing.{queries, open_one, StandsFor, Goes, is_store}

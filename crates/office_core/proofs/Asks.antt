@@ -1,30 +1,20 @@
 -- What an ask does to an office that stands for a history.
-use Rattle.std.proofs.Common.{◌≡◌, ◌≢◌, ℕ, zero, suc, ◌+◌, ◌%◌, ◌<◌, ◌≤◌, Bool, true, false, cond, not, eqb, leb, List, [], ◌∷◌, ◌++◌, length, get_or, Some, None, Option, refl, sym, ap, ◌∙◌, arith, subst, ⊎_elim, length-append}
-use Rattle.std.specs.Prelude.{slice_get, option_map, is_none, is_some, IsSome, ◌&&◌}
-use Rattle.std.specs.List.{position}
-use Rattle.std.specs.Str.{bytes_eq}
-use Rattle.std.proofs.lemmas.Bool.{and_from, eqb-true, eq-eqb, ne_eqb, cases_eq}
-use Rattle.std.proofs.lemmas.List.Quantifiers.{position-Some}
-use Rattle.std.proofs.lemmas.Option.{same_Some}
+use Rattle.std.proofs.Common.{◌≡◌, ◌≢◌, ℕ, ◌+◌, Bool, true, false, cond, eqb, List, [], ◌∷◌, ◌++◌, length, Some, None, Option, refl, sym, ap, ◌∙◌, arith, subst, ⊎_elim}
+use Rattle.std.specs.Prelude.{option_map, is_none, ◌&&◌}
+use Rattle.std.proofs.lemmas.Bool.{and_from, eq-eqb, ne_eqb, cases_eq}
 use Rattle.point_list.specs.declared.site.Site.{Site}
-use Rattle.point_list.specs.declared.site.Device.{Device}
 use Rattle.read_planner.specs.declared.Read.{Read}
-use Rattle.poll_match.specs.declared.asked.Asked.{Asked}
-use Rattle.poll_match.specs.declared.asked.Matched.{Matched}
 use Rattle.poll_match.specs.Window.{Open as OpenOne, held, with_next, with_query, Changes}
 use Rattle.poll_match.proofs.Connections.{seen-push}
 use Rattle.poll_book.specs.declared.rows.PointRow.{PointRow}
 use Rattle.poll_book.specs.Tables.{Tables}
 use Rattle.office_core.specs.declared.error.OfficeError.{OfficeError}
 use Rattle.office_core.specs.declared.event.EventAnswer.TheVariants as answer
-use Rattle.office_core.specs.declared.site.Target.{Target}
-use Rattle.office_core.specs.Sites.{target, target_in, target_at, device_name, device_place}
 use Rattle.office_core.specs.Cover.{Question, asked_of}
-use Rattle.office_core.specs.History.{Happening, Restart, Load, Open, Ask, Reply, Noise, History, tables, points, site_of, open_line, asked, is_answered, ask_fault, ask_fault_on, question, question_to}
+use Rattle.office_core.specs.History.{Ask, History, points, site_of, open_line, asked, ask_fault, question}
 use Rattle.office_core.specs.Answers.{answer_of, refused_or, query_frame}
 use Rattle.office_core.specs.Standing.{queries_from, queries, open_one, open_of, StandsFor}
-use Rattle.office_core.proofs.Finding.{got}
-use Rattle.office_core.proofs.Queries.{length-queries, queries-push, same_queries, still_open, unasked}
+use Rattle.office_core.proofs.Queries.{queries-push, same_queries, still_open, unasked}
 
 -- whether an ask makes a query
 abbrev pub ask_made : History → ℕ → List ℕ → Read → Bool

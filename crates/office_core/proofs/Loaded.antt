@@ -1,13 +1,13 @@
 -- What a load and a restart do to an office that stands for a history.
-use Rattle.std.proofs.Common.{◌≡◌, ◌≤◌, ℕ, ◌+◌, true, List, [], ◌∷◌, ◌++◌, length, refl, sym, ap, ◌∙◌, arith, subst}
+use Rattle.std.proofs.Common.{◌≡◌, ℕ, true, List, [], ◌∷◌, ◌++◌, length, refl, sym, ◌∙◌, arith}
 use Rattle.point_list.specs.declared.site.Site.{Site}
-use Rattle.poll_match.specs.Window.{Open as OpenOne, held}
+use Rattle.poll_match.specs.Window.{Open as OpenOne}
 use Rattle.poll_book.specs.declared.rows.PointRow.{PointRow}
 use Rattle.poll_book.specs.Tables.{Tables}
 use Rattle.poll_book.specs.Changes.{AreNumbered}
 use Rattle.office_core.specs.declared.event.EventAnswer.TheVariants as answer
 use Rattle.office_core.specs.Loads.{Loading, Refused, Taken, loading, outcome, added}
-use Rattle.office_core.specs.History.{Happening, Restart, Load, Open, Ask, Reply, Noise, History, tables, points, site_of}
+use Rattle.office_core.specs.History.{Restart, Load, Open, Ask, Reply, Noise, History, tables, points, site_of}
 use Rattle.office_core.specs.Answers.{answer_of}
 use Rattle.office_core.specs.Standing.{StandsFor, is_refusal}
 use Rattle.office_core.proofs.Newness.{numbered-append, numbered_so}

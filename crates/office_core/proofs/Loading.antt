@@ -1,5 +1,5 @@
 -- What becomes of the rows of a list.
-use Rattle.std.proofs.Common.{◌≡◌, ◌≢◌, ◌≤◌, ◌<◌, ◌+◌, ◌⊎◌, ℕ, zero, suc, Bool, true, false, cond, leb, List, [], ◌∷◌, length, take, get_or, map, Some, None, Option, Result, Ok, Err, inl, inr, refl, sym, ap, ◌∙◌, arith, subst, length-take, ⊎_elim}
+use Rattle.std.proofs.Common.{◌≡◌, ◌≢◌, ◌≤◌, ◌<◌, ◌+◌, ◌⊎◌, ℕ, suc, Bool, cond, List, [], ◌∷◌, length, take, get_or, Some, None, Option, Result, Ok, Err, inl, inr, refl, sym, ap, ◌∙◌, arith, subst, length-take, ⊎_elim}
 use Rattle.std.specs.Prelude.{option_map, IfOk, OnOk}
 use Rattle.std.proofs.lemmas.Bool.{le-leb, lt-leb, cases_lt}
 use Rattle.std.proofs.lemmas.List.{length-map}

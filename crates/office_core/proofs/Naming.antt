@@ -1,9 +1,8 @@
 -- What the matcher finds for a frame is what the history says of it.
-use Rattle.std.proofs.Common.{◌≡◌, ◌≢◌, ℕ, zero, suc, ◌+◌, ◌%◌, ◌<◌, ◌≤◌, Bool, true, false, cond, not, eqb, List, [], ◌∷◌, length, Some, None, Option, refl, sym, ap, ◌∙◌, arith, subst, ◌⊎◌, inl, inr}
-use Rattle.std.specs.Prelude.{slice_get, option_map, is_none, is_some, IsSome}
-use Rattle.std.proofs.lemmas.Bool.{false≢true, eqb-true, eq-eqb}
+use Rattle.std.proofs.Common.{◌≡◌, ℕ, ◌%◌, Bool, true, false, cond, not, eqb, List, length, Some, None, Option, refl, sym, ap, ◌∙◌, arith}
+use Rattle.std.specs.Prelude.{slice_get, option_map, is_none, IsSome}
 use Rattle.std.proofs.lemmas.Option.{same_Some}
-use Rattle.mb_pdu.specs.Replies.{spells_reply, answers}
+use Rattle.mb_pdu.specs.Replies.{spells_reply}
 use Rattle.mb_pdu.specs.declared.reply.Reply.{Reply}
 use Rattle.mb_mbap.specs.declared.frame.Frame.{Frame}
 use Rattle.poll_match.specs.declared.asked.Asked.{Asked}
@@ -14,16 +13,13 @@ use Rattle.poll_match.specs.Queries.{request_of}
 use Rattle.poll_match.specs.Window.{Open as OpenOne, Names, refusal, number_refusal, named_refusal, query_refusal, query_at, numbered}
 use Rattle.poll_match.proofs.Numbers.{numbered_at, numbered_is}
 use Rattle.poll_match.proofs.Windows.{query_kept}
-use Rattle.poll_book.specs.declared.rows.PointRow.{PointRow}
-use Rattle.poll_book.specs.Tables.{Readings}
-use Rattle.office_core.specs.declared.error.OfficeError.{OfficeError}
 use Rattle.office_core.specs.declared.error.OfficeError.TheVariants as error
 use Rattle.office_core.specs.declared.event.EventAnswer.{EventAnswer}
 use Rattle.office_core.specs.declared.event.EventAnswer.TheVariants as answer
 use Rattle.office_core.specs.Errors.{refused_by}
 use Rattle.office_core.specs.Cover.{Question, asked_of, fits}
 use Rattle.office_core.specs.History.{History, points, readings, open_line, asked, is_answered}
-use Rattle.office_core.specs.Answers.{unit_answer, named_answer, query_answer, number_answer, frame_answer, reply_frame}
+use Rattle.office_core.specs.Answers.{unit_answer, query_answer, number_answer, frame_answer, reply_frame}
 use Rattle.office_core.specs.Legal.{IsTimely}
 use Rattle.office_core.specs.Standing.{queries, open_one, open_of}
 use Rattle.office_core.proofs.Queries.{length-queries, get_query}

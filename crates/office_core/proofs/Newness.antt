@@ -1,5 +1,5 @@
 -- What is written is new.
-use Rattle.std.proofs.Common.{◌≡◌, ◌⊎◌, inl, inr, ℕ, zero, suc, ◌+◌, ◌<◌, ◌≤◌, Bool, true, false, cond, List, [], ◌∷◌, ◌++◌, map, length, Some, None, Option, Result, Ok, Err, refl, sym, ap, ◌∙◌, arith, subst, eqb}
+use Rattle.std.proofs.Common.{◌≡◌, ◌⊎◌, inl, inr, ℕ, ◌+◌, ◌≤◌, Bool, true, false, cond, List, [], ◌∷◌, ◌++◌, length, Some, None, Option, Result, Ok, Err, refl, sym, ap, ◌∙◌, arith, subst}
 use Rattle.std.specs.Prelude.{filter, is_none, unwrap_or, OnOk, OnErr, IfOk, MatchResult}
 use Rattle.std.specs.Result.{IsErr}
 use Rattle.std.specs.Ordering.{eq_by_cmp}

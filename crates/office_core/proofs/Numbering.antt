@@ -1,5 +1,5 @@
 -- Points that are numbered on.
-use Rattle.std.proofs.Common.{◌≡◌, ◌≤◌, ℕ, zero, suc, ◌+◌, Bool, true, false, cond, List, [], ◌∷◌, ◌++◌, length, refl, ap, ◌∙◌, arith}
+use Rattle.std.proofs.Common.{◌≡◌, ℕ, suc, ◌+◌, Bool, true, false, cond, List, [], ◌∷◌, ◌++◌, length, refl, ap, ◌∙◌, arith}
 use Rattle.point_list.specs.declared.point.Point.{Point}
 use Rattle.poll_book.specs.declared.rows.PointRow.{PointRow}
 use Rattle.std.specs.Prelude.{is_none}

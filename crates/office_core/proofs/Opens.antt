@@ -1,17 +1,16 @@
 -- Connections that are opened.
-use Rattle.std.proofs.Common.{◌≡◌, ◌≢◌, ℕ, zero, suc, ◌+◌, ◌<◌, ◌≤◌, Bool, true, false, cond, not, eqb, leb, List, [], ◌∷◌, ◌++◌, length, Some, None, Option, refl, sym, ap, ◌∙◌, arith, subst, ◌⊎◌, inl, inr, ⊎_elim}
-use Rattle.std.specs.Prelude.{slice_get, option_map, is_none, is_some, IsSome, ◌&&◌}
+use Rattle.std.proofs.Common.{◌≡◌, ◌≢◌, ℕ, ◌+◌, ◌<◌, ◌≤◌, Bool, true, false, cond, eqb, List, [], ◌∷◌, length, Some, None, Option, refl, sym, ap, ◌∙◌, arith, subst, ⊎_elim}
+use Rattle.std.specs.Prelude.{option_map, is_none, is_some, IsSome, ◌&&◌}
 use Rattle.std.proofs.lemmas.Bool.{false≢true, eqb-true, eq-eqb, ne_eqb, cases_eq}
 use Rattle.point_list.specs.declared.site.Site.{Site}
-use Rattle.poll_match.specs.Window.{Open as OpenOne, held, fresh, closed, line_of, greatest_of, Changes, IsLeastOf}
+use Rattle.poll_match.specs.Window.{Open as OpenOne, held, fresh, line_of, greatest_of, Changes}
 use Rattle.poll_match.proofs.Greatest.{greatest_below}
 use Rattle.poll_book.specs.declared.rows.PointRow.{PointRow}
 use Rattle.poll_book.specs.Tables.{Tables}
 use Rattle.office_core.specs.declared.error.OfficeError.{OfficeError}
 use Rattle.office_core.specs.declared.event.EventAnswer.TheVariants as answer
 use Rattle.office_core.specs.Sites.{line_place}
-use Rattle.office_core.specs.Cover.{Question}
-use Rattle.office_core.specs.History.{Happening, Restart, Load, Open, Ask, Reply, Noise, History, tables, points, site_of, connections, open_line, open_fault, same_line, line_after, asked, is_answered, ask_fault}
+use Rattle.office_core.specs.History.{Restart, Load, Open, Ask, Reply, Noise, History, tables, points, site_of, connections, open_line, open_fault, same_line, line_after, asked, ask_fault}
 use Rattle.office_core.specs.Answers.{answer_of, refused_or}
 use Rattle.office_core.specs.Standing.{queries_from, queries, open_one, open_of, StandsFor, IsFormer, Closes}
 use Rattle.office_core.proofs.Asks.{ask_made, asked_not}

@@ -1,7 +1,6 @@
 -- The devices of the queries of open connections are those of the site in force.
-use Rattle.std.proofs.Common.{◌≡◌, ◌≢◌, ℕ, zero, suc, ◌+◌, ◌<◌, ◌≤◌, Bool, true, false, cond, not, eqb, leb, List, [], ◌∷◌, ◌++◌, length, get_or, Some, None, Option, refl, sym, ap, ◌∙◌, arith, subst, ◌⊎◌, inl, inr}
-use Rattle.std.specs.Prelude.{slice_get, option_map, is_none, is_some, IsSome, ◌&&◌, ◌==◌}
-use Rattle.std.specs.List.{position}
+use Rattle.std.proofs.Common.{◌≡◌, ℕ, zero, suc, ◌+◌, Bool, true, false, cond, eqb, List, [], ◌∷◌, ◌++◌, length, get_or, Some, None, Option, refl, sym, ap, ◌∙◌, arith, subst, ◌⊎◌, inl, inr}
+use Rattle.std.specs.Prelude.{slice_get, option_map, is_none, IsSome, ◌&&◌}
 use Rattle.std.specs.Str.{bytes_eq}
 use Rattle.std.proofs.lemmas.Bool.{eqb-true}
 use Rattle.std.proofs.lemmas.Slice.Eq.{bytes_eq-Decides}
@@ -15,9 +14,9 @@ use Rattle.office_core.specs.declared.error.OfficeError.{OfficeError}
 use Rattle.office_core.specs.declared.site.Target.{Target}
 use Rattle.office_core.specs.Sites.{target, target_in, target_at, device_name, device_place, line_place}
 use Rattle.office_core.specs.Cover.{Question}
-use Rattle.office_core.specs.History.{Happening, Restart, Load, Open, Ask, Reply, Noise, History, points, site_of, connections, open_line, same_line, asked, ask_fault, ask_fault_on, question_to}
+use Rattle.office_core.specs.History.{Restart, Load, Open, Ask, Reply, Noise, History, points, site_of, connections, open_line, same_line, asked, ask_fault, ask_fault_on, question_to}
 use Rattle.office_core.proofs.Finding.{got}
-use Rattle.office_core.proofs.Asks.{ask_made, asks}
+use Rattle.office_core.proofs.Asks.{asks}
 use Rattle.office_core.proofs.Opens.{open_made, unopened}
 
 same_bytes : (a b : List ℕ) → bytes_eq a b ≡ true → a ≡ b

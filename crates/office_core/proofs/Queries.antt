@@ -1,13 +1,11 @@
 -- The queries of a connection, each with whether it was answered.
-use Rattle.std.proofs.Common.{◌≡◌, ◌≢◌, ℕ, zero, suc, ◌+◌, ◌-◌, ◌<◌, ◌≤◌, Bool, true, false, cond, eqb, List, [], ◌∷◌, ◌++◌, length, Some, None, Option, refl, sym, ap, ◌∙◌, arith, subst, length-append, ◌⊎◌, inl, inr, ⊎_elim}
+use Rattle.std.proofs.Common.{◌≡◌, ℕ, zero, suc, ◌+◌, ◌≤◌, Bool, true, false, cond, eqb, List, [], ◌∷◌, ◌++◌, length, Some, None, refl, sym, ap, ◌∙◌, arith, length-append}
 use Rattle.std.specs.Prelude.{slice_get, option_map, is_none, ◌&&◌, ◌||◌}
-use Rattle.std.proofs.lemmas.Bool.{false≢true, and_parts, and_from, eqb-true, eq-eqb, ne_eqb}
-use Rattle.read_planner.specs.declared.Read.{Read}
 use Rattle.poll_match.specs.declared.asked.Matched.{Matched}
-use Rattle.poll_match.specs.Window.{Open as OpenOne, last_of, settled_at, with_settled}
+use Rattle.poll_match.specs.Window.{settled_at, with_settled}
 use Rattle.poll_match.proofs.Windows.{last_settled}
-use Rattle.office_core.specs.Cover.{Question, asked_of, fits}
-use Rattle.office_core.specs.History.{Happening, Restart, Load, Open, Ask, Reply, Noise, History, points, site_of, connections, open_line, line_after, same_line, open_fault, asked, is_answered, fits_query, ask_fault, question}
+use Rattle.office_core.specs.Cover.{Question, asked_of}
+use Rattle.office_core.specs.History.{Restart, Load, Open, Ask, Reply, Noise, History, points, site_of, open_line, asked, is_answered, fits_query, ask_fault, question}
 use Rattle.office_core.specs.Standing.{queries_from, queries, open_one, open_of}
 
 -- ---- the list of queries

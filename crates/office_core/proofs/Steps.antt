@@ -1,9 +1,7 @@
 -- Each call of an office, as a step of its history.
-use Rattle.std.proofs.Common.{◌≡◌, ◌≢◌, ℕ, ◌+◌, ◌%◌, ◌<◌, ◌≤◌, Bool, true, false, cond, eqb, leb, not, List, [], ◌∷◌, ◌++◌, length, Some, None, Option, refl, sym, ap, ◌∙◌, arith, subst}
-use Rattle.std.specs.Prelude.{slice_get, option_map, is_some, IsSome, take}
+use Rattle.std.proofs.Common.{◌≡◌, ℕ, ◌+◌, true, false, cond, List, [], ◌∷◌, ◌++◌, length, Some, None, Option, refl, sym, ap, ◌∙◌, subst}
+use Rattle.std.specs.Prelude.{is_some, take}
 use Rattle.std.proofs.lemmas.Bool.{false≢true}
-use Rattle.std.proofs.lemmas.Option.{same_Some}
-use Rattle.mb_pdu.specs.Grammar.{spells}
 use Rattle.mb_pdu.specs.Replies.{spells_reply}
 use Rattle.mb_pdu.specs.declared.reply.Reply.{Reply as UnitReply}
 use Rattle.mb_pdu.specs.declared.reply.Reply.TheVariants.{Bits, Registers, Written, Excepted}
@@ -13,12 +11,11 @@ use Rattle.read_planner.specs.declared.Read.{Read}
 use Rattle.poll_match.specs.declared.asked.Asked.{Asked}
 use Rattle.poll_match.specs.declared.error.MatchError.{MatchError}
 use Rattle.poll_match.specs.Queries.{request_of}
-use Rattle.poll_match.specs.Window.{Open as OpenOne, held, refusal, Names, with_answer, with_query, Changes, fresh, closed}
+use Rattle.poll_match.specs.Window.{Open as OpenOne, held, refusal, Names, with_answer, with_query, Changes, fresh}
 use Rattle.poll_book.specs.declared.rows.PointRow.{PointRow}
-use Rattle.poll_book.specs.Tables.{Tables, Within, Readings, new_rows}
+use Rattle.poll_book.specs.Tables.{Tables, Readings, new_rows}
 use Rattle.poll_book.specs.Changes.{AreNumbered, keyed}
 use Rattle.office_core.specs.declared.error.OfficeError.{OfficeError}
-use Rattle.office_core.specs.declared.error.OfficeError.TheVariants as error
 use Rattle.office_core.specs.declared.event.Arrival.{Arrival}
 use Rattle.office_core.specs.declared.event.Arrival.TheVariants as arrival
 use Rattle.office_core.specs.declared.event.Event.{Event}
@@ -27,16 +24,15 @@ use Rattle.office_core.specs.declared.event.EventAnswer.{EventAnswer}
 use Rattle.office_core.specs.declared.event.EventAnswer.TheVariants as answer
 use Rattle.office_core.specs.Errors.{refused_by}
 use Rattle.office_core.specs.Sites.{device_name, line_place}
-use Rattle.office_core.specs.Cover.{Question, asked_of, cells, excepts, exception_code, given_of, given_named, given_rows, reply_cells}
+use Rattle.office_core.specs.Cover.{Question, asked_of, cells, excepts, exception_code, given_named, given_rows, reply_cells}
 use Rattle.office_core.specs.Loads.{loading, outcome, added}
-use Rattle.office_core.specs.History.{Happening, Restart, Load, Open, Ask, Reply, Noise, History, tables, readings, points, site_of, connections, open_line, open_fault, asked, ask_fault, question}
+use Rattle.office_core.specs.History.{Happening, Restart, Load, Open, Ask, Reply, Noise, History, tables, points, site_of, connections, open_line, open_fault, asked, ask_fault, question}
 use Rattle.office_core.specs.Answers.{answer_of, unit_answer, query_frame}
 use Rattle.office_core.specs.Keeping.{IsCopy, with_given, rows_at, brought, arrival_of}
-use Rattle.office_core.specs.Legal.{MayHappen}
 use Rattle.office_core.specs.Standing.{StandsFor, IsFormer, Closes, Sees, Goes, is_store}
 use Rattle.office_core.proofs.Cells.{cells_spelled, exception_spelled, bits_plain, words_plain, no_echo}
 use Rattle.office_core.proofs.Loaded.{numbered_points, load_done, restarted}
-use Rattle.office_core.proofs.Naming.{Accepted, accepted, found_is}
+use Rattle.office_core.proofs.Naming.{accepted, found_is}
 use Rattle.office_core.proofs.Arrivals.{recorded, arrival_refused, arrival_accepted}
 use Rattle.office_core.proofs.Asks.{asks, ask_refused, ask_made_so}
 use Rattle.office_core.proofs.Opens.{open_refused, open_made_so}

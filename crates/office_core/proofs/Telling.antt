@@ -1,11 +1,10 @@
 -- How a call's refusal is told.
 use Rattle.std.proofs.Common.{◌≡◌, Result, Ok, Err, ℕ, ap, sym, subst}
 use Rattle.std.specs.Prelude.{IfErr}
-use Rattle.std.specs.Result.{IsErr, IsErrAnd}
+use Rattle.std.specs.Result.{IsErrAnd}
 use Rattle.mb_mbap.specs.declared.frame.Frame.{Frame}
 use Rattle.poll_book.specs.declared.fault.StoreFault.{StoreFault}
 use Rattle.office_core.specs.declared.error.OfficeError.{OfficeError}
-use Rattle.office_core.specs.declared.error.OfficeError.TheVariants as error
 use Rattle.office_core.specs.declared.event.Arrival.{Arrival}
 use Rattle.office_core.specs.declared.event.Outcome.{Outcome}
 use Rattle.office_core.specs.declared.event.EventAnswer.TheVariants as answer

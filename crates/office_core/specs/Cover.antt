@@ -1,5 +1,5 @@
 -- Which points a read covers, and what a reply gives to them.
-use Rattle.std.specs.Prelude.{ℕ, ◌+◌, ◌-◌, Bool, true, false, ◌&&◌, ◌==◌, cond, nat_le, List, [], ◌∷◌, map, filter, take, drop, slice_index, ⊤, Option, Some, None, if◌then◌else◌}
+use Rattle.std.specs.Prelude.{ℕ, ◌+◌, ◌-◌, Bool, ◌&&◌, ◌==◌, cond, nat_le, List, [], map, filter, take, drop, slice_index, ⊤, Option, Some, None}
 use Rattle.std.specs.List.{list_any}
 use Rattle.std.specs.Str.{bytes_eq}
 use Rattle.mb_pdu.specs.Packing.{unworded, unpacked}

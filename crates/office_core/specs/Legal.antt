@@ -1,5 +1,5 @@
 -- Which histories can be.
-use Rattle.std.specs.Prelude.{◌≡◌, ◌⊎◌, ℕ, ◌+◌, ◌%◌, ◌<◌, ◌≤◌, Bool, true, false, ◌&&◌, ◌==◌, List, [], ◌∷◌, length, Option, Some, None, IsSome, slice_get, ⊤}
+use Rattle.std.specs.Prelude.{◌≡◌, ◌⊎◌, ℕ, ◌+◌, ◌%◌, ◌<◌, ◌≤◌, Bool, true, false, ◌&&◌, ◌==◌, [], ◌∷◌, length, Some, None, IsSome, slice_get, ⊤}
 use Rattle.mb_pdu.specs.Replies.{IsBytes}
 use Rattle.mb_mbap.specs.declared.frame.Frame.{Frame}
 use Rattle.point_list.specs.Sites.{IsSound}

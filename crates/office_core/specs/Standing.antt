@@ -1,13 +1,10 @@
 -- How an office stands for a history, and what it sees of one.
 use Rattle.std.specs.Prelude.{◌≡◌, ℕ, ◌+◌, Bool, true, false, if◌then◌else◌, List, [], ◌∷◌, length, Option, Some, None, option_map, slice_get, ⊤}
-use Rattle.mb_mbap.specs.declared.frame.Frame.{Frame}
 use Rattle.point_list.specs.declared.site.Site.{Site}
-use Rattle.read_planner.specs.declared.Read.{Read}
 use Rattle.poll_match.specs.declared.asked.Matched.{Matched}
 use Rattle.poll_match.specs.Window.{Open as OpenOne, Changes, IsLeastOf, closed, held, last_of, line_of}
 use Rattle.poll_book.specs.declared.rows.PointRow.{PointRow}
 use Rattle.poll_book.specs.Tables.{Tables}
-use Rattle.office_core.specs.declared.error.OfficeError.{OfficeError}
 use Rattle.office_core.specs.declared.error.OfficeError.TheVariants as error
 use Rattle.office_core.specs.declared.event.Event.{Event}
 use Rattle.office_core.specs.declared.event.Event.TheVariants as event

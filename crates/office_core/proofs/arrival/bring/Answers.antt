@@ -3,7 +3,7 @@ use Rattle.std.specs.Prelude.{length}
 use Rattle.poll_book.specs.Tables.{Readings, new_rows}
 use Rattle.poll_book.specs.Changes.{AreNumbered, keyed}
 use Rattle.office_core.specs.declared.event.Arrival.TheVariants.{Recorded}
-use Rattle.office_core.specs.Keeping.{Endures, IsCounted, Rises, rows_at, with_given}
+use Rattle.office_core.specs.Keeping.{Endures, Rises, rows_at, with_given}
 use Rattle.office_core.proofs.Given.{rises_at, brought_rows, arrival_rows}
 use Rattle.office_core.proofs.Newness.{on_refusal, on_err, unmet}
 use Rattle.office_core.proofs.arrival.bring.Goals as goal

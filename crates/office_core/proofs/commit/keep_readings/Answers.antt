@@ -1,4 +1,4 @@
-use Rattle.std.proofs.Common.{◌≡◌, ◌∙◌, [], None, subst, refl, ap, rules}
+use Rattle.std.proofs.Common.{◌≡◌, ◌∙◌, [], None, subst, refl, ap}
 use Rattle.poll_book.specs.Changes.{as_rows, keyed}
 use Rattle.poll_book.specs.declared.rows.Change.{Change}
 use Rattle.poll_book.specs.Tables.{new_rows}

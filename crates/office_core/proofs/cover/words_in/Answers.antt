@@ -1,5 +1,4 @@
-use Rattle.std.proofs.Common.{◌≡◌, ◌∙◌, rules, ap, sym}
-use Rattle.mb_pdu.specs.declared.reply.Reply.TheVariants.{Bits}
+use Rattle.std.proofs.Common.{◌∙◌, rules, ap, sym}
 use Rattle.office_core.specs.Cover as cover
 use Rattle.office_core.proofs.Cells.{bit_words}
 use Rattle.office_core.proofs.cover.words_in.Goals as goal

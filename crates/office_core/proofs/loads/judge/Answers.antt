@@ -1,4 +1,4 @@
-use Rattle.std.proofs.Common.{◌≡◌, ◌∙◌, sym, ap, subst, length}
+use Rattle.std.proofs.Common.{◌≡◌, sym, subst, length}
 use Rattle.std.specs.Prelude.{IfOk}
 use Rattle.point_list.specs.Columns.{is_device}
 use Rattle.point_list.specs.Lists.{records_of}

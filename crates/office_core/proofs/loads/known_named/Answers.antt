@@ -1,4 +1,4 @@
-use Rattle.std.proofs.Common.{◌≡◌, ◌∙◌, sym, ap, Some}
+use Rattle.std.proofs.Common.{◌∙◌, sym, ap, Some}
 use Rattle.std.specs.Str.{bytes_eq}
 use Rattle.poll_book.specs.declared.rows.PointRow.{PointRow}
 use Rattle.office_core.proofs.Finding.{found, missed}

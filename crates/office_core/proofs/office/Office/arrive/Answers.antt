@@ -1,5 +1,4 @@
-use Rattle.std.proofs.Common.{◌≡◌, ◌∙◌, subst, sym, ap, refl, rules}
-use Rattle.poll_match.specs.Window.{held}
+use Rattle.std.proofs.Common.{◌∙◌, subst, sym, ap, refl}
 use Rattle.office_core.specs.declared.event.Event.TheVariants.{Arrive}
 use Rattle.office_core.specs.declared.event.EventAnswer.TheVariants as answer
 use Rattle.office_core.specs.Errors.{refused_by, refused_store}

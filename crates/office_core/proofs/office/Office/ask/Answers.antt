@@ -1,4 +1,4 @@
-use Rattle.std.proofs.Common.{◌≡◌, ◌∙◌, length, subst, sym, ap, refl, rules}
+use Rattle.std.proofs.Common.{◌≡◌, ◌∙◌, length, subst, sym, ap, rules}
 use Rattle.poll_match.specs.declared.asked.Asked.TheVariants.{Read}
 use Rattle.poll_match.specs.Window.{IsNextFrame, Changes, held, with_query}
 use Rattle.office_core.specs.declared.event.Event.TheVariants.{Ask}

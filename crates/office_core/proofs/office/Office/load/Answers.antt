@@ -1,14 +1,13 @@
-use Rattle.std.proofs.Common.{◌≡◌, ◌≤◌, ◌+◌, ◌++◌, ◌∙◌, [], None, List, length, subst, sym, ap, refl, rules, arith, length-append}
+use Rattle.std.proofs.Common.{◌≡◌, ◌++◌, ◌∙◌, [], None, List, length, subst, sym, ap, refl, arith, length-append}
 use Rattle.std.proofs.lemmas.Bool.Decides.{nat_tests}
 use Rattle.poll_book.specs.declared.rows.Change.{Change}
 use Rattle.poll_book.specs.declared.rows.PointRow.{PointRow}
-use Rattle.poll_book.specs.Changes.{AreNumbered, IsNew, applied}
-use Rattle.poll_book.specs.Tables.{Tables}
+use Rattle.poll_book.specs.Changes.{AreNumbered}
 use Rattle.office_core.specs.declared.event.Event.TheVariants.{Load}
 use Rattle.office_core.specs.declared.event.EventAnswer.TheVariants as answer
 use Rattle.office_core.specs.Errors.{refused_store}
 use Rattle.office_core.specs.Loads.{added, loading, outcome}
-use Rattle.office_core.specs.Keeping.{Endures, IsCopy}
+use Rattle.office_core.specs.Keeping.{Endures}
 use Rattle.office_core.specs.Offices.{judged}
 use Rattle.office_core.specs.Standing.{Goes, StandsFor, is_refusal}
 use Rattle.office_core.proofs.Loaded.{numbered_added, nothing_added}

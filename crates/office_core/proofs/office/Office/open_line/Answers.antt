@@ -1,15 +1,12 @@
-use Rattle.std.proofs.Common.{◌≡◌, ◌+◌, ◌<◌, ◌≤◌, ◌∙◌, [], Some, subst, sym, ap, refl, rules, arith}
-use Rattle.poll_match.specs.Window.{held, greatest_of}
+use Rattle.std.proofs.Common.{◌≡◌, ◌≤◌, ◌∙◌, [], Some, subst, sym, ap, refl, arith}
 use Rattle.poll_book.specs.declared.rows.Change.{Change}
 use Rattle.poll_book.specs.Changes.{AreNumbered}
-use Rattle.poll_book.specs.Tables.{Tables}
 use Rattle.office_core.specs.declared.error.OfficeError.TheVariants as error
 use Rattle.office_core.specs.declared.event.Event.TheVariants.{Open}
 use Rattle.office_core.specs.declared.event.EventAnswer.TheVariants as answer
 use Rattle.office_core.specs.Sites.{line_place}
-use Rattle.office_core.specs.History.{History, connections, tables}
-use Rattle.office_core.specs.Keeping.{Endures, IsCopy}
-use Rattle.office_core.specs.Standing.{Goes, StandsFor}
+use Rattle.office_core.specs.History.{connections, tables}
+use Rattle.office_core.specs.Keeping.{Endures}
 use Rattle.office_core.proofs.Newness.{applied_connection, new_connection}
 use Rattle.office_core.proofs.Opening.{former_is, not_open, opening_full, opening_goes, reclosed}
 use Rattle.office_core.proofs.Opens.{greatest_made}
