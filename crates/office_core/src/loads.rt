@@ -5,8 +5,7 @@ ghost use Rattle.std.specs.Str.{bytes_eq};
 ghost use Rattle.office_core.specs.Loads as loads;
 
 use crate::event::{LoadFault, Outcome, Reason};
-use mb_map::Table;
-use point_list::{ListError, ListFault, ListRow, Point, Role, Site, read_list, resolve};
+use point_list::{ListError, ListFault, ListRow, Point, Site, read_list, resolve};
 use poll_book::{PointRow, StoreFault};
 use std::alloc::{AllocError, Global};
 
@@ -28,40 +27,17 @@ pub(crate) fn known_named(known: &[PointRow], name: &[u8]) -> Option<PointRow>
     }
 }
 
-fn is_same_table(a: Table, b: Table) -> bool
-    ensures { result ≡ loads.same_table a b }
-{
-    match (a, b) {
-        (Table::Coil, Table::Coil)
-        | (Table::Discrete, Table::Discrete)
-        | (Table::Holding, Table::Holding)
-        | (Table::Input, Table::Input) => true,
-        _ => false,
-    }
-}
-
-fn is_same_role(a: Role, b: Role) -> bool
-    ensures { result ≡ loads.same_role a b }
-{
-    match (a, b) {
-        (Role::Gauge, Role::Gauge)
-        | (Role::Counter, Role::Counter)
-        | (Role::Setting, Role::Setting) => true,
-        _ => false,
-    }
-}
-
 fn is_same_point(a: &Point, b: &Point) -> bool
     ensures { result ≡ loads.same_point a.now b.now }
 {
     a.name == b.name
         && a.device == b.device
-        && is_same_table(a.table, b.table)
+        && a.table == b.table
         && a.address == b.address
         && a.kind.code() == b.kind.code()
         && a.kind.registers() == b.kind.registers()
         && a.scale == b.scale
-        && is_same_role(a.role, b.role)
+        && a.role == b.role
         && a.roll == b.roll
 }
 
