@@ -3,6 +3,7 @@ use Rattle.std.specs.Prelude.{◌≡◌, ℕ, ⊤, List, Option, Some, None, if�
 use Rattle.std.specs.Global.{Global}
 use Rattle.mb_mbap.specs.declared.frame.Frame.{Frame}
 use Rattle.poll_match.specs.Window.{held}
+use Rattle.point_list.specs.declared.site.Site.{Site}
 use Rattle.poll_book.specs.declared.rows.PointRow.{PointRow}
 use Rattle.poll_book.specs.declared.rows.ReadingRow.{ReadingRow}
 use Rattle.poll_book.specs.Changes.{as_rows}
@@ -21,6 +22,16 @@ use Rattle.office_core.specs.Loads.{known_named}
 use Rattle.office_core.specs.History.{History, points, readings, total}
 use Rattle.office_core.specs.Keeping.{Endures}
 use Rattle.office_core.specs.Standing.{StandsFor}
+
+-- what contracts see of an office, beside the histories that it stands for
+abbrev pub keeper_of : {K : Type 0} {g : Ghosts K} → Office K g → K
+keeper_of office = office.keeper
+
+abbrev pub site_of : {K : Type 0} {g : Ghosts K} → Office K g → Site
+site_of office = office.site
+
+abbrev pub points_of : {K : Type 0} {g : Ghosts K} → Office K g → List PointRow
+points_of office = office.points.items
 
 -- an office whose keeper holds the history's tables stands for that history
 abbrev pub Stands : {K : Type 0} {g : Ghosts K} → Office K g → History → Type 0

@@ -105,22 +105,22 @@ pub struct Office<K: Keeper> {
 impl<K: Keeper> Office<K> {
     ghost use Rattle.office_core.specs.History.{History, Restart, tables, points};
     ghost use Rattle.office_core.specs.Errors.{IsCaused, IsOfStore};
-    ghost use Rattle.office_core.specs.Offices.{AnswerCaused, IsAlike, Shows, Stands, StandsInCrash, arrived, asked_so, judged, opened, readings_of, total_of};
+    ghost use Rattle.office_core.specs.Offices.{AnswerCaused, IsAlike, Shows, Stands, StandsInCrash, arrived, asked_so, judged, keeper_of, opened, points_of, readings_of, site_of, total_of};
 
     /// An office over what a keeper holds, with no connection open. A keeper that can't be read is
     /// given back with `Store`, and one with a point whose device isn't in the site with
     /// `SiteDiffers`. More than 10,000 points are no office's: that is `Store(Other)`.
     pub fn new(alloc: Global, mut keeper: K, site: Site) -> Result<Office<K>, (OfficeError, K)>
         requires { IsSound site }
-        ensures stands { IfOk result (λ office. K.is_clean office.keeper → (before : History) → K.holds keeper (tables before) → Stands office (Restart site ∷ before)) }
-        ensures crash { IfOk result (λ office. K.is_clean office.keeper → (before : History) → Endures (K.holds keeper) (K.may_leave keeper) (tables before)
+        ensures stands { IfOk result (λ office. K.is_clean (keeper_of office) → (before : History) → K.holds keeper (tables before) → Stands office (Restart site ∷ before)) }
+        ensures crash { IfOk result (λ office. K.is_clean (keeper_of office) → (before : History) → Endures (K.holds keeper) (K.may_leave keeper) (tables before)
             → StandsInCrash office (Restart site ∷ before)) }
-        ensures devices { IfOk result (λ office. K.is_clean office.keeper → (kept : Tables) → K.holds keeper kept → has_devices site kept.points ≡ true) }
+        ensures devices { IfOk result (λ office. K.is_clean (keeper_of office) → (kept : Tables) → K.holds keeper kept → has_devices site kept.points ≡ true) }
         ensures differs { IfErr result (λ e. e.0 ≡ OfficeError.SiteDiffers → K.is_clean e.1 → (kept : Tables) → K.holds keeper kept → has_devices site kept.points ≡ false) }
         ensures cause { IfErr result (λ e. IsCaused K.may_refuse e.0
             ⊎ (K.is_clean e.1 → (kept : Tables) → K.holds keeper kept → 10000 < length kept.points)) }
-        ensures same { MatchResult result (λ office. Within (K.holds keeper) (K.holds office.keeper)) (λ e. Within (K.holds keeper) (K.holds e.1)) }
-        ensures clean { MatchResult result (λ office. K.is_clean office.keeper → K.is_clean keeper) (λ e. K.is_clean e.1 → K.is_clean keeper) }
+        ensures same { MatchResult result (λ office. Within (K.holds keeper) (K.holds (keeper_of office))) (λ e. Within (K.holds keeper) (K.holds e.1)) }
+        ensures clean { MatchResult result (λ office. K.is_clean (keeper_of office) → K.is_clean keeper) (λ e. K.is_clean e.1 → K.is_clean keeper) }
     {
         let points = match keeper.points(alloc) {
             Ok(points) => points,
@@ -143,7 +143,7 @@ impl<K: Keeper> Office<K> {
 
     /// The keeper again.
     pub fn into_keeper(self) -> K
-        ensures { result ≡ self.keeper }
+        ensures { result ≡ keeper_of self }
     {
         self.keeper
     }
@@ -153,11 +153,11 @@ impl<K: Keeper> Office<K> {
     /// 10,000 points would be known; a point that is known already changes nothing. The error is
     /// `Store` alone.
     pub fn load(&mut self, list: &[u8]) -> Result<Outcome, OfficeError>
-        ensures goes { K.is_clean self.new.keeper → Goes (Stands self.old) (Stands self.new) (Event.Load list.now) (judged result) }
-        ensures crash { K.is_clean self.new.keeper → Goes (StandsInCrash self.old) (StandsInCrash self.new) (Event.Load list.now) (judged result) }
+        ensures goes { K.is_clean (keeper_of self.new) → Goes (Stands self.old) (Stands self.new) (Event.Load list.now) (judged result) }
+        ensures crash { K.is_clean (keeper_of self.new) → Goes (StandsInCrash self.old) (StandsInCrash self.new) (Event.Load list.now) (judged result) }
         ensures cause { IfErr result (λ e. IsOfStore K.may_refuse e) }
         ensures same { is_refusal (judged result) ≡ true → IsAlike self.old self.new }
-        ensures clean { K.is_clean self.new.keeper → K.is_clean self.old.keeper }
+        ensures clean { K.is_clean (keeper_of self.new) → K.is_clean (keeper_of self.old) }
     {
         let (outcome, rows) = judge(self.alloc, &self.site, &self.points, list)?;
         if rows.is_empty() {
@@ -178,11 +178,11 @@ impl<K: Keeper> Office<K> {
     /// keeper's last. `WrongLine` for a line that isn't in the site, `Exhausted` where no number is
     /// left, and `Store`: then the former connection stays open, and the number isn't used.
     pub fn open_line(&mut self, line: &str) -> Result<Conn, OfficeError>
-        ensures goes { K.is_clean self.new.keeper → Goes (Stands self.old) (Stands self.new) (Event.Open line.now) (opened result) }
-        ensures crash { K.is_clean self.new.keeper → Goes (StandsInCrash self.old) (StandsInCrash self.new) (Event.Open line.now) (opened result) }
+        ensures goes { K.is_clean (keeper_of self.new) → Goes (Stands self.old) (Stands self.new) (Event.Open line.now) (opened result) }
+        ensures crash { K.is_clean (keeper_of self.new) → Goes (StandsInCrash self.old) (StandsInCrash self.new) (Event.Open line.now) (opened result) }
         ensures cause { IfErr result (λ e. IsCaused K.may_refuse e) }
         ensures same { OnErr result (IsAlike self.old self.new) }
-        ensures clean { K.is_clean self.new.keeper → K.is_clean self.old.keeper }
+        ensures clean { K.is_clean (keeper_of self.new) → K.is_clean (keeper_of self.old) }
     {
         let Some(line) = line_place(&self.site, line.as_bytes()) else {
             return Err(OfficeError::WrongLine);
@@ -218,11 +218,11 @@ impl<K: Keeper> Office<K> {
         slot: u32,
         read: Read,
     ) -> Result<Frame, OfficeError>
-        ensures goes { K.is_clean self.new.keeper → Goes (Stands self.old) (Stands self.new) (Event.Ask conn device.now slot read) (asked_so result) }
-        ensures crash { K.is_clean self.new.keeper → Goes (StandsInCrash self.old) (StandsInCrash self.new) (Event.Ask conn device.now slot read) (asked_so result) }
+        ensures goes { K.is_clean (keeper_of self.new) → Goes (Stands self.old) (Stands self.new) (Event.Ask conn device.now slot read) (asked_so result) }
+        ensures crash { K.is_clean (keeper_of self.new) → Goes (StandsInCrash self.old) (StandsInCrash self.new) (Event.Ask conn device.now slot read) (asked_so result) }
         ensures cause { IfErr result (λ e. IsCaused K.may_refuse e) }
         ensures same { OnErr result (IsAlike self.old self.new) }
-        ensures keeper { self.new.keeper ≡ self.old.keeper }
+        ensures keeper { keeper_of self.new ≡ keeper_of self.old }
     {
         let line = self.matcher.line_of(conn);
         let to = judge_ask(&self.site, &self.points, line, device.as_bytes(), &read)?;
@@ -241,11 +241,11 @@ impl<K: Keeper> Office<K> {
     /// one in the slot keeps it. `NoConnection`, `NoQuery`, `WrongUnit`, `Repeat` and `WrongReply`
     /// are the refusals, in this order, then `Store`: the query stays open then.
     pub fn arrive(&mut self, conn: Conn, frame: &Frame) -> Result<Arrival, OfficeError>
-        ensures goes { K.is_clean self.new.keeper → Goes (Stands self.old) (Stands self.new) (Event.Arrive conn frame.now) (arrived result) }
-        ensures crash { K.is_clean self.new.keeper → Goes (StandsInCrash self.old) (StandsInCrash self.new) (Event.Arrive conn frame.now) (arrived result) }
+        ensures goes { K.is_clean (keeper_of self.new) → Goes (Stands self.old) (Stands self.new) (Event.Arrive conn frame.now) (arrived result) }
+        ensures crash { K.is_clean (keeper_of self.new) → Goes (StandsInCrash self.old) (StandsInCrash self.new) (Event.Arrive conn frame.now) (arrived result) }
         ensures cause { IfErr result (λ e. IsCaused K.may_refuse e) }
         ensures same { OnErr result (IsAlike self.old self.new) }
-        ensures clean { K.is_clean self.new.keeper → K.is_clean self.old.keeper }
+        ensures clean { K.is_clean (keeper_of self.new) → K.is_clean (keeper_of self.old) }
     {
         let found = self.matcher.find(conn, frame)?;
         let arrival = bring(
@@ -264,18 +264,18 @@ impl<K: Keeper> Office<K> {
     pub fn restart(&mut self)
         ensures goes { Goes (Stands self.old) (Stands self.new) Event.Restart EventAnswer.Restarted }
         ensures crash { Goes (StandsInCrash self.old) (StandsInCrash self.new) Event.Restart EventAnswer.Restarted }
-        ensures keeper { self.new.keeper ≡ self.old.keeper }
+        ensures keeper { keeper_of self.new ≡ keeper_of self.old }
     {
         self.matcher.close_all();
     }
 
     /// One event, answered as the call of its name answers it.
     pub fn step(&mut self, event: &Event) -> EventAnswer
-        ensures goes { K.is_clean self.new.keeper → Goes (Stands self.old) (Stands self.new) event.now result }
-        ensures crash { K.is_clean self.new.keeper → Goes (StandsInCrash self.old) (StandsInCrash self.new) event.now result }
+        ensures goes { K.is_clean (keeper_of self.new) → Goes (Stands self.old) (Stands self.new) event.now result }
+        ensures crash { K.is_clean (keeper_of self.new) → Goes (StandsInCrash self.old) (StandsInCrash self.new) event.now result }
         ensures cause { AnswerCaused K.may_refuse result }
         ensures same { is_refusal result ≡ true → IsAlike self.old self.new }
-        ensures clean { K.is_clean self.new.keeper → K.is_clean self.old.keeper }
+        ensures clean { K.is_clean (keeper_of self.new) → K.is_clean (keeper_of self.old) }
     {
         match event {
             Event::Load(list) => match self.load(list.as_slice()) {
@@ -306,10 +306,10 @@ impl<K: Keeper> Office<K> {
     /// Many events, in order, each with its answer. Without memory for the answers none is taken.
     pub fn run(&mut self, events: &[Event]) -> Result<Vec<EventAnswer>, AllocError>
         ensures each { IfOk result (λ told. length told.items ≡ length events.now) }
-        ensures runs { K.is_clean self.new.keeper → IfOk result (λ told. Runs (Stands self.old) (Stands self.new) events.now told.items) }
-        ensures crash { K.is_clean self.new.keeper → IfOk result (λ told. Runs (StandsInCrash self.old) (StandsInCrash self.new) events.now told.items) }
+        ensures runs { K.is_clean (keeper_of self.new) → IfOk result (λ told. Runs (Stands self.old) (Stands self.new) events.now told.items) }
+        ensures crash { K.is_clean (keeper_of self.new) → IfOk result (λ told. Runs (StandsInCrash self.old) (StandsInCrash self.new) events.now told.items) }
         ensures cause { IfOk result (λ told. All (AnswerCaused K.may_refuse) told.items) }
-        ensures clean { K.is_clean self.new.keeper → K.is_clean self.old.keeper }
+        ensures clean { K.is_clean (keeper_of self.new) → K.is_clean (keeper_of self.old) }
         ensures memory { OnErr result (self.new ≡ self.old) }
     {
         let mut told = Vec::with_capacity(self.alloc, events.len())?;
@@ -327,11 +327,11 @@ impl<K: Keeper> Office<K> {
         from: u32,
         to: u32,
     ) -> Result<Option<Vec<ReadingRow>>, OfficeError>
-        ensures value { K.is_clean self.new.keeper → (before : History) → Stands self.old before
+        ensures value { K.is_clean (keeper_of self.new) → (before : History) → Stands self.old before
             → IfOk result (λ rows. Shows (readings_of before point.now from to) rows) }
         ensures cause { IfErr result (λ e. IsOfStore K.may_refuse e) }
         ensures same { IsAlike self.old self.new }
-        ensures clean { K.is_clean self.new.keeper → K.is_clean self.old.keeper }
+        ensures clean { K.is_clean (keeper_of self.new) → K.is_clean (keeper_of self.old) }
     {
         let Some(row) = known_named(&self.points, point.as_bytes()) else {
             return Ok(None);
@@ -343,11 +343,11 @@ impl<K: Keeper> Office<K> {
     /// How far a counter went by its counted readings; `None` where no counter of this name is
     /// known.
     pub fn total(&mut self, point: &str) -> Result<Option<u128>, OfficeError>
-        ensures value { K.is_clean self.new.keeper → (before : History) → Stands self.old before
+        ensures value { K.is_clean (keeper_of self.new) → (before : History) → Stands self.old before
             → IfOk result (λ sum. sum ≡ total_of before point.now) }
         ensures cause { IfErr result (λ e. IsOfStore K.may_refuse e) }
         ensures same { IsAlike self.old self.new }
-        ensures clean { K.is_clean self.new.keeper → K.is_clean self.old.keeper }
+        ensures clean { K.is_clean (keeper_of self.new) → K.is_clean (keeper_of self.old) }
     {
         let Some(row) = known_named(&self.points, point.as_bytes()) else {
             return Ok(None);
@@ -360,7 +360,7 @@ impl<K: Keeper> Office<K> {
 
     /// The known points, by their numbers.
     pub fn points(&self) -> &[PointRow]
-        ensures value { result.now ≡ self.now.points.items }
+        ensures value { result.now ≡ points_of self.now }
         ensures history { (before : History) → Stands self.now before → result.now ≡ points before }
     {
         self.points.as_slice()
@@ -368,7 +368,7 @@ impl<K: Keeper> Office<K> {
 
     /// The site in force.
     pub fn site(&self) -> &Site
-        ensures { result.now ≡ self.now.site }
+        ensures { result.now ≡ site_of self.now }
     {
         &self.site
     }
