@@ -11,3 +11,5 @@ pub mod Keeping
 pub mod Offices
 pub mod FirstArrivals
 pub mod Plain
+pub mod Fitting
+pub mod Messages

@@ -2,6 +2,7 @@ ghost use Rattle.std.specs.Prelude.{◌≡◌, string_bytes};
 
 use crate::items::Items;
 use crate::name::Name;
+use crate::site_file::is_sound;
 use std::marker::Model;
 
 /// Where a line is reached, as `host:port`. Contracts see its bytes.
@@ -57,4 +58,17 @@ pub struct Device {
 pub struct Site {
     pub lines: Items<Line>,
     pub devices: Items<Device>,
+}
+
+impl Site {
+    ghost use Rattle.point_list.specs.Sites as sites;
+
+    /// Whether its parts agree: at most 64 lines and 256 devices, names that differ, a line for each
+    /// device, and no two devices that share line and unit identifier. A site that `read_site` gives
+    /// is so.
+    pub fn is_sound(&self) -> bool
+        ensures { result ≡ sites.is_sound self.now.lines self.now.devices }
+    {
+        is_sound(self.lines.as_slice(), self.devices.as_slice())
+    }
 }

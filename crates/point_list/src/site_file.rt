@@ -269,7 +269,7 @@ fn have_lines(lines: &[Line], devices: &[Device]) -> bool
         .all(|device| (device.line as usize) < lines.len())
 }
 
-fn is_sound(lines: &[Line], devices: &[Device]) -> bool
+pub(crate) fn is_sound(lines: &[Line], devices: &[Device]) -> bool
     ensures { result ≡ is_sound lines.now devices.now }
 {
     lines.len() <= 64

@@ -1,0 +1,43 @@
+-- What happened, as an office's events tell it: any event that comes can be told so.
+use Rattle.std.specs.Prelude.{ℕ, ◌<◌, ◌≤◌, ⊤, Option, Some, None, if◌then◌else◌, length, slice_get}
+use Rattle.mb_pdu.specs.Replies.{IsBytes}
+use Rattle.mb_mbap.specs.declared.frame.Frame.{Frame}
+use Rattle.poll_match.specs.Window.{numbered}
+use Rattle.office_core.specs.declared.event.Event.{Event}
+use Rattle.office_core.specs.declared.event.Event.TheVariants as event
+use Rattle.office_core.specs.Cover.{Question}
+use Rattle.office_core.specs.History.{Happening, Restart, Load, Open, Ask, Reply, Noise, History, site_of, open_line, asked}
+use Rattle.office_core.specs.Legal.{frame_answers}
+
+-- a frame that answers the query that it names is a reply to it, and any other is noise
+abbrev pub answering : ℕ → Frame → ℕ → Option Question → Happening
+answering conn frame number None = Noise conn frame
+answering conn frame number (Some q) = if frame_answers q frame then Reply conn number frame.unit else Noise conn frame
+
+abbrev pub naming : History → ℕ → Frame → Option ℕ → Happening
+naming before conn frame None = Noise conn frame
+naming before conn frame (Some number) = answering conn frame number (slice_get (asked before conn) number)
+
+abbrev pub arriving_over : History → ℕ → Frame → Option ℕ → Happening
+arriving_over before conn frame None = Noise conn frame
+arriving_over before conn frame (Some line) = naming before conn frame (numbered frame.transaction (length (asked before conn)))
+
+-- a frame that comes over a connection
+abbrev pub arriving : History → ℕ → Frame → Happening
+arriving before conn frame = arriving_over before conn frame (open_line before conn)
+
+-- what happened where an office sees this
+abbrev pub happening_of : History → Event → Happening
+happening_of before (event.Load list) = Load list
+happening_of before (event.Open line) = Open line
+happening_of before (event.Ask conn device slot read) = Ask conn device slot read
+happening_of before (event.Arrive conn frame) = arriving before conn frame
+happening_of before event.Restart = Restart (site_of before)
+
+-- a caller's or a device's message: its texts are bytes, and its numbers are of their types
+abbrev pub IsMessage : Event → Type 0
+IsMessage (event.Load list) = IsBytes list
+IsMessage (event.Open line) = IsBytes line
+IsMessage (event.Ask conn device slot read) = IsBytes device × (conn ≤ 4294967295) × (slot ≤ 4294967295)
+IsMessage (event.Arrive conn frame) = IsBytes frame.unit × (frame.transaction < 65536)
+IsMessage event.Restart = ⊥
