@@ -23,3 +23,4 @@ pub mod Opening
 pub mod GivenPlainly
 pub mod PutPlainly
 pub mod TotalPlainly
+pub mod Messages
