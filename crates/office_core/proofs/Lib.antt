@@ -23,3 +23,5 @@ pub mod Opening
 pub mod GivenPlainly
 pub mod PutPlainly
 pub mod TotalPlainly
+pub mod Forms
+pub mod Fitting

@@ -4,7 +4,8 @@ ghost use Rattle.std.specs.Prelude.{◌≡◌, ◌↔◌, ℕ, List, Some};
 ghost use Rattle.poll_book.specs.declared.rows.PointRow.{PointRow};
 ghost use Rattle.poll_book.specs.declared.rows.Reading.{Reading};
 ghost use Rattle.poll_book.specs.Tables.{reading_at};
-ghost use Rattle.office_core.specs.History.{History, readings, total};
+ghost use Rattle.office_core.specs.Fitting.{IsFitting};
+ghost use Rattle.office_core.specs.History.{History, readings, tables, total};
 ghost use Rattle.office_core.specs.Legal.{Legal};
 ghost use Rattle.office_core.specs.FirstArrivals.{IsReadingOf, AreBySlot, sum_of_steps, numbers_of};
 
@@ -17,4 +18,10 @@ pub fn first_arrivals()
     ensures slots { (before : History) (known : PointRow) → (pairs : List (ℕ × ℕ)) × AreBySlot before known pairs }
     ensures total { (before : History) (known : PointRow) (pairs : List (ℕ × ℕ)) → AreBySlot before known pairs
         → total before known ≡ sum_of_steps known.point.roll (numbers_of pairs) }
+{}
+
+/// What an office keeps of a point has the form of its type, whatever came: its type and its scale
+/// are such as there are, and each of its readings has as many registers as the type, a cell 0 or 1.
+pub fn fitting_tables()
+    ensures { (before : History) → Legal before → IsFitting (tables before) }
 {}
