@@ -24,3 +24,5 @@ pub mod GivenPlainly
 pub mod PutPlainly
 pub mod TotalPlainly
 pub mod Messages
+pub mod Forms
+pub mod Fitting

@@ -90,7 +90,7 @@ told_so : (before : History) (seen : Event) → IsMessage seen → IsTold before
 told_so before (event.Load list) bytes = (bytes, refl)
 told_so before (event.Open line) bytes = (bytes, refl)
 told_so before (event.Ask conn device slot read) bounds = (bounds, (refl, refl, refl, refl))
-told_so before (event.Arrive conn frame) is = arriving_told before conn frame is.0 (open_line before conn) refl
+told_so before (event.Arrive conn frame) bytes = arriving_told before conn frame bytes (open_line before conn) refl
 told_so before event.Restart never = absurd never
 
 -- a message may happen

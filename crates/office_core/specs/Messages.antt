@@ -1,5 +1,5 @@
 -- What happened, as an office's events tell it: any event that comes can be told so.
-use Rattle.std.specs.Prelude.{ℕ, ◌<◌, ◌≤◌, ⊤, Option, Some, None, if◌then◌else◌, length, slice_get}
+use Rattle.std.specs.Prelude.{ℕ, ◌≤◌, Option, Some, None, if◌then◌else◌, length, slice_get}
 use Rattle.mb_pdu.specs.Replies.{IsBytes}
 use Rattle.mb_mbap.specs.declared.frame.Frame.{Frame}
 use Rattle.poll_match.specs.Window.{numbered}
@@ -39,5 +39,5 @@ abbrev pub IsMessage : Event → Type 0
 IsMessage (event.Load list) = IsBytes list
 IsMessage (event.Open line) = IsBytes line
 IsMessage (event.Ask conn device slot read) = IsBytes device × (conn ≤ 4294967295) × (slot ≤ 4294967295)
-IsMessage (event.Arrive conn frame) = IsBytes frame.unit × (frame.transaction < 65536)
+IsMessage (event.Arrive conn frame) = IsBytes frame.unit
 IsMessage event.Restart = ⊥

@@ -5,7 +5,8 @@ ghost use Rattle.poll_book.specs.declared.rows.PointRow.{PointRow};
 ghost use Rattle.poll_book.specs.declared.rows.Reading.{Reading};
 ghost use Rattle.poll_book.specs.Tables.{reading_at};
 ghost use Rattle.office_core.specs.declared.event.Event.{Event};
-ghost use Rattle.office_core.specs.History.{History, readings, total};
+ghost use Rattle.office_core.specs.Fitting.{IsFitting};
+ghost use Rattle.office_core.specs.History.{History, readings, tables, total};
 ghost use Rattle.office_core.specs.Legal.{Legal, MayHappen};
 ghost use Rattle.office_core.specs.Messages.{IsMessage, happening_of};
 ghost use Rattle.office_core.specs.Standing.{Sees};
@@ -28,4 +29,10 @@ pub fn first_arrivals()
 pub fn any_message()
     ensures may_happen { (before : History) (seen : Event) → IsMessage seen → MayHappen before (happening_of before seen) }
     ensures seen { (before : History) (seen : Event) → IsMessage seen → Sees before (happening_of before seen) seen }
+{}
+
+/// What an office keeps of a point has the form of its type, whatever came: its type and its scale
+/// are such as there are, and each of its readings has as many registers as the type, a cell 0 or 1.
+pub fn fitting_tables()
+    ensures { (before : History) → Legal before → IsFitting (tables before) }
 {}

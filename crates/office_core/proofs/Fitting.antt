@@ -1,0 +1,302 @@
+-- The readings of a history have the form of their points' types.
+use Rattle.std.proofs.Common.{◌≡◌, ◌≤◌, ◌<◌, ◌+◌, ℕ, zero, suc, Bool, true, false, cond, eqb, leb, not, ◌&&◌, List, [], ◌∷◌, ◌++◌, length, map, take, drop, get_or, Option, Some, None, refl, sym, ap, ◌∙◌, subst, arith}
+use Rattle.std.specs.Prelude.{◌-◌, All, Contains, filter, slice_get}
+use Rattle.std.specs.Str.{bytes_eq}
+use Rattle.std.specs.FinMap.Entries as rows
+use Rattle.std.specs.declared.cmp.Ordering.{Ordering}
+use Rattle.std.specs.declared.cmp.Ordering.TheVariants.{Less, Equal, Greater}
+use Rattle.std.proofs.lemmas.Bool.{and_parts, leb-true, eqb-true}
+use Rattle.std.proofs.lemmas.List.{length-map, length-drop, length-take-le}
+use Rattle.std.proofs.lemmas.List.Elements.{All-nil, All-cons, All-head, All-tail, All-map, All-filter, All-append, All-take, All-weaker, All-contains_itself, Contains-append_left, Contains-get_or, filter_passes}
+use Rattle.mb_pdu.specs.declared.request.Request.{Request}
+use Rattle.mb_pdu.specs.declared.request.Request.TheVariants.{ReadCoils, ReadDiscrete, ReadHolding, ReadInput}
+use Rattle.mb_pdu.specs.declared.reply.Normal.{Normal}
+use Rattle.mb_pdu.specs.declared.reply.Normal.TheVariants.{OfBits, OfWords, Echo}
+use Rattle.mb_pdu.specs.declared.reply.Reply.{Reply as AReply}
+use Rattle.mb_pdu.specs.declared.reply.Reply.TheVariants.{Bits, Registers, Written, Excepted}
+use Rattle.mb_pdu.specs.Replies.{IsBytes, normal_of, fits_normal}
+use Rattle.mb_pdu.proofs.Tells.{told}
+use Rattle.mb_map.specs.declared.table.Table.{Table}
+use Rattle.mb_map.specs.declared.table.Table.TheVariants.{Coil, Discrete, Holding, Input}
+use Rattle.sunspec.specs.declared.point_type.PointType.{PointType}
+use Rattle.sunspec.specs.declared.point_type.PointType.TheVariants.{Bit}
+use Rattle.sunspec.specs.declared.point_type.Content.TheVariants.{Bit as Cell}
+use Rattle.sunspec.specs.PointType.{row}
+use Rattle.sunspec.specs.Value.{AreRegistersOf, register_sum}
+use Rattle.point_list.specs.declared.point.Point.{Point}
+use Rattle.point_list.specs.Columns.{holds_bits, is_bit}
+use Rattle.read_planner.specs.declared.Read.{Read}
+use Rattle.read_planner.specs.Read.{read_request}
+use Rattle.poll_book.specs.declared.rows.PointRow.{PointRow}
+use Rattle.poll_book.specs.declared.rows.Reading.{Reading}
+use Rattle.poll_book.specs.Tables.{Key, key_cmp, Readings, is_between, readings_between, with_rows}
+use Rattle.poll_book.specs.Changes.{keyed, AreNumbered}
+use Rattle.poll_book.specs.Totals.{is_counted}
+use Rattle.poll_book.proofs.Tabled.{exact_keys}
+use Rattle.office_core.specs.Cover.{Question, one_or_zero, Brings, covers, reads_table, has_size, words_in, reply_cells, given_of, given_rows, fits, excepts}
+use Rattle.office_core.specs.Loads.{loading, added}
+use Rattle.office_core.specs.History.{Restart, Load, Open, Ask, Reply, Noise, History, site_of, points, asked, is_answered, given_by, given, readings, tables}
+use Rattle.office_core.specs.Legal.{Legal}
+use Rattle.office_core.specs.Fitting.{IsFitting}
+use Rattle.office_core.proofs.Cells.{cells_spelled}
+use Rattle.office_core.proofs.FirstArrivals.{points_numbered}
+use Rattle.office_core.proofs.Forms.{IsFormed, IsFormedRow, points_formed}
+
+-- ---- the words of a point in a reply
+
+-- a type whose content is a cell is a bit
+cell_bit : (kind : PointType) → (row kind).content ≡ Cell → is_bit kind ≡ true
+unfolding row
+cell_bit Bit e = refl
+cell_bit kind e = absurd (cc)
+
+-- and a bit has one register
+bit_one : (kind : PointType) → is_bit kind ≡ true → (row kind).registers ≡ 1
+unfolding row
+bit_one Bit e = refl
+bit_one kind e = absurd (cc)
+
+-- a normal reply of so many cells
+abbrev IsOfSize : Normal → ℕ → Type 0
+IsOfSize (OfBits quantity) n = quantity ≡ n
+IsOfSize (OfWords quantity) n = quantity ≡ n
+IsOfSize (Echo text) n = ⊥
+
+-- a normal reply to a read has as many cells as the read asks for
+size_of : (read : Read) → IsOfSize (normal_of (read_request read)) read.span.quantity
+size_of read = by (eqb read.function 1) (eqb read.function 2) (eqb read.function 3)
+  where
+    request : Bool → Bool → Bool → Request
+    request a b c = cond a (ReadCoils read.span) (cond b (ReadDiscrete read.span) (cond c (ReadHolding read.span) (ReadInput read.span)))
+
+    by : (a b c : Bool) → IsOfSize (normal_of (request a b c)) read.span.quantity
+    by true b c = refl
+    by false true c = refl
+    by false false true = refl
+    by false false false = refl
+
+-- a reply that fits has so many cells
+long : (normal : Normal) (n : ℕ) (reply : AReply) → IsOfSize normal n → fits_normal normal reply → length (reply_cells reply) ≡ n
+long (OfBits q) n (Bits bits) size h = length-map bits one_or_zero ∙ h ∙ size
+long (OfBits q) n (Registers words) size h = absurd h
+long (OfBits q) n Written size h = absurd h
+long (OfBits q) n (Excepted code) size h = absurd h
+long (OfWords q) n (Bits bits) size h = absurd h
+long (OfWords q) n (Registers words) size h = h ∙ size
+long (OfWords q) n Written size h = absurd h
+long (OfWords q) n (Excepted code) size h = absurd h
+long (Echo text) n reply size h = absurd size
+
+-- a reply that brings what a read asks for has as many cells as the read
+cells_long : (read : Read) (reply : AReply) → Brings read reply → length (reply_cells reply) ≡ read.span.quantity
+cells_long read reply brings = long (normal_of (read_request read)) read.span.quantity reply (size_of read) brings
+
+-- as many words as are taken, where they are there
+taken_long : (count start place quantity : ℕ) (words : List ℕ) → length words ≡ quantity → start ≤ place → place + count ≤ start + quantity
+    → length (take count (drop (place - start) words)) ≡ count
+taken_long count start place quantity words size from to =
+    let rest = length-drop (place - start) words in
+    length-take-le count (drop (place - start) words) (omega arith)
+
+-- a cell of bits is 0 or 1
+one_bit : (place : ℕ) (bits : List Bool) → register_sum (take 1 (drop place (map one_or_zero bits))) ≤ 1
+one_bit zero [] = omega arith
+one_bit (suc place) [] = omega arith
+one_bit zero (true ∷ bits) = omega arith
+one_bit zero (false ∷ bits) = omega arith
+one_bit (suc place) (b ∷ bits) = one_bit place bits
+
+-- no read of a table of bits brings registers
+no_registers : (read : Read) (words : List ℕ) (table : Table) → holds_bits table ≡ true → reads_table read.function table ≡ true → Brings read (Registers words) → ⊥
+no_registers read words Coil holds reads brings =
+    subst (λ f. fits_normal (normal_of (read_request (record { function = f; span = read.span }))) (Registers words)) (eqb-true read.function 1 reads) brings
+no_registers read words Discrete holds reads brings =
+    subst (λ f. fits_normal (normal_of (read_request (record { function = f; span = read.span }))) (Registers words)) (eqb-true read.function 2 reads) brings
+no_registers read words Holding holds reads brings = absurd (cc)
+no_registers read words Input holds reads brings = absurd (cc)
+
+-- a point of one bit has 0 or 1 among cells of bits
+one_cell_sum : (read : Read) (bits : List Bool) (point : Point) → is_bit point.kind ≡ true → register_sum (words_in read (map one_or_zero bits) point) ≤ 1
+one_cell_sum read bits point bit =
+    let place : ℕ = point.address - read.span.start in
+    subst (λ n. register_sum (take n (drop place (map one_or_zero bits))) ≤ 1) (sym (bit_one point.kind bit)) (one_bit place bits)
+
+-- and so in any reply
+bit_sum : (read : Read) (reply : AReply) (point : Point) → IsFormed point → Brings read reply → reads_table read.function point.table ≡ true
+    → is_bit point.kind ≡ true → register_sum (words_in read (reply_cells reply) point) ≤ 1
+bit_sum read (Bits bits) point formed brings reads bit = one_cell_sum read bits point bit
+bit_sum read (Registers words) point formed brings reads bit = absurd (no_registers read words point.table (formed.1 bit) reads brings)
+bit_sum read Written point formed brings reads bit = one_cell_sum read [] point bit
+bit_sum read (Excepted code) point formed brings reads bit = one_cell_sum read [] point bit
+
+-- what a reply gives to a point that it covers are registers of the point's type
+words_fit : (device : List ℕ) (read : Read) (reply : AReply) (point : Point) → IsFormed point → Brings read reply → covers device read point ≡ true
+    → AreRegistersOf point.kind (words_in read (reply_cells reply) point)
+words_fit device read reply point formed brings covered =
+    let a = and_parts (bytes_eq point.device device) _ covered in
+    let b = and_parts (reads_table read.function point.table) _ a.1 in
+    let d = and_parts (has_size point.table (row point.kind).registers) _ b.1 in
+    let e = and_parts (leb read.span.start point.address) _ d.1 in
+    record {
+      count = taken_long (row point.kind).registers read.span.start point.address read.span.quantity (reply_cells reply) (cells_long read reply brings)
+          (leb-true read.span.start point.address e.0)
+          (leb-true (point.address + (row point.kind).registers) (read.span.start + read.span.quantity) e.1);
+      cell = λ is. bit_sum read reply point formed brings b.0 (cell_bit point.kind is);
+    }
+
+-- ---- rows of readings
+
+-- the row is of a point of these, and has registers of its type
+record IsOf (known : List PointRow) (kept : Key × Reading) : Type 0 where
+  point : PointRow
+  there : Contains known point
+  number : point.number ≡ kept.0.0
+  registers : AreRegistersOf point.point.kind kept.1.words
+
+-- also of these and more points
+of_more : (known more : List PointRow) (kept : Key × Reading) → IsOf known kept → IsOf (known ++ more) kept
+of_more known more kept is = record {
+  point = is.point;
+  there = Contains-append_left known more is.point is.there;
+  number = is.number;
+  registers = is.registers;
+}
+
+-- so is what a reply gives to some of the points
+rows_fit : (all known : List PointRow) (device : List ℕ) (read : Read) (slot : ℕ) (reply : AReply) → All (Contains all) known → All IsFormedRow known → Brings read reply
+    → All (IsOf all) (keyed slot (given_of known device read (reply_cells reply)))
+rows_fit all known device read slot reply there formed brings =
+    All-map (IsOf all) key_of (map made (filter test known))
+    (All-map (λ (c : PointRow × List ℕ). IsOf all (key_of c)) made (filter test known) (λ k d lt.
+    one (get_or (filter test known) k d)
+    (All-filter test (Contains all) known there k d lt)
+    (All-filter test IsFormedRow known formed k d lt)
+    (filter_passes test known k d lt)))
+  where
+    test : PointRow → Bool
+    test x = covers device read x.point
+
+    made : PointRow → PointRow × List ℕ
+    made x = (x, words_in read (reply_cells reply) x.point)
+
+    key_of : PointRow × List ℕ → Key × Reading
+    key_of c = ((c.0.number, slot), record { words = c.1; counted = is_counted c.0.point c.1 })
+
+    one : (x : PointRow) → Contains all x → IsFormedRow x → covers device read x.point ≡ true → IsOf all (key_of (made x))
+    one x at form covered = record { point = x; there = at; number = refl; registers = words_fit device read reply x.point form brings covered }
+
+-- what a unit gives where it stands
+new_fit : (before : History) (c n : ℕ) (unit : List ℕ) → IsBytes unit
+    → All (IsOf (points before)) (cond (is_answered before c n) [] (given_by (points before) (slice_get (asked before c) n) unit))
+new_fit before c n unit bytes = by (is_answered before c n)
+  where
+    none : All (IsOf (points before)) []
+    none = All-nil (IsOf (points before))
+
+    normal : (q : Question) → fits q unit ≡ true → excepts q.read unit ≡ false → All (IsOf (points before)) (given_rows (points before) q unit)
+    normal q fit plain =
+        let spelled = told (read_request q.read) unit bytes fit in
+        let same = cells_spelled q.read spelled.0 unit spelled.1 plain in
+        subst (λ ws. All (IsOf (points before)) (keyed q.slot (given_of (take q.known (points before)) q.device q.read ws))) (sym same.0)
+        (rows_fit (points before) (take q.known (points before)) q.device q.read q.slot spelled.0
+        (All-take (Contains (points before)) q.known (points before) (All-contains_itself (points before)))
+        (All-take IsFormedRow q.known (points before) (points_formed before)) same.1)
+
+    fitting : (q : Question) (a b : Bool) → fits q unit ≡ a → excepts q.read unit ≡ b
+        → All (IsOf (points before)) (cond (a && not b) (given_rows (points before) q unit) [])
+    fitting q true false fit plain = normal q fit plain
+    fitting q true true fit plain = none
+    fitting q false b fit plain = none
+
+    queried : (o : Option Question) → All (IsOf (points before)) (given_by (points before) o unit)
+    queried None = none
+    queried (Some q) = fitting q (fits q unit) (excepts q.read unit) refl refl
+
+    by : (b : Bool) → All (IsOf (points before)) (cond b [] (given_by (points before) (slice_get (asked before c) n) unit))
+    by true = none
+    by false = queried (slice_get (asked before c) n)
+
+-- what a history gives is of its points
+given_fit : (before : History) → Legal before → All (IsOf (points before)) (given before)
+given_fit [] legal = All-nil (IsOf [])
+given_fit (Load list ∷ before) legal =
+    let more = added (length (points before)) (loading (site_of before) (points before) list) in
+    All-weaker (IsOf (points before)) (IsOf (points before ++ more)) (of_more (points before) more) (given before) (given_fit before legal.2)
+given_fit (Reply c n unit ∷ before) legal =
+    All-append (IsOf (points before)) (given before) _ (given_fit before legal.2) (new_fit before c n unit legal.0.0)
+given_fit (Restart site ∷ before) legal = given_fit before legal.2
+given_fit (Open line ∷ before) legal = given_fit before legal.2
+given_fit (Ask c device slot read ∷ before) legal = given_fit before legal.2
+given_fit (Noise c frame ∷ before) legal = given_fit before legal.2
+
+-- ---- rows that are put into a table
+
+module _ (P : Key × Reading → Type 0) where
+  -- what holds of each row of a table and of one more row holds of each with that put in
+  put_all : (key : Key) (reading : Reading) (table : Readings) → P (key, reading) → All P table → All P (rows.put key_cmp key reading table)
+  put_all key reading [] p all = All-cons P (key, reading) [] p all
+  put_all key reading (x ∷ table) p all = by (key_cmp key x.0) refl (put_all key reading table p (All-tail P x table all))
+    where
+      by : (o : Ordering) → key_cmp key x.0 ≡ o → All P (rows.put key_cmp key reading table)
+          → All P (rows.by_order o ((key, reading) ∷ x ∷ table) ((x.0, reading) ∷ table) (x ∷ rows.put key_cmp key reading table))
+      by Less is rest = All-cons P (key, reading) (x ∷ table) p all
+      by Equal is rest = All-cons P (x.0, reading) table (subst (λ (k : Key). P (k, reading)) (exact_keys key x.0 is) p) (All-tail P x table all)
+      by Greater is rest = All-cons P x (rows.put key_cmp key reading table) (All-head P x table all) rest
+
+  -- and with several put in
+  with_rows_all : (xs table : Readings) → All P xs → All P table → All P (with_rows xs table)
+  with_rows_all [] table new old = old
+  with_rows_all (x ∷ xs) table new old =
+      put_all x.0 x.1 (with_rows xs table) (All-head P x xs new) (with_rows_all xs table (All-tail P x xs new) old)
+
+-- ---- numbers of points
+
+-- the number of the point at a place
+number_at : (n : ℕ) (xs : List PointRow) (k : ℕ) (d : PointRow) → AreNumbered n xs → k < length xs → (get_or xs k d).number ≡ n + k + 1
+number_at n [] k d numbered lt = absurd (omega arith)
+number_at n (x ∷ xs) zero d numbered lt = let e = numbered.0 in omega arith
+number_at n (x ∷ xs) (suc k) d numbered lt = let e = number_at (n + 1) xs k d numbered.1 (omega arith) in omega arith
+
+-- what stands in a list doesn't depend on what stands for its end
+any_default : (xs : List PointRow) (k : ℕ) (a b : PointRow) → k < length xs → get_or xs k a ≡ get_or xs k b
+any_default [] k a b lt = absurd (omega arith)
+any_default (x ∷ xs) zero a b lt = refl
+any_default (x ∷ xs) (suc k) a b lt = any_default xs k a b (omega arith)
+
+-- a number names one point
+one_point : (n : ℕ) (xs : List PointRow) (a b : PointRow) → AreNumbered n xs → Contains xs a → Contains xs b → a.number ≡ b.number → a ≡ b
+one_point n xs a b numbered there other same =
+    let i : ℕ = there.0 in
+    let j : ℕ = other.0 in
+    let p = number_at n xs i a numbered there.1 in
+    let q = number_at n xs j b numbered other.1 in
+    let x = ap (λ (r : PointRow). r.number) there.2 in
+    let y = ap (λ (r : PointRow). r.number) other.2 in
+    let e : i ≡ j = omega arith in
+    sym there.2 ∙ any_default xs i a b there.1 ∙ ap (λ k. get_or xs k b) e ∙ other.2
+
+-- ---- the tables
+
+-- what is kept of each point has the form of its type
+pub tables_fit : (before : History) → Legal before → IsFitting (tables before)
+tables_fit before legal k d lt =
+    let known = get_or (points before) k d in (
+      (points_formed before k d lt).0,
+      λ from to j e within. of_type (Contains-get_or (points before) k d lt) from to
+          (get_or (readings_between known.number from to (readings before)) j e)
+          (All-filter (λ (x : Key × Reading). is_between known.number from to x.0) (IsOf (points before)) (readings before) all j e within)
+          (filter_passes (λ (x : Key × Reading). is_between known.number from to x.0) (readings before) j e within),
+    )
+  where
+    all : All (IsOf (points before)) (readings before)
+    all = with_rows_all (IsOf (points before)) (given before) [] (given_fit before legal) (All-nil (IsOf (points before)))
+
+    of_type : Contains (points before) (get_or (points before) k d) → (from to : ℕ) (x : Key × Reading) → IsOf (points before) x
+        → is_between (get_or (points before) k d).number from to x.0 ≡ true → AreRegistersOf (get_or (points before) k d).point.kind x.1.words
+    of_type there from to x is between =
+        let own : PointRow = get_or (points before) k d in
+        let a = and_parts (eqb x.0.0 own.number && leb from x.0.1) (leb x.0.1 to) between in
+        let p = and_parts (eqb x.0.0 own.number) (leb from x.0.1) a.0 in
+        let same : is.point ≡ own =
+        one_point 0 (points before) is.point own (points_numbered before) is.there there (is.number ∙ eqb-true x.0.0 own.number p.0) in
+        subst (λ (r : PointRow). AreRegistersOf r.point.kind x.1.words) same is.registers

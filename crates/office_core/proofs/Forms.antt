@@ -1,0 +1,258 @@
+-- Points that lists say have the form of a type that there is.
+use Rattle.std.proofs.Common.{◌≡◌, ◌≤◌, ◌+◌, ℕ, zero, suc, Bool, true, false, cond, eqb, leb, List, [], ◌∷◌, length, Option, Some, None, Result, Ok, Err, refl, sym, ◌∙◌, subst, arith, T}
+use Rattle.std.specs.Prelude.{ℤ, pos, neg_ℤ, All, IfOk, ◌&&◌, ◌||◌, option_map, find, is_none, ⊤}
+use Rattle.std.specs.Str.{bytes_eq}
+use Rattle.std.specs.Str.Parse.{digits_value}
+use Rattle.std.specs.Int.Signed.{le_z_yes}
+use Rattle.std.specs.Char.{is_ascii_digit}
+use Rattle.std.specs.List.{list_all}
+use Rattle.std.proofs.lemmas.Bool.{and_parts, leb-true, le-leb}
+use Rattle.std.proofs.lemmas.Option.{none-some, same_Some, cond_some}
+use Rattle.std.proofs.lemmas.List.Elements.{All-nil, All-cons, All-head, All-tail, All-map, All-filter, All-append}
+use Rattle.mb_map.specs.declared.table.Table.{Table}
+use Rattle.sunspec.specs.declared.point_type.PointType.{PointType}
+use Rattle.sunspec.specs.declared.point_type.PointType.TheVariants.{Str}
+use Rattle.sunspec.specs.PointType.{row, types, resized, IsSized}
+use Rattle.sunspec.specs.Digits.{number_of, number_within, is_number_within, scale_of}
+use Rattle.sunspec.specs.Text.{IsScale}
+use Rattle.point_list.specs.declared.point.Point.{Point}
+use Rattle.point_list.specs.declared.point.Role.{Role}
+use Rattle.point_list.specs.declared.point.ListRow.{ListRow}
+use Rattle.point_list.specs.declared.error.ListError.{ListError}
+use Rattle.point_list.specs.Columns.{Record, field, ◌then◌, holds_bits, is_bit, same, in_table, named_in, unsized, sized, is_scaled, is_zero, scaled_by, scale_in as scale_said}
+use Rattle.point_list.specs.Header.{is_header}
+use Rattle.point_list.specs.Lists.{table_in, address_in, name_of_type_in, type_in, scale_in, role_in, roll_in, records_of}
+use Rattle.point_list.specs.ListMeaning.{point_in, row_before, rows_said, first_fault, missing_header, rows_unless, body_meaning, list_meaning}
+use Rattle.poll_book.specs.declared.rows.PointRow.{PointRow}
+use Rattle.office_core.specs.Fitting.{HasForm}
+use Rattle.office_core.specs.Loads.{Loading, Refused, Taken, known_named, unknown_of, points_of, too_many, loading_rows, differing, loading_of, loading, numbered_on, added}
+use Rattle.office_core.specs.History.{Restart, Load, Open, Ask, Reply, Noise, History, site_of, points}
+
+-- the form of a point, and a bit only in a table of bits
+abbrev pub IsFormed : Point → Type 0
+IsFormed point = HasForm point × (is_bit point.kind ≡ true → holds_bits point.table ≡ true)
+
+-- where one step after another says something, the first says something that the other goes on from
+then_some : {A B : Type 0} (o : Option A) (f : A → Option B) (y : B) → (o then f) ≡ Some y → (x : A) × (o ≡ Some x) × (f x ≡ Some y)
+then_some None f y e = absurd (none-some y e)
+then_some (Some x) f y e = (x, refl, e)
+
+-- what is there under a test is there without it
+some_if : {A : Type 0} (b : Bool) (o : Option A) (y : A) → cond b o None ≡ Some y → o ≡ Some y
+some_if true o y e = e
+some_if false o y e = absurd (none-some y e)
+
+-- ---- types
+
+-- a type with another number of registers has a size, and is a bit where the type is
+resized_so : (kind : PointType) (n : ℕ) (other : PointType) → resized kind n ≡ Some other → IsSized other × (is_bit other ≡ is_bit kind)
+resized_so (Str r) n other e =
+    let s = cond_some (leb 1 n && leb n 125) (Str n) other e in
+    let p = and_parts (leb 1 n) (leb n 125) s.0 in
+    subst (λ k. IsSized k × (is_bit k ≡ false)) s.1 ((leb-true 1 n p.0, leb-true n 125 p.1), refl)
+resized_so kind n other e =
+    let s = cond_some (eqb (row kind).registers n) kind other e in
+    subst (λ k. IsSized k × (is_bit k ≡ is_bit kind)) s.1 (tt, refl)
+
+-- and so has a type that needs no number of registers
+unsized_so : (kind other : PointType) → unsized kind ≡ Some other → IsSized other × (is_bit other ≡ is_bit kind)
+unsized_so (Str r) other e = absurd (none-some other e)
+unsized_so kind other e = subst (λ k. IsSized k × (is_bit k ≡ is_bit kind)) (same_Some kind other e) (tt, refl)
+
+-- so has a type with what its length column says
+sized_so : (kind : PointType) (text : List ℕ) (other : PointType) → sized kind text ≡ Some other → IsSized other × (is_bit other ≡ is_bit kind)
+unfolding sized
+sized_so kind [] other e = unsized_so kind other e
+sized_so kind (byte ∷ text) other e =
+    let s = then_some (number_within 125 (byte ∷ text)) (resized kind) other e in
+    resized_so kind s.0 other s.2
+
+-- of two that are the same, where the one is true, so is the other
+same_true : (a b : Bool) → same a b ≡ true → b ≡ true → a ≡ true
+same_true true b s e = refl
+same_true false true s e = absurd (cc)
+same_true false false s e = absurd (cc)
+
+-- a bit is named only in a table of bits
+named_so : (table : Table) (text : List ℕ) (kind : PointType) → named_in table text ≡ Some kind → is_bit kind ≡ true → holds_bits table ≡ true
+unfolding named_in
+named_so table text kind e bit =
+    let s = then_some (find (λ (k : PointType). bytes_eq (row k).name text) types) (in_table table) kind e in
+    let t = cond_some (same (holds_bits table) (is_bit s.0)) s.0 kind s.2 in
+    same_true (holds_bits table) (is_bit kind) (subst (λ k. same (holds_bits table) (is_bit k) ≡ true) t.1 t.0) bit
+
+-- the type that a record says
+type_so : (r : Record) (table : Table) (kind : PointType) → table_in r ≡ Some table → type_in r ≡ Some kind
+    → IsSized kind × (is_bit kind ≡ true → holds_bits table ≡ true)
+unfolding type_in name_of_type_in
+type_so r table kind at e =
+    let s = then_some (name_of_type_in r) (λ k. sized k (field r 5)) kind e in
+    let z = sized_so s.0 (field r 5) kind s.2 in
+    let t = then_some (table_in r) (λ x. named_in x (field r 4)) s.0 s.1 in
+    let is : t.0 ≡ table = same_Some t.0 table (sym t.1 ∙ at) in
+    (z.0, λ bit. subst (λ x. holds_bits x ≡ true) is (named_so t.0 (field r 4) s.0 t.2 (sym z.1 ∙ bit)))
+
+-- ---- scales
+
+-- a number that is read is within its limit
+within_so : (limit : ℕ) (text : List ℕ) (n : ℕ) → number_within limit text ≡ Some n → n ≤ limit
+within_so limit text n e =
+    let s = cond_some (is_number_within limit text) (digits_value 10 text) n e in
+    let p = and_parts _ _ s.0 in
+    let q = and_parts (list_all is_ascii_digit text) (leb (digits_value 10 text) limit) p.1 in
+    subst (λ m. m ≤ limit) s.1 (leb-true (digits_value 10 text) limit q.1)
+
+-- also where it has so many digits at most
+number_so : (most limit : ℕ) (text : List ℕ) (n : ℕ) → number_of most limit text ≡ Some n → n ≤ limit
+number_so most limit text n e = within_so limit text n (some_if (leb (length text) most) (number_within limit text) n e)
+
+-- a number up to 10 is a scale
+up_to_ten : (n : ℕ) → n ≤ 10 → IsScale (pos n)
+up_to_ten n le = record { least = le_z_yes tt; greatest = le_z_yes (subst T (sym (le-leb n 10 le)) tt) }
+
+-- and so is its negative
+down_to_ten : (n : ℕ) → n ≤ 10 → IsScale (neg_ℤ (pos n))
+down_to_ten zero le = record { least = le_z_yes tt; greatest = le_z_yes tt }
+down_to_ten (suc n) le = record { least = le_z_yes (subst T (sym (le-leb n 9 (omega arith))) tt); greatest = le_z_yes tt }
+
+-- what a number is mapped to, where each that may be there is mapped to a scale
+mapped : (f : ℕ → ℤ) (o : Option ℕ) (scale : ℤ) → ((n : ℕ) → o ≡ Some n → IsScale (f n)) → option_map f o ≡ Some scale → IsScale scale
+mapped f None scale h e = absurd (none-some scale e)
+mapped f (Some n) scale h e = subst IsScale (same_Some (f n) scale e) (h n refl)
+
+-- the text of a scale spells one
+scale_so : (text : List ℕ) (scale : ℤ) → scale_of text ≡ Some scale → IsScale scale
+scale_so [] scale e = absurd (none-some scale e)
+scale_so (byte ∷ rest) scale e = by (eqb byte 45) e
+  where
+    by : (b : Bool) → cond b (option_map (λ n. neg_ℤ (pos n)) (number_of 2 10 rest)) (option_map pos (number_of 2 10 (byte ∷ rest))) ≡ Some scale → IsScale scale
+    by true f = mapped (λ n. neg_ℤ (pos n)) (number_of 2 10 rest) scale (λ n at. down_to_ten n (number_so 2 10 rest n at)) f
+    by false f = mapped pos (number_of 2 10 (byte ∷ rest)) scale (λ n at. up_to_ten n (number_so 2 10 (byte ∷ rest) n at)) f
+
+-- also where no text is 0
+said_so : (text : List ℕ) (scale : ℤ) → scale_said text ≡ Some scale → IsScale scale
+said_so [] scale e = subst IsScale (same_Some (pos 0) scale e) (up_to_ten 0 (omega arith))
+said_so (byte ∷ rest) scale e = scale_so (byte ∷ rest) scale e
+
+-- and where the type is to be one that may be scaled
+scaled_so : (kind : PointType) (text : List ℕ) (scale : ℤ) → scaled_by kind text ≡ Some scale → IsScale scale
+unfolding scaled_by
+scaled_so kind text scale e =
+    let s = then_some (scale_said text) (λ x. cond (is_scaled kind || is_zero x) (Some x) None) scale e in
+    let t = cond_some (is_scaled kind || is_zero s.0) s.0 scale s.2 in
+    subst IsScale t.1 (said_so text s.0 s.1)
+
+-- the scale that a record says
+scale_in_so : (r : Record) (scale : ℤ) → scale_in r ≡ Some scale → IsScale scale
+unfolding scale_in
+scale_in_so r scale e =
+    let s = then_some (type_in r) (λ k. scaled_by k (field r 6)) scale e in
+    scaled_so s.0 (field r 6) scale s.2
+
+-- ---- points
+
+-- the point that a record says is formed
+point_so : (r : Record) (point : Point) → point_in r ≡ Some point → IsFormed point
+point_so r point e = by (table_in r) (address_in r) (type_in r) (scale_in r) (role_in r) (roll_in r) refl refl refl e
+  where
+    said : Table → ℕ → PointType → ℤ → Role → ℕ → Point
+    said table address kind scale role roll =
+        record { name = field r 0; device = field r 1; table = table; address = address; kind = kind; scale = scale; role = role; roll = roll }
+
+    by : (t : Option Table) (a : Option ℕ) (k : Option PointType) (s : Option ℤ) (o : Option Role) (l : Option ℕ)
+        → table_in r ≡ t → type_in r ≡ k → scale_in r ≡ s
+        → (t then (λ table. a then (λ address. k then (λ kind. s then (λ scale. o then (λ role. l then (λ roll. Some (said table address kind scale role roll)))))))
+        ≡ Some point) → IsFormed point
+    by (Some table) (Some address) (Some kind) (Some scale) (Some role) (Some roll) t k s f =
+        let type = type_so r table kind t k in
+        subst IsFormed (same_Some (said table address kind scale role roll) point f) ((type.0, scale_in_so r scale s), type.1)
+    by None a k s o l t e g f = absurd (none-some point f)
+    by (Some table) None k s o l t e g f = absurd (none-some point f)
+    by (Some table) (Some address) None s o l t e g f = absurd (none-some point f)
+    by (Some table) (Some address) (Some kind) None o l t e g f = absurd (none-some point f)
+    by (Some table) (Some address) (Some kind) (Some scale) None l t e g f = absurd (none-some point f)
+    by (Some table) (Some address) (Some kind) (Some scale) (Some role) None t e g f = absurd (none-some point f)
+
+-- the points of these rows are formed
+abbrev AreFormed : List ListRow → Type 0
+AreFormed rows = All (λ (said : ListRow). IsFormed said.point) rows
+
+-- those of the rows that records say are
+rows_formed : (number : ℕ) (rs : List Record) → AreFormed (rows_said number rs)
+rows_formed number [] = All-nil (λ (said : ListRow). IsFormed said.point)
+rows_formed number (r ∷ rs) = by (point_in r) refl (rows_formed (number + 1) rs)
+  where
+    by : (o : Option Point) → point_in r ≡ o → AreFormed (rows_said (number + 1) rs) → AreFormed (row_before number o (rows_said (number + 1) rs))
+    by None at rest = rest
+    by (Some point) at rest = All-cons (λ (said : ListRow). IsFormed said.point) (record { row = number; point = point }) (rows_said (number + 1) rs) (point_so r point at) rest
+
+-- and those of the rows that a list means
+meaning_formed : (known : List ℕ → Bool) (list : List Record) → IfOk (list_meaning known list) AreFormed
+meaning_formed known [] = tt
+meaning_formed known (first ∷ body) = by (is_header first)
+  where
+    by_fault : (o : Option ListError) → IfOk (rows_unless o (rows_said 2 body)) AreFormed
+    by_fault None = rows_formed 2 body
+    by_fault (Some e) = tt
+
+    by : (b : Bool) → IfOk (cond b (body_meaning known body) (Err missing_header)) AreFormed
+    by true = by_fault (first_fault known [] 2 body)
+    by false = tt
+
+-- ---- what a list adds
+
+-- the points that are taken are formed
+abbrev AreTaken : Loading → Type 0
+AreTaken (Refused reason) = ⊤
+AreTaken (Taken count new) = All IsFormed new
+
+-- of rows with formed points formed points are taken
+taken_formed : (known : List PointRow) (rows : List ListRow) → AreFormed rows → AreTaken (loading_of known (Ok rows))
+taken_formed known rows formed = by (differing known rows)
+  where
+    all : All IsFormed (unknown_of known (points_of rows))
+    all = All-filter (λ (point : Point). is_none (known_named known point.name)) IsFormed (points_of rows)
+        (All-map IsFormed (λ (said : ListRow). said.point) rows formed)
+
+    few : (b : Bool) → AreTaken (cond b (Taken (length rows) (unknown_of known (points_of rows))) (Refused too_many))
+    few true = all
+    few false = tt
+
+    by : (o : Option ListRow) → AreTaken (loading_rows known rows o)
+    by None = few (leb (length known + length (unknown_of known (points_of rows))) 10000)
+    by (Some differs) = tt
+
+-- and of a list that means such rows
+loading_formed : (known : List PointRow) (m : Result (List ListRow) ListError) → IfOk m AreFormed → AreTaken (loading_of known m)
+loading_formed known (Ok rows) formed = taken_formed known rows formed
+loading_formed known (Err e) formed = tt
+
+-- a row of the table of points is of a formed point
+abbrev pub IsFormedRow : PointRow → Type 0
+IsFormedRow known = IsFormed known.point
+
+-- formed points make such rows
+numbered_formed : (n : ℕ) (new : List Point) → All IsFormed new → All IsFormedRow (numbered_on n new)
+numbered_formed n [] formed = All-nil IsFormedRow
+numbered_formed n (point ∷ new) formed =
+    All-cons IsFormedRow (record { number = n + 1; point = point }) (numbered_on (n + 1) new)
+    (All-head IsFormed point new formed)
+    (numbered_formed (n + 1) new (All-tail IsFormed point new formed))
+
+-- and so do the points that a list adds
+added_formed : (n : ℕ) (l : Loading) → AreTaken l → All IsFormedRow (added n l)
+added_formed n (Refused reason) formed = All-nil IsFormedRow
+added_formed n (Taken count new) formed = numbered_formed n new formed
+
+-- the points that were accepted are formed
+pub points_formed : (before : History) → All IsFormedRow (points before)
+points_formed [] = All-nil IsFormedRow
+points_formed (Load list ∷ before) =
+    let l = loading (site_of before) (points before) list in
+    All-append IsFormedRow (points before) (added (length (points before)) l) (points_formed before)
+    (added_formed (length (points before)) l (loading_formed (points before) _ (meaning_formed _ (records_of list))))
+points_formed (Restart site ∷ before) = points_formed before
+points_formed (Open line ∷ before) = points_formed before
+points_formed (Ask c device slot read ∷ before) = points_formed before
+points_formed (Reply c n unit ∷ before) = points_formed before
+points_formed (Noise c frame ∷ before) = points_formed before
