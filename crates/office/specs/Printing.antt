@@ -1,0 +1,109 @@
+-- What is printed of answers, and of an office's tables at the end.
+use Rattle.std.specs.Prelude.{ℕ, ◌+◌, ◌/◌, ◌%◌, List, [], ◌∷◌, ◌++◌, Option, Some, None, if◌then◌else◌, flat_map, codes, decimal, nat_lt, pos, unwrap_or}
+use Rattle.sunspec.specs.Text.{shown, scaled}
+use Rattle.point_list.specs.declared.point.Point.{Point}
+use Rattle.point_list.specs.declared.error.ListFault.TheVariants.{BadRole}
+use Rattle.point_list.specs.FaultTexts.{fault_text}
+use Rattle.mb_mbap.specs.Stream.{spelled}
+use Rattle.poll_book.specs.declared.rows.PointRow.{PointRow}
+use Rattle.poll_book.specs.declared.rows.Reading.{Reading}
+use Rattle.poll_book.specs.Tables.{Key, Readings, Tables, readings_between}
+use Rattle.poll_book.specs.Totals.{is_counter, total}
+use Rattle.office_core.specs.declared.error.OfficeError.{OfficeError}
+use Rattle.office_core.specs.declared.error.OfficeError.TheVariants as error
+use Rattle.office_core.specs.declared.event.LoadFault.{LoadFault}
+use Rattle.office_core.specs.declared.event.LoadFault.TheVariants.{List as OfList, PointDiffers}
+use Rattle.office_core.specs.declared.event.Outcome.{Outcome}
+use Rattle.office_core.specs.declared.event.Outcome.TheVariants.{Loaded, RefusedFor}
+use Rattle.office_core.specs.declared.event.Arrival.{Arrival}
+use Rattle.office_core.specs.declared.event.Arrival.TheVariants.{Recorded, Excepted}
+use Rattle.office_core.specs.declared.event.EventAnswer.{EventAnswer}
+use Rattle.office_core.specs.declared.event.EventAnswer.TheVariants as answer
+
+abbrev pub line_end : List ℕ
+line_end = 10 ∷ []
+
+-- a line of words and a number
+abbrev pub numbered_line : List ℕ → ℕ → List ℕ
+numbered_line words number = words ++ decimal number ++ line_end
+
+-- ---- bytes
+
+abbrev pub hex_digit : ℕ → ℕ
+hex_digit d = if nat_lt d 10 then 48 + d else 55 + d
+
+-- a space and a byte, in upper case
+abbrev pub spaced_byte : ℕ → List ℕ
+spaced_byte b = 32 ∷ hex_digit (b / 16) ∷ hex_digit (b % 16) ∷ []
+
+-- ---- answers
+
+-- the name of a refusal
+abbrev pub refusal_name : OfficeError → List ℕ
+refusal_name error.NoConnection = codes "NoConnection"
+refusal_name error.WrongLine = codes "WrongLine"
+refusal_name error.NoRead = codes "NoRead"
+refusal_name error.Exhausted = codes "Exhausted"
+refusal_name error.SiteDiffers = codes "SiteDiffers"
+refusal_name error.NoQuery = codes "NoQuery"
+refusal_name error.WrongUnit = codes "WrongUnit"
+refusal_name error.Repeat = codes "Repeat"
+refusal_name error.WrongReply = codes "WrongReply"
+refusal_name (error.Store fault) = codes "Store"
+
+abbrev pub load_fault_text : LoadFault → List ℕ
+load_fault_text (OfList fault) = fault_text fault
+load_fault_text PointDiffers = codes "point differs"
+
+abbrev pub refusal_line : List ℕ → List ℕ
+refusal_line why = codes "refused " ++ why ++ line_end
+
+abbrev pub outcome_line : Outcome → List ℕ
+outcome_line (Loaded count) = numbered_line (codes "loaded ") count
+outcome_line (RefusedFor reason) = refusal_line (load_fault_text reason.fault)
+
+abbrev pub arrival_line : Arrival → List ℕ
+arrival_line (Recorded count) = numbered_line (codes "recorded ") count
+arrival_line (Excepted code) = numbered_line (codes "excepted ") code
+
+-- the line that an answer prints
+abbrev pub answer_line : EventAnswer → List ℕ
+answer_line (answer.Judged outcome) = outcome_line outcome
+answer_line (answer.Opened conn) = numbered_line (codes "connection ") conn
+answer_line (answer.Query frame) = codes "query" ++ flat_map spaced_byte (spelled frame) ++ line_end
+answer_line (answer.Arrived arrival) = arrival_line arrival
+answer_line answer.Restarted = codes "restarted" ++ line_end
+answer_line (answer.Refused fault) = refusal_line (refusal_name fault)
+
+-- a point that can be set isn't taken yet
+abbrev pub setting_line : List ℕ
+setting_line = refusal_line (fault_text BadRole)
+
+-- where a line is of another form
+abbrev pub fault_line : ℕ → List ℕ
+fault_line number = numbered_line (codes "fault line ") number
+
+-- ---- the report
+
+-- the text of a reading, a dash where the point is not implemented
+abbrev pub reading_text : Point → Reading → List ℕ
+reading_text point reading = unwrap_or (shown point.kind point.scale reading.words) (45 ∷ [])
+
+abbrev pub reading_line : PointRow → Key × Reading → List ℕ
+reading_line known row =
+    codes "reading " ++ known.point.name ++ 32 ∷ decimal row.0.1 ++ 32 ∷ reading_text known.point row.1 ++ line_end
+
+-- all readings of a point, by slot
+abbrev pub reading_lines : Readings → PointRow → List ℕ
+reading_lines table known = flat_map (reading_line known) (readings_between known.number 0 4294967295 table)
+
+-- how far a counter went, with its scale; nothing for another point
+abbrev pub total_line : Readings → PointRow → List ℕ
+total_line table known =
+    if is_counter known.point.role
+    then codes "total " ++ known.point.name ++ 32 ∷ scaled (pos (total known table)) known.point.scale ++ line_end
+    else []
+
+-- the readings of all points, and then the totals of the counters, by the numbers of the points
+abbrev pub report_of : Tables → List ℕ
+report_of kept = flat_map (reading_lines kept.readings) kept.points ++ flat_map (total_line kept.readings) kept.points

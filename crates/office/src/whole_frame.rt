@@ -1,0 +1,27 @@
+//! Bytes that are one whole frame.
+ghost use Rattle.std.specs.Prelude.{◌≡◌};
+ghost use Rattle.office.specs.Frames.{frame_of};
+
+use byteorder::{BigEndian, ByteOrder};
+use mb_mbap::Frame;
+use mb_pdu::Unit;
+
+/// The frame that bytes are, no less and no more.
+pub(crate) fn whole_frame(bytes: &[u8]) -> Option<Frame>
+    ensures { result ≡ frame_of bytes.now }
+{
+    if bytes.len() < 8 || bytes.len() > 260 {
+        return None;
+    }
+    let unit = Unit::from_bytes(&bytes[7..])?;
+    let frame = Frame {
+        transaction: BigEndian::read_u16(bytes),
+        unit_id: bytes[6],
+        unit,
+    };
+    if frame.encode().as_bytes() == bytes {
+        Some(frame)
+    } else {
+        None
+    }
+}

@@ -1,0 +1,84 @@
+//! What a word spells: a number, a text, or a byte in hexadecimal digits.
+ghost use Rattle.std.specs.Prelude.{◌≡◌, ◌<◌, IfOk, IfSome, option_map, true};
+ghost use Rattle.std.specs.List.{list_all};
+ghost use Rattle.sunspec.specs.Digits.{number_within};
+ghost use Rattle.office.specs.Words as words;
+ghost use Rattle.office.specs.Words.{byte_of, bytes_of, hex_value, texts};
+
+use office_core::Text;
+use std::alloc::{AllocError, Global};
+use std::str;
+use sunspec::digits::within;
+
+/// The number that digits spell, if it is at most the limit.
+pub(crate) fn number(word: &[u8], limit: u32) -> Option<u32>
+    ensures { result ≡ number_within limit word.now }
+{
+    match within(word, u128::from(limit)) {
+        Some(number) => Some(number as u32),
+        None => None,
+    }
+}
+
+/// Whether all bytes are ASCII.
+pub(crate) fn is_ascii(bytes: &[u8]) -> bool
+    ensures { result ≡ list_all words.is_ascii bytes.now }
+{
+    bytes.iter().all(|byte| *byte < 128)
+}
+
+/// Whether a word is one byte or more, all of them ASCII.
+pub(crate) fn is_text(word: &[u8]) -> bool
+    ensures { result ≡ words.is_text word.now }
+{
+    !word.is_empty() && is_ascii(word)
+}
+
+/// The text of a word.
+pub(crate) fn text(alloc: Global, word: &[u8]) -> Result<Text, AllocError>
+    requires { words.is_text word.now ≡ true }
+    ensures { IfOk result (λ text. text ≡ word.now) }
+{
+    match str::from_utf8(word) {
+        Ok(text) => Ok(Text::from_string(String::from_str(alloc, text)?)),
+        Err(_) => unreachable!(),
+    }
+}
+
+fn digit(byte: u8) -> Option<u8>
+    ensures value { result ≡ hex_value byte }
+    ensures small { IfSome result (λ d. d < 16) }
+{
+    match byte {
+        b'0'..=b'9' => Some(byte - b'0'),
+        b'A'..=b'F' => Some(byte - b'A' + 10),
+        b'a'..=b'f' => Some(byte - b'a' + 10),
+        _ => None,
+    }
+}
+
+/// The byte that two hexadecimal digits spell, in either case.
+fn byte(word: &[u8]) -> Option<u8>
+    ensures { result ≡ byte_of word.now }
+{
+    if word.len() != 2 {
+        return None;
+    }
+    let high = digit(word[0])?;
+    let low = digit(word[1])?;
+    Some(high * 16 + low)
+}
+
+/// The bytes that words spell, each of them one.
+pub(crate) fn bytes(alloc: Global, spelled: &[&[u8]]) -> Result<Option<Vec<u8>>, AllocError>
+    ensures { IfOk result (λ bytes. option_map (λ v. v.items) bytes ≡ bytes_of (texts spelled.now)) }
+{
+    let mut bytes = Vec::new(alloc);
+    for word in spelled {
+        let Some(value) = byte(word) else {
+            return Ok(None);
+        };
+        bytes.push(value)?;
+    }
+    Ok(Some(bytes))
+}
