@@ -1,1 +1,10 @@
 pub mod Cuts
+pub mod Texts
+pub mod Parts
+pub mod Settings
+pub mod Rows
+pub mod Acted
+pub mod Opened
+pub mod Lines
+pub mod Messages
+pub mod Played

@@ -49,7 +49,7 @@ abbrev pub ask_of : List (List ℕ) → Option Event
 ask_of words =
     if length words == 6
     then asking (number_within number_limit (word_at words 0)) (word_at words 1) (number_within number_limit (word_at words 2))
-      (read_of (number_within byte_limit (word_at words 3)) (number_within word_limit (word_at words 4)) (number_within word_limit (word_at words 5)))
+    (read_of (number_within byte_limit (word_at words 3)) (number_within word_limit (word_at words 4)) (number_within word_limit (word_at words 5)))
     else None
 
 abbrev pub frame_in : Option (List ℕ) → Option Frame

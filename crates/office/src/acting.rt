@@ -1,5 +1,5 @@
 //! What the office does at one line, and what is printed of it.
-ghost use Rattle.std.specs.Prelude.{◌≡◌, ◌++◌, ◌∷◌, IfOk, OnOk};
+ghost use Rattle.std.specs.Prelude.{◌≡◌, ◌≢◌, ◌++◌, ◌∷◌, IfOk, OnOk, false};
 ghost use Rattle.std.specs.List.{list_any};
 ghost use Rattle.point_list.specs.Columns.{is_device};
 ghost use Rattle.point_list.specs.Lists.{records_of};
@@ -8,13 +8,16 @@ ghost use Rattle.office_core.specs.Loads.{same_role};
 ghost use Rattle.office_core.specs.History.{History};
 ghost use Rattle.office_core.specs.Messages.{IsMessage, happening_of};
 ghost use Rattle.office_core.specs.Answers.{answer_of};
+ghost use Rattle.office_core.specs.Standing as standing;
 ghost use Rattle.office.specs.Printing.{answer_line};
 ghost use Rattle.office.specs.Scripts.{has_setting, lists_setting, printed_for, then_before};
 ghost use Rattle.office.specs.Playing.{Follows};
 
 use crate::printing::{push_answer, push_setting};
+use office_core::laws::any_message;
 use office_core::{Event, EventAnswer, Office, OfficeError};
-use point_list::{ListFault, ListRow, Role, Site, read_list};
+use point_list::laws::one_meaning;
+use point_list::{ListError, ListFault, ListRow, Role, Site, read_list};
 use poll_book::MemKeeper;
 use std::alloc::{AllocError, Global};
 
@@ -24,14 +27,25 @@ fn has_setting_row(rows: &[ListRow]) -> bool
     rows.iter().any(|row| row.point.role == Role::Setting)
 }
 
+/// Of a list that was refused: it has no such point.
+fn refused_list(error: ListError) -> Result<bool, AllocError>
+    ensures value { IfOk result (λ has. has ≡ false) }
+    ensures fault { OnOk result (error.fault ≢ ListFault.Memory) }
+{
+    match error.fault {
+        ListFault::Memory => Err(AllocError),
+        _ => Ok(false),
+    }
+}
+
 /// Whether a list of the site has a point that can be set.
 fn list_has_setting(alloc: Global, site: &Site, list: &[u8]) -> Result<bool, AllocError>
     ensures { IfOk result (λ has. has ≡ has_setting (list_meaning (is_device site.now) (records_of list.now))) }
 {
+    one_meaning();
     match read_list(alloc, list, site) {
         Ok(rows) => Ok(has_setting_row(&rows)),
-        Err(error) if error.fault == ListFault::Memory => Err(AllocError),
-        Err(_) => Ok(false),
+        Err(error) => refused_list(error),
     }
 }
 
@@ -42,6 +56,16 @@ fn loads_setting(alloc: Global, site: &Site, event: &Event) -> Result<bool, Allo
     match event {
         Event::Load(list) => list_has_setting(alloc, site, list.as_slice()),
         _ => Ok(false),
+    }
+}
+
+/// Whether the store refused.
+fn is_store(told: &EventAnswer) -> bool
+    ensures { result ≡ standing.is_store told.now }
+{
+    match told {
+        EventAnswer::Refused(OfficeError::Store(_)) => true,
+        _ => false,
     }
 }
 
@@ -56,8 +80,10 @@ fn answer(
         → Follows office.new (happening_of before event.now ∷ before)
         × (out.new.items ≡ out.old.items ++ answer_line (answer_of before (happening_of before event.now)))) }
 {
+    any_message();
     let told = office.step(event);
-    if let EventAnswer::Refused(OfficeError::Store(_)) = told {
+    // A keeper in memory refuses for want of it alone.
+    if is_store(&told) {
         return Err(AllocError);
     }
     push_answer(alloc, out, &told)

@@ -41,7 +41,10 @@ fn point(alloc: Global, record: &[u8]) -> Result<Option<Event>, AllocError>
 fn open(alloc: Global, words: &[&[u8]]) -> Result<Option<Event>, AllocError>
     ensures { IfOk result (λ event. event ≡ open_of (texts words.now)) }
 {
-    if words.len() != 1 || !is_text(words[0]) {
+    if words.len() != 1 {
+        return Ok(None);
+    }
+    if !is_text(words[0]) {
         return Ok(None);
     }
     Ok(Some(Event::Open(text(alloc, words[0])?)))
@@ -60,24 +63,43 @@ fn read(function: &[u8], start: &[u8], quantity: &[u8]) -> Option<Read>
     })
 }
 
+/// The event that asks a device, where each part could be read.
+fn asking(
+    alloc: Global,
+    conn: Option<u32>,
+    device: &[u8],
+    slot: Option<u32>,
+    read: Option<Read>,
+) -> Result<Option<Event>, AllocError>
+    ensures { IfOk result (λ event. event ≡ commands.asking conn device.now slot read) }
+{
+    let Some(conn) = conn else {
+        return Ok(None);
+    };
+    let Some(slot) = slot else {
+        return Ok(None);
+    };
+    let Some(read) = read else {
+        return Ok(None);
+    };
+    if !is_text(device) {
+        return Ok(None);
+    }
+    let device = text(alloc, device)?;
+    Ok(Some(Event::Ask(Conn::new(conn), device, slot, read)))
+}
+
 /// `ask CONNECTION DEVICE SLOT FUNCTION START QUANTITY`.
 fn ask(alloc: Global, words: &[&[u8]]) -> Result<Option<Event>, AllocError>
     ensures { IfOk result (λ event. event ≡ ask_of (texts words.now)) }
 {
-    if words.len() != 6 || !is_text(words[1]) {
+    if words.len() != 6 {
         return Ok(None);
     }
-    let Some(conn) = number(words[0], u32::MAX) else {
-        return Ok(None);
-    };
-    let Some(slot) = number(words[2], u32::MAX) else {
-        return Ok(None);
-    };
-    let Some(read) = read(words[3], words[4], words[5]) else {
-        return Ok(None);
-    };
-    let device = text(alloc, words[1])?;
-    Ok(Some(Event::Ask(Conn::new(conn), device, slot, read)))
+    let conn = number(words[0], u32::MAX);
+    let slot = number(words[2], u32::MAX);
+    let read = read(words[3], words[4], words[5]);
+    asking(alloc, conn, words[1], slot, read)
 }
 
 /// The frame that words spell, byte by byte.

@@ -23,7 +23,10 @@ pub(crate) struct Declared {
 fn device_of_words(words: &[&[u8]]) -> Option<Declared>
     ensures { result ≡ device_of_words (texts words.now) }
 {
-    if words.len() != 4 || words[0] != b"device".as_slice() {
+    if words.len() != 4 {
+        return None;
+    }
+    if words[0] != b"device".as_slice() {
         return None;
     }
     let name = Name::new(words[1])?;
@@ -62,11 +65,7 @@ fn place_in(alloc: Global, lines: &mut Vec<Line>, name: Name) -> Result<usize, A
 }
 
 /// The site with a device more, and with its line.
-pub(crate) fn with_device(
-    alloc: Global,
-    site: Site,
-    said: &Declared,
-) -> Result<Site, AllocError>
+pub(crate) fn with_device(alloc: Global, site: Site, said: &Declared) -> Result<Site, AllocError>
     requires { IsSound site }
     ensures { IfOk result (λ grown. grown ≡ with_device site said.now) }
 {

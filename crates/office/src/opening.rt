@@ -19,7 +19,9 @@ pub(crate) enum Opening<'a> {
         number: u32,
     },
     /// The device of this line makes no site.
-    Broken { number: u32 },
+    Broken {
+        number: u32,
+    },
 }
 
 /// Whether a line is empty or a comment.
@@ -30,10 +32,7 @@ pub(crate) fn skips(line: &[u8]) -> bool
 }
 
 /// Reads the devices that stand before all other lines.
-pub(crate) fn open_script<'a>(
-    alloc: Global,
-    script: &'a [u8],
-) -> Result<Opening<'a>, AllocError>
+pub(crate) fn open_script<'a>(alloc: Global, script: &'a [u8]) -> Result<Opening<'a>, AllocError>
     requires { length script.now ≤ SCRIPT_LIMIT }
     ensures { IfOk result (Opens script.now) }
 {

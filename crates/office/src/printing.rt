@@ -79,22 +79,14 @@ fn refusal_name(error: OfficeError) -> &'static [u8]
     }
 }
 
-fn push_list_fault(
-    alloc: Global,
-    out: &mut Vec<u8>,
-    fault: ListFault,
-) -> Result<(), AllocError>
+fn push_list_fault(alloc: Global, out: &mut Vec<u8>, fault: ListFault) -> Result<(), AllocError>
     ensures { OnOk result (out.new.items ≡ out.old.items ++ refusal_line (fault_text fault)) }
 {
     let text = fault.to_string(alloc)?;
     push_refusal(out, text.as_bytes())
 }
 
-fn push_load_fault(
-    alloc: Global,
-    out: &mut Vec<u8>,
-    fault: LoadFault,
-) -> Result<(), AllocError>
+fn push_load_fault(alloc: Global, out: &mut Vec<u8>, fault: LoadFault) -> Result<(), AllocError>
     ensures { OnOk result (out.new.items ≡ out.old.items ++ refusal_line (load_fault_text fault)) }
 {
     match fault {
@@ -103,11 +95,7 @@ fn push_load_fault(
     }
 }
 
-fn push_outcome(
-    alloc: Global,
-    out: &mut Vec<u8>,
-    outcome: Outcome,
-) -> Result<(), AllocError>
+fn push_outcome(alloc: Global, out: &mut Vec<u8>, outcome: Outcome) -> Result<(), AllocError>
     ensures { OnOk result (out.new.items ≡ out.old.items ++ outcome_line outcome) }
 {
     match outcome {

@@ -17,6 +17,7 @@ use crate::printing::push_fault;
 use crate::report::push_report;
 use mb_mbap::Counted;
 use office_core::Office;
+use office_core::laws::fitting_tables;
 use point_list::Site;
 use poll_book::MemKeeper;
 use std::alloc::{AllocError, Global};
@@ -84,24 +85,19 @@ fn play_line(
 }
 
 /// Writes the report of an office.
-fn report(
-    alloc: Global,
-    office: Office<MemKeeper>,
-    out: &mut Vec<u8>,
-) -> Result<(), AllocError>
+fn report(alloc: Global, office: Office<MemKeeper>, out: &mut Vec<u8>) -> Result<(), AllocError>
+    requires { (before : History) × Follows office before }
     ensures { OnOk result ((done : List ℕ) (number : ℕ) (output : List ℕ) (ending : Replayed)
         → Owes (Follows office) (done ++ out.old.items) number [] output ending
         → IsWhole (done ++ out.new.items) output Replayed.Done ending) }
 {
+    fitting_tables();
     let mut keeper = office.into_keeper();
     push_report(alloc, out, &mut keeper)
 }
 
 /// Writes all that is pending.
-fn write_pending<W: Write>(
-    writer: &mut Counted<W>,
-    out: &mut Vec<u8>,
-) -> Result<(), ReplayFault>
+fn write_pending<W: Write>(writer: &mut Counted<W>, out: &mut Vec<u8>) -> Result<(), ReplayFault>
     ensures all { OnOk result (Appends (W.contents (inner_of writer.old)) (W.contents (inner_of writer.new)) out.old.items) }
     ensures empty { OnOk result (out.new.items ≡ []) }
     ensures calm { OnOk result (failures_of writer.new ≡ failures_of writer.old) }
@@ -125,6 +121,7 @@ fn play<W: Write>(
     first: u32,
     writer: &mut Counted<W>,
 ) -> Result<Replayed, ReplayFault>
+    requires follows { (before : History) × Follows start before }
     requires short { first + length text.now ≤ SCRIPT_LIMIT + 1 }
     ensures ending { (before : History) → Follows start before → IfOk result (λ ending. ending ≡ ends first (steps_of text.now)) }
     ensures output { (before : History) → Follows start before

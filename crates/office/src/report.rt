@@ -85,12 +85,7 @@ fn push_readings(
 }
 
 /// Writes the line of a total.
-fn push_sum(
-    alloc: Global,
-    out: &mut Vec<u8>,
-    point: &Point,
-    total: u128,
-) -> Result<(), AllocError>
+fn push_sum(alloc: Global, out: &mut Vec<u8>, point: &Point, total: u128) -> Result<(), AllocError>
     ensures { OnOk result (out.new.items ≡ out.old.items
         ++ (codes "total " ++ point.now.name ++ 32 ∷ scaled (pos total) point.now.scale ++ line_end)) }
 {

@@ -10,7 +10,10 @@ use mb_pdu::Unit;
 pub(crate) fn whole_frame(bytes: &[u8]) -> Option<Frame>
     ensures { result ≡ frame_of bytes.now }
 {
-    if bytes.len() < 8 || bytes.len() > 260 {
+    if bytes.len() < 8 {
+        return None;
+    }
+    if bytes.len() > 260 {
         return None;
     }
     let unit = Unit::from_bytes(&bytes[7..])?;

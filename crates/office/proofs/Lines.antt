@@ -1,0 +1,63 @@
+-- One line more of a script.
+use Rattle.std.proofs.Common.{◌≡◌, ◌+◌, ℕ, List, ◌∷◌, ◌++◌, true, false, Option, Some, None, refl, sym, ap, ◌∙◌, subst, append_assoc}
+use Rattle.std.specs.Prelude.{is_some, ⊤}
+use Rattle.office_core.specs.History.{History}
+use Rattle.office_core.specs.Messages.{IsMessage}
+use Rattle.office_core.specs.declared.event.Event.{Event}
+use Rattle.office.specs.declared.device.Declared.{Declared}
+use Rattle.office.specs.declared.replay.Replayed.{Replayed}
+use Rattle.office.specs.declared.replay.Replayed.TheVariants.{FaultLine}
+use Rattle.office.specs.Commands.{event_of}
+use Rattle.office.specs.Devices.{device_of}
+use Rattle.office.specs.Printing.{fault_line}
+use Rattle.office.specs.Scripts.{Step, Skipped, Wrong, Declares, Does, step_of, is_skipped, printed, printed_for, then_before}
+use Rattle.office.specs.Playing.{Owes, IsWhole}
+
+-- a step at which a script breaks off
+abbrev pub IsFaulty : Step → Type 0
+IsFaulty Skipped = ⊥
+IsFaulty Wrong = ⊤
+IsFaulty (Declares said) = ⊤
+IsFaulty (Does seen) = ⊥
+
+-- a device after the first other line
+pub late_device : (line : List ℕ) (o : Option Declared) → is_skipped line ≡ false → o ≡ device_of line → is_some o ≡ true → IsFaulty (step_of line)
+late_device line None skip e some = absurd (cc)
+late_device line (Some said) skip e some = rw (skip, ← e) tt
+
+-- a line that is neither a device nor an event
+pub no_command : (line : List ℕ) (o : Option Declared) → is_skipped line ≡ false → o ≡ device_of line → is_some o ≡ false → None ≡ event_of line → IsFaulty (step_of line)
+no_command line (Some said) skip e some none = absurd (cc)
+no_command line None skip e some none = rw (skip, ← e, ← none) tt
+
+-- a line that asks for an event
+pub one_event : (line : List ℕ) (o : Option Declared) (seen : Event) → is_skipped line ≡ false → o ≡ device_of line → is_some o ≡ false → Some seen ≡ event_of line → step_of line ≡ Does seen
+one_event line (Some said) seen skip e some is = absurd (cc)
+one_event line None seen skip e some is = rw (skip, ← e, ← is) refl
+
+-- a script that breaks off is whole with the number of the line
+pub broken_off : (stands : History → Type 0) (done out more : List ℕ) (number : ℕ) (step : Step) (rest : List Step) (output : List ℕ) (ending : Replayed)
+    → IsFaulty step → more ≡ out ++ fault_line number → Owes stands (done ++ out) number (step ∷ rest) output ending → IsWhole (done ++ more) output (FaultLine number) ending
+broken_off stands done out more number Skipped rest output ending is e owes = absurd is
+broken_off stands done out more number (Does seen) rest output ending is e owes = absurd is
+broken_off stands done out more number Wrong rest output ending is e owes =
+    let (before, stood, text, end) = owes in
+    (ap (λ t. done ++ t) e ∙ sym (append_assoc done out (fault_line number)) ∙ text, end)
+broken_off stands done out more number (Declares said) rest output ending is e owes =
+    let (before, stood, text, end) = owes in
+    (ap (λ t. done ++ t) e ∙ sym (append_assoc done out (fault_line number)) ∙ text, end)
+
+-- a script goes on after an event
+pub went_on : (stands now : History → Type 0) (done out more : List ℕ) (number : ℕ) (line : List ℕ) (seen : Event) (rest : List Step) (output : List ℕ) (ending : Replayed)
+    → ((before : History) → stands before → IsMessage seen → now (then_before before seen) × (more ≡ out ++ printed_for before seen))
+    → IsMessage seen → step_of line ≡ Does seen → Owes stands (done ++ out) number (step_of line ∷ rest) output ending → Owes now (done ++ more) (number + 1) rest output ending
+went_on stands now done out more number line seen rest output ending acted message is owes =
+    let (before, stood, text, end) = subst (λ s. Owes stands (done ++ out) number (s ∷ rest) output ending) is owes in
+    let (follows, e) = acted before stood message in
+    let last = printed (then_before before seen) (number + 1) rest in (
+      then_before before seen,
+      follows,
+      ap (λ t. (done ++ t) ++ last) e ∙ ap (λ t. t ++ last) (sym (append_assoc done out (printed_for before seen)))
+          ∙ append_assoc (done ++ out) (printed_for before seen) last ∙ text,
+      end,
+    )

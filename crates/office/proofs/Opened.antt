@@ -1,0 +1,61 @@
+-- The lines that declare devices.
+use Rattle.std.proofs.Common.{◌≡◌, ◌+◌, ℕ, List, [], ◌∷◌, Bool, true, false, length, refl, ap, Option, Some, None, arith}
+use Rattle.std.specs.Str.Lines.{lines}
+use Rattle.point_list.specs.declared.site.Site.{Site}
+use Rattle.point_list.specs.declared.site.Line.{Line}
+use Rattle.point_list.specs.declared.site.Device.{Device}
+use Rattle.point_list.specs.Sites.{all_differ, is_sound}
+use Rattle.office_core.specs.declared.event.Event.{Event}
+use Rattle.office.specs.declared.device.Declared.{Declared}
+use Rattle.office.specs.declared.replay.Replayed.{Replayed}
+use Rattle.office.specs.declared.replay.Replayed.TheVariants.{FaultLine}
+use Rattle.office.specs.Commands.{event_of}
+use Rattle.office.specs.Devices.{device_of, with_device, is_site}
+use Rattle.office.specs.Printing.{fault_line}
+use Rattle.office.specs.Scripts.{Step, steps_in, steps_of, step_of, is_skipped, does, opening, opening_ends, begun, ends}
+
+-- a text's first line is its first step
+pub first_step : (text line rest : List ℕ) → lines text ≡ line ∷ lines rest → steps_of text ≡ step_of line ∷ steps_of rest
+first_step text line rest e = ap steps_in e
+
+-- what is printed, and how it ends, from there on
+abbrev pub AreSame : Site → ℕ → List Step → Site → ℕ → List Step → Type 0
+AreSame site number steps later next rest = (opening site number steps ≡ opening later next rest) × (opening_ends site number steps ≡ opening_ends later next rest)
+
+-- a skipped line counts as a line
+pub skipped : (site : Site) (number : ℕ) (text line rest : List ℕ) → lines text ≡ line ∷ lines rest → is_skipped line ≡ true
+    → AreSame site number (steps_of text) site (number + 1) (steps_of rest)
+skipped site number text line rest e h = (rw (e, h) refl, rw (e, h) refl)
+
+-- a device more
+pub declared : (site : Site) (number : ℕ) (text line rest : List ℕ) (said : Declared) → lines text ≡ line ∷ lines rest → is_skipped line ≡ false → Some said ≡ device_of line → is_site (with_device site said) ≡ true
+    → AreSame site number (steps_of text) (with_device site said) (number + 1) (steps_of rest)
+declared site number text line rest said e h d s = (rw (e, h, ← d, s) refl, rw (e, h, ← d, s) refl)
+
+-- a device that makes no site
+pub broken : (site : Site) (number : ℕ) (text line rest : List ℕ) (said : Declared) → lines text ≡ line ∷ lines rest → is_skipped line ≡ false → Some said ≡ device_of line → is_site (with_device site said) ≡ false
+    → (opening site number (steps_of text) ≡ fault_line number) × (opening_ends site number (steps_of text) ≡ FaultLine number)
+broken site number text line rest said e h d s = (rw (e, h, ← d, s) refl, rw (e, h, ← d, s) refl)
+
+begun_by : (site : Site) (number : ℕ) (event : Option Event) (more : List Step)
+    → (opening site number (does None event ∷ more) ≡ begun site number (does None event ∷ more)) × (opening_ends site number (does None event ∷ more) ≡ ends number (does None event ∷ more))
+begun_by site number None more = (refl, refl)
+begun_by site number (Some event) more = (refl, refl)
+
+-- a line that declares no device begins the rest
+pub ready : (site : Site) (number : ℕ) (text line rest : List ℕ) → lines text ≡ line ∷ lines rest → is_skipped line ≡ false → None ≡ device_of line
+    → (opening site number (steps_of text) ≡ begun site number (steps_of text)) × (opening_ends site number (steps_of text) ≡ ends number (steps_of text))
+ready site number text line rest e h d =
+    let both = begun_by site number (event_of line) (steps_of rest) in
+    (rw (e, h, ← d) both.0, rw (e, h, ← d) both.1)
+
+-- and so does the end
+pub ready_at_end : (site : Site) (number : ℕ) (text : List ℕ) → length text ≡ 0
+    → (opening site number (steps_of text) ≡ begun site number (steps_of text)) × (opening_ends site number (steps_of text) ≡ ends number (steps_of text))
+ready_at_end site number [] none = (refl, refl)
+ready_at_end site number (x ∷ xs) none = absurd (omega arith)
+
+-- no lines and no devices make a site
+pub nothing_sound : (lines : List Line) (devices : List Device) → lines ≡ [] → devices ≡ [] → is_sound lines devices ≡ true
+unfolding all_differ
+nothing_sound lines devices e f = rw (e, f) refl
