@@ -1,5 +1,6 @@
-//! Measures the speed of the office's crates. Each word of the command line is one measure;
-//! without words the program ends at once and prints nothing.
+//! Measures the speed of the office's crates. Each word of the command line is one measure, but for
+//! `script` and `script-1000`, which write a script for `office replay` of 100 or 1,000 slots.
+//! Without words the program ends at once and prints nothing.
 #![tactic(auto)]
 
 use anyhow::{Result, bail};
@@ -10,9 +11,10 @@ mod lists;
 mod map;
 mod office;
 mod pace;
+mod script;
 mod units;
 
-const WORDS: &str = "units frames map lists office";
+const WORDS: &str = "units frames map lists office script script-1000";
 
 fn main(rt: HostRuntime) -> Result<()> {
     for word in env::args(&rt)?.skip(1) {
@@ -22,6 +24,8 @@ fn main(rt: HostRuntime) -> Result<()> {
             "map" => map::measure(&rt)?,
             "lists" => lists::measure(&rt)?,
             "office" => office::measure(&rt)?,
+            "script" => script::write(&rt, 100)?,
+            "script-1000" => script::write(&rt, 1_000)?,
             other => bail!("no measure '{other}'; there are: {WORDS}"),
         }
     }
