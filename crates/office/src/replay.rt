@@ -238,3 +238,6 @@ pub fn replay<R: Read, W: Write>(
         Err(InputFault::Memory) => Err(ReplayFault::Memory),
     }
 }
+
+#[cfg(test)]
+mod tests;
