@@ -235,3 +235,6 @@ pub fn replay<R: Read, W: Write>(
         Err(InputFault::Memory) => Err(ReplayFault::Memory),
     }
 }
+
+#[cfg(test)]
+mod tests;
