@@ -38,10 +38,20 @@ fn lies_in(read: &Read, address: u16, count: u16) -> bool
     read.span.start <= address && address as u32 + count as u32 <= end
 }
 
+/// Whether the read has the cell at an address. It costs less than the point's length.
+fn starts_in(read: &Read, address: u16) -> bool
+    ensures { result ≡ cover.lies_in read.now address 1 }
+{
+    lies_in(read, address, 1)
+}
+
 /// The point is of the device and of the table that is read, and lies whole in the read.
 pub(crate) fn covers(device: &[u8], read: &Read, point: &Point) -> bool
     ensures { result ≡ cover.covers device.now read.now point.now }
 {
+    if !starts_in(read, point.address) {
+        return false;
+    }
     let count = point.kind.registers();
     point.device.as_bytes() == device
         && reads_table(read.function, point.table)

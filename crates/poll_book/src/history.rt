@@ -1,4 +1,4 @@
-ghost use Rattle.std.specs.Prelude.{◌≡◌, ◌+◌, ◌<◌, ◌≤◌, map, Contains, IsOk, IfOk, IfErr, vec_len, vec_capacity};
+ghost use Rattle.std.specs.Prelude.{◌≡◌, ◌+◌, ◌<◌, ◌≤◌, map, length, Contains, IsOk, IsTrue, IfOk, IfErr, vec_len, vec_capacity};
 ghost use Rattle.poll_book.specs.Tables.{with_row};
 ghost use Rattle.poll_book.specs.Histories.{IsAt, IsGap, IsRising, point_of, slot_of, slots_of};
 
@@ -18,12 +18,26 @@ pub(crate) struct History {
     pub slots: Vec<SlotRow>,
 }
 
-/// Where the slot stands, or where it would go.
+/// Whether the slot comes after all others.
+fn is_last(slots: &[SlotRow], slot: u32) -> bool
+    requires { IsRising slot_of slots.now }
+    ensures { IsTrue result → IsGap slot_of slots.now slot (length slots.now) }
+{
+    match slots.last() {
+        Some(row) => row.slot < slot,
+        None => true,
+    }
+}
+
+/// Where the slot stands, or where it would go. A slot after all others is found at once.
 pub(crate) fn slot_place(slots: &[SlotRow], slot: u32) -> Result<usize, usize>
     requires { IsRising slot_of slots.now }
     ensures found { IfOk result (IsAt slot_of slots.now slot) }
     ensures absent { IfErr result (IsGap slot_of slots.now slot) }
 {
+    if is_last(slots, slot) {
+        return Err(slots.len());
+    }
     slots.binary_search_by_key(&slot, |row| row.slot)
 }
 

@@ -1,5 +1,5 @@
 //! Site files as operators write them.
-use crate::{ListError, ListFault, Name, Site, read_site};
+use crate::{Items, ListError, ListFault, Name, Site, read_site};
 use std::alloc::{AllocError, Global};
 use std::process::Abort;
 use std::test::Fail;
@@ -49,6 +49,19 @@ fn the_example(rt: HostRuntime) -> Result<(), Fail> {
         }
         _ => assert!(rt; false, "one device"),
     }
+    Ok(())
+}
+
+#[test]
+fn a_device_needs_its_line(rt: HostRuntime) -> Result<(), Fail> {
+    let site = read(rt.alloc(), EXAMPLE.as_bytes()).ok().ok_or("a site")?;
+    assert!(rt; site.is_sound());
+    let Site { devices, .. } = site;
+    let alone = Site {
+        lines: Items::from_vec(Vec::new(rt.alloc())),
+        devices,
+    };
+    assert!(rt; !alone.is_sound());
     Ok(())
 }
 
