@@ -86,3 +86,6 @@ fn main(rt: HostRuntime) -> io::Result<ExitCode> {
         }
     }
 }
+
+#[cfg(test)]
+mod tests;
