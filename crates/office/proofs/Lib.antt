@@ -8,3 +8,4 @@ pub mod Opened
 pub mod Lines
 pub mod Messages
 pub mod Played
+pub mod Examples

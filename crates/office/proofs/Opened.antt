@@ -1,5 +1,5 @@
 -- The lines that declare devices.
-use Rattle.std.proofs.Common.{◌≡◌, ◌+◌, ℕ, List, [], ◌∷◌, Bool, true, false, length, refl, ap, Option, Some, None, arith}
+use Rattle.std.proofs.Common.{◌≡◌, ◌+◌, ℕ, List, [], ◌∷◌, true, false, length, refl, ap, Option, Some, None, arith}
 use Rattle.std.specs.Str.Lines.{lines}
 use Rattle.point_list.specs.declared.site.Site.{Site}
 use Rattle.point_list.specs.declared.site.Line.{Line}
@@ -7,7 +7,6 @@ use Rattle.point_list.specs.declared.site.Device.{Device}
 use Rattle.point_list.specs.Sites.{all_differ, is_sound}
 use Rattle.office_core.specs.declared.event.Event.{Event}
 use Rattle.office.specs.declared.device.Declared.{Declared}
-use Rattle.office.specs.declared.replay.Replayed.{Replayed}
 use Rattle.office.specs.declared.replay.Replayed.TheVariants.{FaultLine}
 use Rattle.office.specs.Commands.{event_of}
 use Rattle.office.specs.Devices.{device_of, with_device, is_site}

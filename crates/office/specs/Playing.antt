@@ -1,5 +1,5 @@
 -- What is still owed in the middle of a script.
-use Rattle.std.specs.Prelude.{◌≡◌, ◌≢◌, ℕ, ◌+◌, List, [], ◌++◌, Option, ◌∷◌, ◌≤◌, length}
+use Rattle.std.specs.Prelude.{◌≡◌, ◌≢◌, ℕ, ◌+◌, List, [], ◌++◌, Option, ◌≤◌, length}
 use Rattle.std.specs.Io.KnownBytes.{Appends}
 use Rattle.point_list.specs.Sites.{IsSound}
 use Rattle.poll_book.specs.declared.keeper.Neighbours.{Ghosts}

@@ -1,5 +1,5 @@
 -- What is printed of answers, and of an office's tables at the end.
-use Rattle.std.specs.Prelude.{ℕ, ◌+◌, ◌/◌, ◌%◌, List, [], ◌∷◌, ◌++◌, Option, Some, None, if◌then◌else◌, flat_map, codes, decimal, nat_lt, pos, unwrap_or}
+use Rattle.std.specs.Prelude.{ℕ, ◌+◌, ◌/◌, ◌%◌, List, [], ◌∷◌, ◌++◌, if◌then◌else◌, flat_map, codes, decimal, nat_lt, pos, unwrap_or}
 use Rattle.sunspec.specs.Text.{shown, scaled}
 use Rattle.point_list.specs.declared.point.Point.{Point}
 use Rattle.point_list.specs.declared.error.ListFault.TheVariants.{BadRole}

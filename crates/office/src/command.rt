@@ -19,22 +19,22 @@ use std::alloc::{AllocError, Global};
 const HEADER: &[u8] = b"name,device,table,address,type,length,scale,role,roll\n";
 
 /// The list of the header and one record.
-fn list_with(alloc: Global, record: &[u8]) -> Result<Items<u8>, AllocError>
-    ensures { IfOk result (λ list. list ≡ list_with record.now) }
+fn list_with(alloc: Global, fields: &[u8]) -> Result<Items<u8>, AllocError>
+    ensures { IfOk result (λ list. list ≡ list_with fields.now) }
 {
     let mut list = Vec::from_slice(alloc, HEADER)?;
-    list.extend_from_slice(record)?;
+    list.extend_from_slice(fields)?;
     Ok(Items::from_vec(list))
 }
 
 /// `point RECORD`, by what follows the space.
-fn point(alloc: Global, record: &[u8]) -> Result<Option<Event>, AllocError>
-    ensures { IfOk result (λ event. event ≡ point_of record.now) }
+fn point(alloc: Global, fields: &[u8]) -> Result<Option<Event>, AllocError>
+    ensures { IfOk result (λ event. event ≡ point_of fields.now) }
 {
-    if !is_ascii(record) {
+    if !is_ascii(fields) {
         return Ok(None);
     }
-    Ok(Some(Event::Load(list_with(alloc, record)?)))
+    Ok(Some(Event::Load(list_with(alloc, fields)?)))
 }
 
 /// `open LINE`.
@@ -161,8 +161,8 @@ fn record_in<'a>(line: &'a [u8]) -> Option<&'a [u8]>
 pub(crate) fn event(alloc: Global, line: &[u8]) -> Result<Option<Event>, AllocError>
     ensures { IfOk result (λ event. event ≡ event_of line.now) }
 {
-    if let Some(record) = record_in(line) {
-        return point(alloc, record);
+    if let Some(fields) = record_in(line) {
+        return point(alloc, fields);
     }
     let words = words(alloc, line)?;
     event_of_words(alloc, &words)

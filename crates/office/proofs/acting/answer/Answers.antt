@@ -1,4 +1,4 @@
-use Rattle.std.proofs.Common.{◌≡◌, ◌++◌, ◌∙◌, sym, ap, false}
+use Rattle.std.proofs.Common.{◌++◌, ◌∙◌, sym, ap}
 use Rattle.office_core.specs.Messages.{happening_of}
 use Rattle.office.specs.Printing.{answer_line}
 use Rattle.office.proofs.Acted.{on_ok}

@@ -1,7 +1,6 @@
-use Rattle.std.proofs.Common.{◌≡◌, ◌∙◌, sym, ap, Ok}
+use Rattle.std.proofs.Common.{◌∙◌, sym, ap}
 use Rattle.point_list.specs.Columns.{is_device}
 use Rattle.point_list.specs.Lists.{records_of}
-use Rattle.point_list.specs.declared.point.ListRow.{ListRow}
 use Rattle.office.specs.Scripts.{has_setting}
 use Rattle.office.proofs.Settings.{none_in, of_rows}
 use Rattle.office.proofs.acting.list_has_setting.Goals as goal

@@ -1,4 +1,4 @@
-use Rattle.std.proofs.Common.{arith, refl, sym, ◌∙◌, ◌≡◌, ◌∷◌, [], ap, subst, true, ◌+◌}
+use Rattle.std.proofs.Common.{arith, refl, sym, ◌∙◌, ◌≡◌, [], ap, subst, true, ◌+◌}
 use Rattle.office.specs.Devices.{with_device, is_site}
 use Rattle.office.specs.Scripts.{opening, opening_ends, steps_of}
 use Rattle.office.proofs.Opened.{declared, nothing_sound, ready}

@@ -1,4 +1,4 @@
-use Rattle.std.proofs.Common.{◌≡◌, ◌++◌, ◌∙◌, sym, ap, subst, append_assoc}
+use Rattle.std.proofs.Common.{◌++◌, ◌∙◌, sym, ap, subst, append_assoc}
 use Rattle.office_core.specs.Fitting.{IsFitting}
 use Rattle.office_core.specs.History.{tables}
 use Rattle.office.specs.Printing.{report_of}

@@ -1,4 +1,3 @@
-use Rattle.std.proofs.Common.{subst, sym}
 use Rattle.office.proofs.Rows.{registers_at}
 use Rattle.office.proofs.report.push_rows.Goals as goal
 

@@ -1,4 +1,4 @@
-use Rattle.std.proofs.Common.{◌≡◌, ◌∙◌, ◌+◌, ◌++◌, ◌∷◌, [], sym, ap, Some, suc, take, subst, arith}
+use Rattle.std.proofs.Common.{◌≡◌, ◌∙◌, ◌+◌, sym, ap, Some, suc, take, subst, arith}
 use Rattle.office.specs.Words.{bytes_of, texts}
 use Rattle.office.proofs.Texts.{bytes-more, bytes-none}
 use Rattle.office.proofs.word.bytes.Goals as goal
