@@ -8,4 +8,5 @@ pub mod Opened
 pub mod Lines
 pub mod Messages
 pub mod Played
+pub mod Framed
 pub mod Examples
