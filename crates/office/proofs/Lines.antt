@@ -1,6 +1,6 @@
 -- One line more of a script.
 use Rattle.std.proofs.Common.{◌≡◌, ◌+◌, ℕ, List, ◌∷◌, ◌++◌, true, false, Option, Some, None, refl, sym, ap, ◌∙◌, subst, append_assoc}
-use Rattle.std.specs.Prelude.{is_some, ⊤}
+use Rattle.std.specs.Prelude.{⊤}
 use Rattle.office_core.specs.History.{History}
 use Rattle.office_core.specs.Messages.{IsMessage}
 use Rattle.office_core.specs.declared.event.Event.{Event}
@@ -10,7 +10,7 @@ use Rattle.office.specs.declared.replay.Replayed.TheVariants.{FaultLine}
 use Rattle.office.specs.Commands.{event_of}
 use Rattle.office.specs.Devices.{device_of}
 use Rattle.office.specs.Printing.{fault_line}
-use Rattle.office.specs.Scripts.{Step, Skipped, Wrong, Declares, Does, step_of, is_skipped, printed, printed_for, then_before}
+use Rattle.office.specs.Scripts.{Step, Skipped, Wrong, Declares, Does, does, step_of, is_skipped, printed, printed_for, then_before}
 use Rattle.office.specs.Playing.{Owes, IsWhole}
 
 -- a step at which a script breaks off
@@ -20,20 +20,17 @@ IsFaulty Wrong = ⊤
 IsFaulty (Declares said) = ⊤
 IsFaulty (Does seen) = ⊥
 
--- a device after the first other line
-pub late_device : (line : List ℕ) (o : Option Declared) → is_skipped line ≡ false → o ≡ device_of line → is_some o ≡ true → IsFaulty (step_of line)
-late_device line None skip e some = absurd (cc)
-late_device line (Some said) skip e some = rw (skip, ← e) tt
-
--- a line that is neither a device nor an event
-pub no_command : (line : List ℕ) (o : Option Declared) → is_skipped line ≡ false → o ≡ device_of line → is_some o ≡ false → None ≡ event_of line → IsFaulty (step_of line)
-no_command line (Some said) skip e some none = absurd (cc)
-no_command line None skip e some none = rw (skip, ← e, ← none) tt
+-- a line that asks for nothing breaks a script off
+pub no_event : (line : List ℕ) → is_skipped line ≡ false → None ≡ event_of line → IsFaulty (step_of line)
+no_event line skip none = rw (skip, ← none) (by (device_of line))
+  where
+    by : (o : Option Declared) → IsFaulty (does None o)
+    by None = tt
+    by (Some said) = tt
 
 -- a line that asks for an event
-pub one_event : (line : List ℕ) (o : Option Declared) (seen : Event) → is_skipped line ≡ false → o ≡ device_of line → is_some o ≡ false → Some seen ≡ event_of line → step_of line ≡ Does seen
-one_event line (Some said) seen skip e some is = absurd (cc)
-one_event line None seen skip e some is = rw (skip, ← e, ← is) refl
+pub one_event : (line : List ℕ) (seen : Event) → is_skipped line ≡ false → Some seen ≡ event_of line → step_of line ≡ Does seen
+one_event line seen skip is = rw (skip, ← is) refl
 
 -- a script that breaks off is whole with the number of the line
 pub broken_off : (stands : History → Type 0) (done out more : List ℕ) (number : ℕ) (step : Step) (rest : List Step) (output : List ℕ) (ending : Replayed)

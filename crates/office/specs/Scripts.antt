@@ -36,13 +36,21 @@ pub data Step : Type 0 where
 abbrev pub is_skipped : List ℕ → Bool
 is_skipped line = length line == 0 || slice_index line 0 == 35
 
-abbrev pub does : Option Declared → Option Event → Step
-does (Some said) _ = Declares said
+abbrev pub does : Option Event → Option Declared → Step
+does (Some seen) said = Does seen
+does None (Some said) = Declares said
 does None None = Wrong
-does None (Some seen) = Does seen
+
+-- the device that a line declares which asks for nothing
+abbrev pub said_without : Option Event → Option Declared → Option Declared
+said_without (Some seen) said = None
+said_without None said = said
+
+abbrev pub declared_by : List ℕ → Option Declared
+declared_by line = said_without (event_of line) (device_of line)
 
 abbrev pub step_of : List ℕ → Step
-step_of line = if is_skipped line then Skipped else does (device_of line) (event_of line)
+step_of line = if is_skipped line then Skipped else does (event_of line) (device_of line)
 
 abbrev pub steps_in : List (List ℕ) → List Step
 steps_in [] = []

@@ -1,10 +1,11 @@
 //! The lines of a script that declare devices, which stand before all others.
 ghost use Rattle.std.specs.Prelude.{◌≡◌, ◌≤◌, IfOk, length};
-ghost use Rattle.office.specs.Scripts.{is_skipped};
+ghost use Rattle.office.specs.Scripts.{declared_by, is_skipped};
 ghost use Rattle.office.specs.Playing.{Opens};
 
+use crate::command::event;
 use crate::cutting::first_line;
-use crate::device::{device, with_device};
+use crate::device::{Declared, device, with_device};
 use crate::input::SCRIPT_LIMIT;
 use point_list::{Items, Site};
 use std::alloc::{AllocError, Global};
@@ -31,6 +32,16 @@ pub(crate) fn skips(line: &[u8]) -> bool
     line.is_empty() || line[0] == b'#'
 }
 
+/// The device that a line declares which asks for nothing.
+fn declared(alloc: Global, line: &[u8]) -> Result<Option<Declared>, AllocError>
+    ensures { IfOk result (λ said. said ≡ declared_by line.now) }
+{
+    if event(alloc, line)?.is_some() {
+        return Ok(None);
+    }
+    device(alloc, line)
+}
+
 /// Reads the devices that stand before all other lines.
 pub(crate) fn open_script<'a>(alloc: Global, script: &'a [u8]) -> Result<Opening<'a>, AllocError>
     requires { length script.now ≤ SCRIPT_LIMIT }
@@ -49,7 +60,7 @@ pub(crate) fn open_script<'a>(alloc: Global, script: &'a [u8]) -> Result<Opening
             number += 1;
             continue;
         }
-        let Some(said) = device(alloc, line)? else {
+        let Some(said) = declared(alloc, line)? else {
             return Ok(Opening::Ready { site, rest, number });
         };
         site = with_device(alloc, site, &said)?;

@@ -10,7 +10,6 @@ ghost use Rattle.office.specs.Playing.{Follows, IsWhole, Leaves, Owes, TookFront
 use crate::acting::act;
 use crate::command::event;
 use crate::cutting::first_line;
-use crate::device::device;
 use crate::input::{InputFault, SCRIPT_LIMIT, read_script};
 use crate::opening::{Opening, open_script, skips};
 use crate::printing::push_fault;
@@ -67,10 +66,6 @@ fn play_line(
 {
     if skips(line) {
         return Ok(Played::On);
-    }
-    if device(alloc, line)?.is_some() {
-        push_fault(out, number)?;
-        return Ok(Played::Faulty);
     }
     match event(alloc, line)? {
         None => {

@@ -73,7 +73,7 @@ fn byte(word: &[u8]) -> Option<u8>
 pub(crate) fn bytes(alloc: Global, spelled: &[&[u8]]) -> Result<Option<Vec<u8>>, AllocError>
     ensures { IfOk result (λ bytes. option_map (λ v. v.items) bytes ≡ bytes_of (texts spelled.now)) }
 {
-    let mut bytes = Vec::new(alloc);
+    let mut bytes = Vec::with_capacity(alloc, spelled.len())?;
     for word in spelled {
         let Some(value) = byte(word) else {
             return Ok(None);

@@ -1,7 +1,7 @@
-use Rattle.std.proofs.Common.{arith, refl, sym, ◌∙◌, ◌≡◌, [], ap, subst, true, ◌+◌}
+use Rattle.std.proofs.Common.{arith, refl, sym, ◌∙◌, ◌≡◌, [], ap, subst, true, false, ◌+◌}
 use Rattle.office.specs.Devices.{with_device, is_site}
 use Rattle.office.specs.Scripts.{opening, opening_ends, steps_of}
-use Rattle.office.proofs.Opened.{declared, nothing_sound, ready}
+use Rattle.office.proofs.Opened.{broken, declared, nothing_sound, ready}
 use Rattle.office.proofs.opening.open_script.Goals as goal
 
 pub loop-alloc-init : goal.loop-alloc-init
@@ -15,6 +15,13 @@ returns-in_default c =
     let both = ready c.loop-alloc.site c.loop-alloc.number c.loop-alloc.rest.now c.first_line.result.0.now c.first_line.result.1.now c.first_line.ensures.lines (sym c.skips.ensures ∙ c.if-skips.false)
     (sym c.in_default.is ∙ c.in_ok-said.ensures) in
     (c.loop-alloc.invariant.sound, c.loop-alloc.invariant.output ∙ both.0, c.loop-alloc.invariant.outcome ∙ both.1, c.loop-alloc.invariant.room)
+
+pub returns-then-not-is_sound : goal.returns-then-not-is_sound
+returns-then-not-is_sound c =
+    let unsound : is_site (with_device c.loop-alloc.site c.in-Some.said) ≡ false = subst (λ s. is_site s ≡ false) c.in_ok-site.ensures (sym c.is_sound.ensures ∙ c.if-not-is_sound.true) in
+    let both = broken c.loop-alloc.site c.loop-alloc.number c.loop-alloc.rest.now c.first_line.result.0.now c.first_line.result.1.now c.in-Some.said c.first_line.ensures.lines (sym c.skips.ensures ∙ c.if-skips.false)
+        (sym c.in-Some.is ∙ c.in_ok-said.ensures) unsound in
+    (c.loop-alloc.invariant.output ∙ both.0, c.loop-alloc.invariant.outcome ∙ both.1)
 
 pub loop-alloc-preserved : goal.loop-alloc-preserved
 loop-alloc-preserved c =
