@@ -9,4 +9,6 @@ pub mod Lines
 pub mod Messages
 pub mod Played
 pub mod Framed
+pub mod Lacking
+pub mod Unset
 pub mod Examples

@@ -1,5 +1,5 @@
 //! What the office does at one line, and what is printed of it.
-ghost use Rattle.std.specs.Prelude.{◌≡◌, ◌≢◌, ◌++◌, ◌∷◌, IfOk, OnOk, false};
+ghost use Rattle.std.specs.Prelude.{◌≡◌, ◌≢◌, ◌++◌, ◌∷◌, ◌==◌, ℕ, Bool, IfOk, IsTrue, List, OnOk, false};
 ghost use Rattle.std.specs.List.{list_any};
 ghost use Rattle.point_list.specs.Columns.{is_device};
 ghost use Rattle.point_list.specs.Lists.{records_of};
@@ -13,6 +13,7 @@ ghost use Rattle.office.specs.Printing.{answer_line};
 ghost use Rattle.office.specs.Scripts.{has_setting, lists_setting, printed_for, then_before};
 ghost use Rattle.office.specs.Playing.{Follows};
 
+use crate::command::HEADER;
 use crate::printing::{push_answer, push_setting};
 use office_core::laws::any_message;
 use office_core::{Event, EventAnswer, Office, OfficeError};
@@ -38,11 +39,35 @@ fn refused_list(error: ListError) -> Result<bool, AllocError>
     }
 }
 
+/// Whether an `s` stands in a text.
+fn has_s(text: &[u8]) -> bool
+    ensures { result ≡ list_any (λ b. b == 115) text.now }
+{
+    text.iter().any(|byte| *byte == b's')
+}
+
+/// Whether no `s` stands behind the header, so that no column says `setting`. Most lists of a script
+/// need not be read for it.
+fn says_no_setting(list: &[u8]) -> bool
+    ensures { IsTrue result → (known : List ℕ → Bool) → has_setting (list_meaning known (records_of list.now)) ≡ false }
+{
+    if list.len() < HEADER.len() {
+        return false;
+    }
+    if &list[..HEADER.len()] != HEADER {
+        return false;
+    }
+    !has_s(&list[HEADER.len()..])
+}
+
 /// Whether a list of the site has a point that can be set.
 fn list_has_setting(alloc: Global, site: &Site, list: &[u8]) -> Result<bool, AllocError>
     ensures { IfOk result (λ has. has ≡ has_setting (list_meaning (is_device site.now) (records_of list.now))) }
 {
     one_meaning();
+    if says_no_setting(list) {
+        return Ok(false);
+    }
     match read_list(alloc, list, site) {
         Ok(rows) => Ok(has_setting_row(&rows)),
         Err(error) => refused_list(error),

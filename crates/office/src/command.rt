@@ -16,7 +16,8 @@ use poll_match::Conn;
 use read_planner::Read;
 use std::alloc::{AllocError, Global};
 
-const HEADER: &[u8] = b"name,device,table,address,type,length,scale,role,roll\n";
+/// The header of a point list, with the end of its line.
+pub(crate) const HEADER: &[u8] = b"name,device,table,address,type,length,scale,role,roll\n";
 
 /// The list of the header and one record.
 fn list_with(alloc: Global, fields: &[u8]) -> Result<Items<u8>, AllocError>

@@ -20,7 +20,7 @@ pub returns-then-not-is_sound : goal.returns-then-not-is_sound
 returns-then-not-is_sound c =
     let unsound : is_site (with_device c.loop-alloc.site c.in-Some.said) ≡ false = subst (λ s. is_site s ≡ false) c.in_ok-site.ensures (sym c.is_sound.ensures ∙ c.if-not-is_sound.true) in
     let both = broken c.loop-alloc.site c.loop-alloc.number c.loop-alloc.rest.now c.first_line.result.0.now c.first_line.result.1.now c.in-Some.said c.first_line.ensures.lines (sym c.skips.ensures ∙ c.if-skips.false)
-        (sym c.in-Some.is ∙ c.in_ok-said.ensures) unsound in
+    (sym c.in-Some.is ∙ c.in_ok-said.ensures) unsound in
     (c.loop-alloc.invariant.output ∙ both.0, c.loop-alloc.invariant.outcome ∙ both.1)
 
 pub loop-alloc-preserved : goal.loop-alloc-preserved
