@@ -2,17 +2,16 @@
 use Rattle.std.specs.Prelude.{ℕ, List, [], ◌∷◌, ◌++◌, Bool, ◌&&◌, Option, Some, None, if◌then◌else◌, length, ◌==◌, codes}
 use Rattle.std.specs.Str.{bytes_eq}
 use Rattle.sunspec.specs.Digits.{number_within}
-use Rattle.point_list.specs.Name.{is_name}
 use Rattle.point_list.specs.Sites.{is_sound}
 use Rattle.point_list.specs.declared.site.Site.{Site}
 use Rattle.point_list.specs.declared.site.Line.{Line}
 use Rattle.office_core.specs.Sites.{line_place}
 use Rattle.office.specs.declared.device.Declared.{Declared}
-use Rattle.office.specs.Words.{words_of, word_at}
+use Rattle.office.specs.Words.{is_text, words_of, word_at}
 use Rattle.office.specs.Commands.{byte_limit}
 
 abbrev pub declaring : List ℕ → List ℕ → Option ℕ → Option Declared
-declaring name line (Some unit) = if is_name name && is_name line then Some (record { name = name; line = line; unit = unit }) else None
+declaring name line (Some unit) = if is_text name && is_text line then Some (record { name = name; line = line; unit = unit }) else None
 declaring name line None = None
 
 -- `device NAME LINE UNIT`

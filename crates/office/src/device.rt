@@ -1,38 +1,60 @@
 //! The devices that a script declares.
-ghost use Rattle.std.specs.Prelude.{◌≡◌, ◌≤◌, IfOk, OnOk, length};
-ghost use Rattle.std.specs.List.{position};
-ghost use Rattle.std.specs.Str.{bytes_eq};
-ghost use Rattle.point_list.specs.Sites.{IsSound};
+ghost use Rattle.std.specs.Prelude.{◌≡◌, ◌≤◌, IfOk, IfSome, OnOk, length};
+ghost use Rattle.point_list.specs.Sites.{IsSound, line_of};
 ghost use Rattle.office.specs.Words.{texts};
+ghost use Rattle.office.specs.Devices as devices;
 ghost use Rattle.office.specs.Devices.{device_of, device_of_words, lines_with, place_with, with_device};
 
 use crate::cutting::words;
-use crate::word::number;
-use point_list::{Address, Device, Items, Line, Name, Site};
+use crate::word::{is_text, number, text};
+use point_list::{Device, Items, Line, Site, Text};
 use std::alloc::{AllocError, Global};
 
 /// A device that a line declares: its name, its line's name, and its unit identifier.
-#[derive(Clone, Copy)]
+#[derive(Drop)]
 pub(crate) struct Declared {
-    pub(crate) name: Name,
-    pub(crate) line: Name,
+    pub(crate) name: Text,
+    pub(crate) line: Text,
     pub(crate) unit: u8,
 }
 
+/// The device of these names, where its unit identifier could be read.
+fn declaring(
+    alloc: Global,
+    name: &[u8],
+    line: &[u8],
+    unit: Option<u32>,
+) -> Result<Option<Declared>, AllocError>
+    requires { IfSome unit (λ unit. unit ≤ 255) }
+    ensures { IfOk result (λ said. said ≡ devices.declaring name.now line.now unit) }
+{
+    let Some(unit) = unit else {
+        return Ok(None);
+    };
+    if !is_text(name) {
+        return Ok(None);
+    }
+    if !is_text(line) {
+        return Ok(None);
+    }
+    Ok(Some(Declared {
+        name: text(alloc, name)?,
+        line: text(alloc, line)?,
+        unit: unit as u8,
+    }))
+}
+
 /// `device NAME LINE UNIT`.
-fn device_of_words(words: &[&[u8]]) -> Option<Declared>
-    ensures { result ≡ device_of_words (texts words.now) }
+fn device_of_words(alloc: Global, words: &[&[u8]]) -> Result<Option<Declared>, AllocError>
+    ensures { IfOk result (λ said. said ≡ device_of_words (texts words.now)) }
 {
     if words.len() != 4 {
-        return None;
+        return Ok(None);
     }
     if words[0] != b"device".as_slice() {
-        return None;
+        return Ok(None);
     }
-    let name = Name::new(words[1])?;
-    let line = Name::new(words[2])?;
-    let unit = number(words[3], 255)? as u8;
-    Some(Declared { name, line, unit })
+    declaring(alloc, words[1], words[2], number(words[3], 255))
 }
 
 /// The device that a line declares.
@@ -40,34 +62,28 @@ pub(crate) fn device(alloc: Global, line: &[u8]) -> Result<Option<Declared>, All
     ensures { IfOk result (λ said. said ≡ device_of line.now) }
 {
     let words = words(alloc, line)?;
-    Ok(device_of_words(&words))
-}
-
-fn place_of(lines: &[Line], name: &Name) -> Option<usize>
-    ensures { result ≡ position (λ line. bytes_eq line.name name.now) lines.now }
-{
-    lines.iter().position(|line| line.name == *name)
+    device_of_words(alloc, &words)
 }
 
 /// The place of a line of this name, which is added where there is none.
-fn place_in(alloc: Global, lines: &mut Vec<Line>, name: Name) -> Result<usize, AllocError>
-    ensures place { IfOk result (λ place. place ≡ place_with lines.old.items (position (λ line. bytes_eq line.name name) lines.old.items)) }
-    ensures lines { OnOk result (lines.new.items ≡ lines_with lines.old.items name (position (λ line. bytes_eq line.name name) lines.old.items)) }
+fn place_in(alloc: Global, lines: &mut Vec<Line>, name: Text) -> Result<usize, AllocError>
+    ensures place { IfOk result (λ place. place ≡ place_with lines.old.items (line_of lines.old.items name)) }
+    ensures lines { OnOk result (lines.new.items ≡ lines_with lines.old.items name (line_of lines.old.items name)) }
     ensures small { IfOk result (λ place. place ≤ length lines.old.items) }
 {
-    if let Some(place) = place_of(lines, &name) {
+    if let Some(place) = Line::place(lines, name.as_bytes()) {
         return Ok(place);
     }
     let place = lines.len();
-    let address = Address::from_string(String::new(alloc));
+    let address = Text::from_string(String::new(alloc));
     lines.push(Line { name, address })?;
     Ok(place)
 }
 
 /// The site with a device more, and with its line.
-pub(crate) fn with_device(alloc: Global, site: Site, said: &Declared) -> Result<Site, AllocError>
+pub(crate) fn with_device(alloc: Global, site: Site, said: Declared) -> Result<Site, AllocError>
     requires { IsSound site }
-    ensures { IfOk result (λ grown. grown ≡ with_device site said.now) }
+    ensures { IfOk result (λ grown. grown ≡ with_device site said) }
 {
     let mut lines = site.lines.into_vec();
     let mut devices = site.devices.into_vec();

@@ -63,7 +63,7 @@ pub(crate) fn open_script<'a>(alloc: Global, script: &'a [u8]) -> Result<Opening
         let Some(said) = declared(alloc, line)? else {
             return Ok(Opening::Ready { site, rest, number });
         };
-        site = with_device(alloc, site, &said)?;
+        site = with_device(alloc, site, said)?;
         if !site.is_sound() {
             return Ok(Opening::Broken { number });
         }

@@ -5,7 +5,7 @@ ghost use Rattle.sunspec.specs.Digits.{number_within};
 ghost use Rattle.office.specs.Words as words;
 ghost use Rattle.office.specs.Words.{byte_of, bytes_of, hex_value, texts};
 
-use office_core::Text;
+use point_list::Text;
 use std::alloc::{AllocError, Global};
 use std::str;
 use sunspec::digits::within;

@@ -1,11 +1,10 @@
 -- Lines and devices of a site, by their names.
 use Rattle.std.specs.Prelude.{ℕ, Bool, List, [], Option, Some, None, option_map, slice_get}
-use Rattle.std.specs.List.{list_all, position}
-use Rattle.std.specs.Str.{bytes_eq}
+use Rattle.std.specs.List.{list_all}
 use Rattle.point_list.specs.declared.site.Site.{Site}
-use Rattle.point_list.specs.declared.site.Line.{Line}
 use Rattle.point_list.specs.declared.site.Device.{Device}
 use Rattle.point_list.specs.Columns.{is_device}
+use Rattle.point_list.specs.Sites.{device_of, line_of}
 use Rattle.poll_book.specs.declared.rows.PointRow.{PointRow}
 use Rattle.office_core.specs.declared.site.Target.{Target}
 
@@ -14,10 +13,10 @@ no_site = record { lines = []; devices = [] }
 
 -- the place of the line of this name
 abbrev pub line_place : Site → List ℕ → Option ℕ
-line_place site name = position (λ (line : Line). bytes_eq line.name name) site.lines
+line_place site name = line_of site.lines name
 
 abbrev pub device_place : Site → List ℕ → Option ℕ
-device_place site name = position (λ (device : Device). bytes_eq device.name name) site.devices
+device_place site name = device_of site.devices name
 
 abbrev pub target_at : ℕ → Option Device → Option Target
 target_at place device = option_map (λ (d : Device). record { place = place; line = d.line; unit_id = d.unit }) device

@@ -1,7 +1,6 @@
 use crate::error::OfficeError;
-use crate::text::Text;
 use mb_mbap::Frame;
-use point_list::{Items, ListFault};
+use point_list::{Items, ListFault, Text};
 use poll_match::Conn;
 use read_planner::Read;
 

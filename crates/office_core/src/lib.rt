@@ -12,12 +12,10 @@ mod loads;
 mod office;
 pub mod plain;
 mod site;
-mod text;
 
 pub use error::OfficeError;
 pub use event::{Arrival, Event, EventAnswer, LoadFault, Outcome, Reason};
 pub use office::Office;
-pub use text::Text;
 
 #[cfg(test)]
 mod tests;

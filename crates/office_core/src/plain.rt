@@ -18,10 +18,9 @@ ghost use Rattle.poll_book.specs.Totals as totals;
 use crate::cover::{covered, is_readable};
 use crate::loads::judge;
 use crate::site::{Target, find_target, line_place};
-use crate::text::Text;
 use mb_mbap::Frame;
 use mb_pdu::{Registers, Reply, Request};
-use point_list::{Items, Site};
+use point_list::{Items, Site, Text};
 use poll_book::{PointRow, ReadingRow, StoreFault, Words, counted_number};
 use read_planner::Read;
 use std::alloc::{AllocError, Global};
@@ -94,7 +93,7 @@ fn place_of_line(before: &[Happening], name: &Text) -> Option<u16>
         return None;
     };
     match first {
-        Happening::Restart(site) => line_place(site, name.as_str().as_bytes()),
+        Happening::Restart(site) => line_place(site, name.as_bytes()),
         _ => place_of_line(rest, name),
     }
 }
@@ -108,7 +107,7 @@ fn target_named(before: &[Happening], name: &Text) -> Option<Target>
         return None;
     };
     match first {
-        Happening::Restart(site) => find_target(site, name.as_str().as_bytes()),
+        Happening::Restart(site) => find_target(site, name.as_bytes()),
         _ => target_named(rest, name),
     }
 }
@@ -276,7 +275,7 @@ fn may_ask(
     match open_line(before, conn) {
         Some(line) => {
             let to = target_named(before, device);
-            may_ask_to(to, line, known, made, device.as_str().as_bytes(), read)
+            may_ask_to(to, line, known, made, device.as_bytes(), read)
         }
         None => false,
     }
@@ -327,7 +326,7 @@ fn with_asked(
     if may_ask(before, conn, &known, queries.len(), device, read) {
         let to = target_named(before, device);
         let count = known.len() as u32;
-        queries.push(question_to(alloc, to, device.as_str().as_bytes(), slot, read, count)?)?;
+        queries.push(question_to(alloc, to, device.as_bytes(), slot, read, count)?)?;
     }
     Ok(queries)
 }

@@ -16,26 +16,12 @@ pub(crate) struct Target {
     pub(crate) unit_id: u8,
 }
 
-fn place_of_line(lines: &[Line], name: &[u8]) -> Option<usize>
-    ensures { result ≡ position (λ line. bytes_eq line.name name.now) lines.now }
-{
-    lines.iter().position(|line| line.name.as_bytes() == name)
-}
-
-fn place_of_device(devices: &[Device], name: &[u8]) -> Option<usize>
-    ensures { result ≡ position (λ device. bytes_eq device.name name.now) devices.now }
-{
-    devices
-        .iter()
-        .position(|device| device.name.as_bytes() == name)
-}
-
 /// The place of the line of a name.
 pub(crate) fn line_place(site: &Site, name: &[u8]) -> Option<u16>
     requires { length site.now.lines ≤ 65536 }
     ensures { result ≡ sites.line_place site.now name.now }
 {
-    match place_of_line(site.lines.as_slice(), name) {
+    match Line::place(site.lines.as_slice(), name) {
         Some(place) => Some(place as u16),
         None => None,
     }
@@ -47,7 +33,7 @@ pub(crate) fn find_target(site: &Site, name: &[u8]) -> Option<Target>
     ensures { result ≡ sites.target site.now name.now }
 {
     let devices = site.devices.as_slice();
-    match place_of_device(devices, name) {
+    match Device::place(devices, name) {
         Some(place) => Some(Target {
             place: place as u16,
             line: devices[place].line,
@@ -57,18 +43,9 @@ pub(crate) fn find_target(site: &Site, name: &[u8]) -> Option<Target>
     }
 }
 
-fn has_device(site: &Site, point: &PointRow) -> bool
-    ensures { result ≡ is_device site.now point.now.point.device }
-{
-    let devices = site.devices.as_slice();
-    devices
-        .iter()
-        .any(|device| point.point.device == device.name)
-}
-
 /// Whether a site has the devices of these points.
 pub(crate) fn has_devices(site: &Site, known: &[PointRow]) -> bool
     ensures { result ≡ sites.has_devices site.now known.now }
 {
-    known.iter().all(|point| has_device(site, point))
+    known.iter().all(|row| site.has_device(&row.point.device))
 }

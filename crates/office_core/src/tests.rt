@@ -12,10 +12,10 @@ mod refusing;
 mod rows;
 mod totals;
 
-use crate::{Arrival, Event, EventAnswer, Office, OfficeError, Outcome, Text};
+use crate::{Arrival, Event, EventAnswer, Office, OfficeError, Outcome};
 use mb_mbap::Frame;
 use mb_pdu::{Span, Unit};
-use point_list::{Items, ListFault, Site, read_site};
+use point_list::{Items, ListFault, Site, Text, read_site};
 use poll_book::{Keeper, MemKeeper, StoreFault};
 use poll_match::Conn;
 use read_planner::Read;

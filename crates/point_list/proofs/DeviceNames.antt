@@ -1,12 +1,10 @@
 -- One more device among those whose names are known.
-use Rattle.std.proofs.Common.{◌≡◌, ◌<◌, ◌+◌, ◌||◌, ℕ, List, [], ◌∷◌, ◌++◌, Bool, true, false, take, length, get_or, refl, sym, subst}
+use Rattle.std.proofs.Common.{◌≡◌, ◌<◌, ◌+◌, ◌&&◌, ◌||◌, ℕ, List, [], ◌∷◌, ◌++◌, Bool, true, false, take, length, get_or, refl}
 use Rattle.std.proofs.lemmas.List.{take_more}
-use Rattle.std.proofs.lemmas.Slice.Eq.{bytes_eq-Decides}
 use Rattle.std.specs.Prelude.{Result, Ok, Err, OnOk}
 use Rattle.std.specs.Result.{is_ok}
 use Rattle.std.specs.List.{list_any}
 use Rattle.std.specs.Str.{bytes_eq}
-use Rattle.point_list.specs.Name.{is_name}
 use Rattle.point_list.specs.declared.site.Device.{Device}
 
 any-push : (text : List ℕ) (ds : List Device) (d : Device) → list_any (λ (x : Device). bytes_eq text x.name) (ds ++ d ∷ []) ≡ (bytes_eq text d.name || list_any (λ (x : Device). bytes_eq text x.name) ds)
@@ -23,15 +21,10 @@ pub any-more : (text : List ℕ) (ds : List Device) (i : ℕ) (d : Device) → i
     → list_any (λ (x : Device). bytes_eq text x.name) (take (i + 1) ds) ≡ (bytes_eq text d.name || list_any (λ (x : Device). bytes_eq text x.name) (take i ds))
 any-more text ds i d lt e = rw (take_more ds i d lt, ← e) (any-push text (take i ds) d)
 
--- what is one of two names is a name
-pub named-more : (text name : List ℕ) (old : Bool) → is_name name ≡ true → (old ≡ true → is_name text ≡ true) → (bytes_eq text name || old) ≡ true → is_name text ≡ true
-named-more text name old ok more h = split (bytes_eq text name) refl h
-  where
-    split : (b : Bool) → bytes_eq text name ≡ b → (b || old) ≡ true → is_name text ≡ true
-    split true is k =
-        let P : List ℕ → Type 0 = λ xs. is_name xs ≡ true in
-        subst P (sym ((bytes_eq-Decides text name).0 is)) ok
-    split false is k = more k
+-- what goes with one of two goes with each
+pub shared : (a b c : Bool) → ((a && b) || (a && c)) ≡ (a && (b || c))
+shared true b c = refl
+shared false b c = refl
 
 -- what holds where a call succeeded
 pub on_ok : {A E P : Type 0} (r : Result A E) → is_ok r ≡ true → OnOk r P → P

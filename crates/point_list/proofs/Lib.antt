@@ -1,3 +1,4 @@
+pub mod Labels
 pub mod Names
 pub mod Each
 pub mod Differ

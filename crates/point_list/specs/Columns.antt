@@ -11,6 +11,7 @@ use Rattle.sunspec.specs.PointType.{row, types, resized, bits_of}
 use Rattle.sunspec.specs.Digits.{number_of, number_within, scale_of}
 use Rattle.point_list.specs.declared.point.Role.{Role}
 use Rattle.point_list.specs.declared.point.Role.TheVariants.{Gauge, Counter, Setting}
+use Rattle.point_list.specs.Label.{is_label}
 use Rattle.point_list.specs.declared.site.Site.{Site}
 use Rattle.point_list.specs.declared.site.Device.{Device}
 
@@ -29,8 +30,9 @@ None then f = None
 
 -- ---- columns 2 to 4: device, table, address
 
+-- a device of the site, by a name that a point can have
 abbrev pub is_device : Site → List ℕ → Bool
-is_device site text = list_any (λ (d : Device). bytes_eq text d.name) site.devices
+is_device site text = is_label text && list_any (λ (d : Device). bytes_eq text d.name) site.devices
 
 abbrev pub table_of : List ℕ → Option Table
 table_of text =

@@ -1,5 +1,6 @@
+pub mod Label
+pub mod LabelFields
 pub mod Name
-pub mod NameFields
 pub mod Sites
 pub mod SiteFile
 pub mod Texts

@@ -1,4 +1,4 @@
--- Names of points, devices and lines.
+-- Names of points, and of the devices and lines of a site file.
 use Rattle.std.specs.Prelude.{ℕ, List, Bool, ◌&&◌, ◌||◌, ◌==◌, nat_le, nat_lt, length}
 use Rattle.std.specs.List.{list_all}
 use Rattle.std.specs.Char.{is_ascii_alphanumeric}

@@ -1,7 +1,6 @@
 -- What a document of TOML says of a site.
 use Rattle.std.specs.Prelude.{◌≡◌, ℕ, pos, List, [], ◌∷◌, Option, Some, None, Result, Ok, Err, if◌then◌else◌, nat_le, length, codes, ⊤}
-use Rattle.std.specs.List.{position}
-use Rattle.std.specs.Str.{bytes_eq, IsUtf8}
+use Rattle.std.specs.Str.{IsUtf8}
 use Rattle.toml.specs.Data.{Data, Items, no_items, item, Members, integer, array, as_str, as_table, get_member}
 use Rattle.toml.specs.Parse.{parse_document}
 use Rattle.point_list.specs.declared.site.Site.{Site}
@@ -12,7 +11,7 @@ use Rattle.point_list.specs.declared.error.ListError.{ListError}
 use Rattle.point_list.specs.declared.site_file.Refusal.{Refusal}
 use Rattle.point_list.specs.declared.site_file.Refusal.TheVariants.{BadSite as NoSite, Memory as OutOfMemory}
 use Rattle.point_list.specs.Name.{is_name}
-use Rattle.point_list.specs.Sites.{is_sound}
+use Rattle.point_list.specs.Sites.{is_sound, line_of}
 
 infixl 10 ◌>>=◌
 abbrev pub ◌>>=◌ : {A B : Type 0} → Option A → (A → Option B) → Option B
@@ -88,10 +87,6 @@ line_in d = do
   name ← name_at (codes "name") t
   address ← text_at (codes "address") t
   Some (record { name = name; address = address })
-
--- the place of the line of this name
-abbrev pub line_of : List Line → List ℕ → Option ℕ
-line_of lines name = position (λ (x : Line). bytes_eq x.name name) lines
 
 -- a device: a name, a line of the site, a unit identifier, and a gap that may be missing
 unfoldable pub device_in : List Line → Data → Option Device

@@ -3,7 +3,7 @@ ghost use Rattle.std.specs.Prelude.{◌≡◌, ℕ, List, None, Some, IfOk, IfEr
 ghost use Rattle.std.specs.List.{list_any};
 ghost use Rattle.std.specs.Str.{bytes_eq};
 ghost use Rattle.csv.specs.Records.{fields_of};
-ghost use Rattle.point_list.specs.Name.{is_name};
+ghost use Rattle.point_list.specs.Label.{is_label};
 ghost use Rattle.point_list.specs.Texts.{has_text};
 ghost use Rattle.point_list.specs.Lists.{Says, ends_in_time, fault_below, first_failed, meaning_checks, place_checks, names_of, table_in};
 ghost use Rattle.point_list.specs.Judged.{SaysPlace, SaysMeaning};
@@ -13,6 +13,7 @@ use crate::columns::{
     type_sized,
 };
 use crate::error::ListFault;
+use crate::label::Label;
 use crate::name::Name;
 use crate::point::{ListRow, Point, Role};
 use crate::texts::Texts;
@@ -24,7 +25,7 @@ use sunspec::PointType;
 #[derive(Clone, Copy)]
 pub(crate) struct Place {
     name: Name,
-    device: Name,
+    device: Label,
     table: Table,
     address: u16,
 }
@@ -39,15 +40,15 @@ pub(crate) struct Meaning {
 }
 
 /// The device of this name, if there is one.
-fn device_named(devices: &Texts<'_>, text: &[u8]) -> Option<Name>
-    requires { has_text devices.now text.now ≡ true → is_name text.now ≡ true }
+fn device_named(devices: &Texts<'_>, text: &[u8]) -> Option<Label>
+    requires { has_text devices.now text.now ≡ true → is_label text.now ≡ true }
     ensures { result ≡ (if has_text devices.now text.now then Some text.now else None) }
 {
     if !devices.has(text) {
         return None;
     }
-    match Name::new(text) {
-        Some(name) => Some(name),
+    match Label::new(text) {
+        Some(label) => Some(label),
         None => unreachable!(),
     }
 }
@@ -58,7 +59,7 @@ fn place_in(
     before: usize,
     record: &ByteRecord,
 ) -> Result<Place, (ListFault, u8)>
-    requires { (text : List ℕ) → has_text devices.now text ≡ true → is_name text ≡ true }
+    requires { (text : List ℕ) → has_text devices.now text ≡ true → is_label text ≡ true }
     ensures place { IfOk result (λ x. (first_failed (place_checks (has_text devices.now) before (fields_of record.now)) ≡ None)
         × SaysPlace (fields_of record.now) x) }
     ensures fault { IfErr result (λ e. first_failed (place_checks (has_text devices.now) before (fields_of record.now)) ≡ Some e) }
@@ -136,7 +137,7 @@ pub(crate) fn point_in(
     rows: &[ListRow],
     record: &ByteRecord,
 ) -> Result<Point, (ListFault, u8)>
-    requires devices { (text : List ℕ) → has_text devices.now text ≡ true → is_name text ≡ true }
+    requires devices { (text : List ℕ) → has_text devices.now text ≡ true → is_label text ≡ true }
     requires names { (text : List ℕ) → has_text names.now text ≡ list_any (λ name. bytes_eq text name) (names_of rows.now) }
     ensures point { IfOk result (λ x. (fault_below (has_text devices.now) (names_of rows.now) (fields_of record.now) ≡ None)
         × Says (fields_of record.now) x) }

@@ -5,21 +5,25 @@ mod columns;
 mod error;
 mod items;
 mod judge;
+mod label;
 pub mod laws;
 mod list;
 mod name;
 mod point;
 mod site;
 mod site_file;
+mod text;
 mod texts;
 
 pub use error::{ListError, ListFault};
 pub use items::Items;
+pub use label::Label;
 pub use list::{read_list, resolve};
 pub use name::Name;
 pub use point::{ListRow, Point, Role};
-pub use site::{Address, Device, Line, Site};
+pub use site::{Device, Line, Site};
 pub use site_file::read_site;
+pub use text::Text;
 
 #[cfg(test)]
 mod tests;

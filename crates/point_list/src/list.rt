@@ -1,9 +1,9 @@
 //! Point lists, as CSV.
-ghost use Rattle.std.specs.Prelude.{◌≡◌, ◌≢◌, ◌⊎◌, ◌||◌, ℕ, List, Some, IfOk, IfErr, map, true};
+ghost use Rattle.std.specs.Prelude.{◌≡◌, ◌≢◌, ◌⊎◌, ◌&&◌, ◌||◌, ℕ, List, Some, IfOk, IfErr, OnOk, map, true};
 ghost use Rattle.std.specs.List.{list_any};
 ghost use Rattle.std.specs.Str.{bytes_eq};
 ghost use Rattle.csv.specs.Records.{fields_of};
-ghost use Rattle.point_list.specs.Name.{is_name};
+ghost use Rattle.point_list.specs.Label.{is_label};
 ghost use Rattle.point_list.specs.Columns.{is_device};
 ghost use Rattle.point_list.specs.Texts.{has_text};
 ghost use Rattle.point_list.specs.Lists.{AreRows, IsFaultOf, FaultlessBelow, IsFirstInBody, IsMemory, SayRows, records_of};
@@ -13,6 +13,7 @@ ghost use Rattle.std.specs.Prelude.{length};
 use crate::columns::field_of;
 use crate::error::{ListError, ListFault};
 use crate::judge::point_in;
+use crate::label::is_label;
 use crate::point::{ListRow, Point};
 use crate::site::{Device, Site};
 use crate::texts::Texts;
@@ -61,14 +62,24 @@ fn records(alloc: Global, bytes: &[u8]) -> Result<Vec<ByteRecord>, AllocError>
     Ok(rows)
 }
 
+/// Adds the name of a device, if points can have it.
+fn add_device<'a>(names: &mut Texts<'a>, name: &'a [u8]) -> Result<(), AllocError>
+    ensures { OnOk result ((text : List ℕ) → has_text names.new text ≡ ((is_label text && bytes_eq text name.now) || has_text names.old text)) }
+{
+    if is_label(name) {
+        names.add(name)
+    } else {
+        Ok(())
+    }
+}
+
 /// The names of devices, to look for one in.
 fn names_of_devices<'a>(alloc: Global, devices: &'a [Device]) -> Result<Texts<'a>, AllocError>
-    ensures known { IfOk result (λ names. (text : List ℕ) → has_text names text ≡ list_any (λ d. bytes_eq text d.name) devices.now) }
-    ensures named { IfOk result (λ names. (text : List ℕ) → has_text names text ≡ true → is_name text ≡ true) }
+    ensures { IfOk result (λ names. (text : List ℕ) → has_text names text ≡ (is_label text && list_any (λ d. bytes_eq text d.name) devices.now)) }
 {
     let mut names = Texts::new(alloc);
     for device in devices {
-        if names.add(device.name.as_bytes()).is_err() {
+        if add_device(&mut names, device.name.as_bytes()).is_err() {
             return Err(AllocError);
         }
     }
@@ -81,7 +92,7 @@ fn rows_of(
     devices: &Texts<'_>,
     body: &[ByteRecord],
 ) -> Result<Vec<ListRow>, ListError>
-    requires { (text : List ℕ) → has_text devices.now text ≡ true → is_name text ≡ true }
+    requires { (text : List ℕ) → has_text devices.now text ≡ true → is_label text ≡ true }
     ensures rows { IfOk result (λ v. FaultlessBelow (has_text devices.now) (map fields_of body.now) (length (map fields_of body.now))
         × SayRows 2 (map fields_of body.now) v.items) }
     ensures fault { IfErr result (λ e. IsMemory e ⊎ IsFirstInBody (has_text devices.now) (map fields_of body.now) e) }

@@ -1,37 +1,32 @@
-ghost use Rattle.std.specs.Prelude.{◌≡◌, ◌≤◌, ◌<◌, length, if◌then◌else◌, Some, None, IsTrue, true};
+ghost use Rattle.std.specs.Prelude.{◌≡◌, if◌then◌else◌, Some, None, nat_eq, refl, true};
 ghost use Rattle.std.specs.List.{list_all};
 ghost use Rattle.std.specs.Cmp.{partial_equiv_from_equiv};
 ghost use Rattle.std.specs.Cmp.Lexicographic.{pointwise, nat_list_eq_equiv, slice_cmp, nat_list_cmp_total, texts_po, texts_ties};
 ghost use Rattle.std.specs.Ordering.{nat_cmp};
-ghost use Rattle.std.specs.Prelude.{nat_eq, refl};
 ghost use Rattle.point_list.specs.Name.{is_name, is_name_byte};
 
+use crate::label::Label;
 use std::cmp::Ordering;
+use std::fmt;
 use std::marker::Model;
-use std::{fmt, str};
 
 /// A name: 1 to 64 of `A-Z a-z 0-9 _ - .`, in a fixed array. Contracts see its bytes.
 #[derive(Clone, Copy)]
 pub struct Name {
-    // Zero past `len`, so that equal names have equal fields.
-    bytes: [u8; 64],
-    len: usize,
+    label: Label,
 }
 
 impl Model for Name {
-    ghost use Rattle.std.specs.Prelude.{ℕ, List, take};
+    ghost use Rattle.std.specs.Prelude.{◌≡◌, ℕ, List, true};
+    ghost use Rattle.point_list.specs.Name.{is_name};
 
     ghost Value = { List ℕ };
 
-    ghost use Rattle.point_list.specs.NameFields.{IsNameFields, fields_of, fields_again};
+    ghost view = { λ n. n.label };
 
-    ghost view = { λ n. take n.len n.bytes };
+    ghost invariant = { λ n. is_name n.label ≡ true };
 
-    ghost invariant = { IsNameFields };
-
-    ghost inverse = { fields_of };
-
-    ghost inverse_ok = { fields_again };
+    ghost inverse = { λ text. record { label = text } };
 }
 
 fn is_name_byte(byte: u8) -> bool
@@ -46,9 +41,9 @@ fn has_name_bytes(text: &[u8]) -> bool
     text.iter().all(|byte| is_name_byte(*byte))
 }
 
-fn is_name(text: &[u8]) -> bool
-    ensures name { result ≡ is_name text.now }
-    ensures short { IsTrue result → length text.now ≤ 64 }
+/// Whether a text is a name.
+pub(crate) fn is_name(text: &[u8]) -> bool
+    ensures { result ≡ is_name text.now }
 {
     !text.is_empty() && text.len() <= 64 && has_name_bytes(text)
 }
@@ -61,10 +56,10 @@ impl Name {
         if !is_name(text) {
             return None;
         }
-        let len = text.len();
-        let mut bytes = [0; 64];
-        bytes[..len].copy_from_slice(text);
-        Some(Name { bytes, len })
+        match Label::new(text) {
+            Some(label) => Some(Name { label }),
+            None => unreachable!(),
+        }
     }
 
     /// The bytes of the name, all of them ASCII.
@@ -72,23 +67,20 @@ impl Name {
         ensures value { result.now ≡ self.now }
         ensures name { is_name self.now ≡ true }
     {
-        &self.bytes[..self.len]
+        self.label.as_bytes()
     }
 
     /// The name as text.
     pub fn as_str(&self) -> &str
         ensures { result.now ≡ self.now }
     {
-        match str::from_utf8(self.as_bytes()) {
-            Ok(text) => text,
-            Err(_) => unreachable!(),
-        }
+        self.label.as_str()
     }
 }
 
 impl fmt::Debug for Name {
     fn fmt<W: fmt::Write>(&self, f: &mut fmt::Formatter<W>) -> fmt::Result {
-        fmt::Debug::fmt(self.as_str(), f)
+        fmt::Debug::fmt(&self.label, f)
     }
 }
 
@@ -96,7 +88,7 @@ impl fmt::Display for Name {
     ghost output = { λ n. Some n };
 
     fn fmt<W: fmt::Write>(&self, f: &mut fmt::Formatter<W>) -> fmt::Result {
-        f.pad(self.as_str())
+        fmt::Display::fmt(&self.label, f)
     }
 }
 
@@ -106,7 +98,7 @@ impl PartialEq for Name {
     ghost laws = { partial_equiv_from_equiv nat_list_eq_equiv };
 
     fn eq(&self, other: &Name) -> bool {
-        self.as_bytes() == other.as_bytes()
+        self.label == other.label
     }
 }
 
@@ -135,6 +127,6 @@ impl Ord for Name {
     ghost matches_eq = { texts_ties };
 
     fn cmp(&self, other: &Name) -> Ordering {
-        self.as_bytes().cmp(other.as_bytes())
+        self.label.cmp(&other.label)
     }
 }

@@ -1,3 +1,4 @@
+use crate::label::Label;
 use crate::name::Name;
 use mb_map::Table;
 use sunspec::PointType;
@@ -18,7 +19,7 @@ pub enum Role {
 pub struct Point {
     pub name: Name,
     /// The name of its device.
-    pub device: Name,
+    pub device: Label,
     pub table: Table,
     /// The address of its first register or of its cell.
     pub address: u16,

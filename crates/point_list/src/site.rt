@@ -1,56 +1,57 @@
-ghost use Rattle.std.specs.Prelude.{◌≡◌, string_bytes};
+ghost use Rattle.std.specs.Prelude.{◌≡◌};
+ghost use Rattle.std.specs.List.{list_any};
+ghost use Rattle.std.specs.Str.{bytes_eq};
+ghost use Rattle.point_list.specs.Sites.{device_of, line_of};
 
 use crate::items::Items;
-use crate::name::Name;
+use crate::label::Label;
 use crate::site_file::is_sound;
-use std::marker::Model;
-
-/// Where a line is reached, as `host:port`. Contracts see its bytes.
-#[derive(Debug, Drop)]
-pub struct Address {
-    text: String,
-}
-
-impl Model for Address {
-    ghost use Rattle.std.specs.Prelude.{List, ℕ, string_bytes};
-
-    ghost Value = { List ℕ };
-
-    ghost view = { λ a. string_bytes a.text };
-}
-
-impl Address {
-    /// Takes the text as it is: whether it can be reached shows when the line is opened.
-    pub fn from_string(text: String) -> Address
-        ensures { result ≡ string_bytes text }
-    {
-        Address { text }
-    }
-
-    pub fn as_str(&self) -> &str
-        ensures { result.now ≡ self.now }
-    {
-        self.text.as_str()
-    }
-}
+use crate::text::Text;
 
 /// A line: a TCP connection behind which devices answer.
 #[derive(Debug, Drop)]
 pub struct Line {
-    pub name: Name,
-    pub address: Address,
+    pub name: Text,
+    /// Where it is reached, as `host:port`. Whether it can be shows when the line is opened.
+    pub address: Text,
+}
+
+impl Line {
+    /// The place of the line of this name.
+    pub fn place(lines: &[Line], name: &[u8]) -> Option<usize>
+        ensures { result ≡ line_of lines.now name.now }
+    {
+        lines.iter().position(|line| line.name.as_bytes() == name)
+    }
 }
 
 /// A device behind a line.
 #[derive(Debug, Drop)]
 pub struct Device {
-    pub name: Name,
+    pub name: Text,
     /// The place of its line among the site's lines.
     pub line: u16,
     /// Its unit identifier.
     pub unit: u8,
     /// How many addresses that no point lists may be read along between two that are, 0 to 124.
     pub gap: u16,
+}
+
+impl Device {
+    /// The place of the device of this name.
+    pub fn place(devices: &[Device], name: &[u8]) -> Option<usize>
+        ensures { result ≡ device_of devices.now name.now }
+    {
+        devices
+            .iter()
+            .position(|device| device.name.as_bytes() == name)
+    }
+}
+
+fn is_device_named(devices: &[Device], name: &[u8]) -> bool
+    ensures { result ≡ list_any (λ x. bytes_eq name.now x.name) devices.now }
+{
+    devices.iter().any(|device| name == device.name.as_bytes())
 }
 
 /// The lines and devices of a site, in the order of its file.
@@ -62,6 +63,7 @@ pub struct Site {
 
 impl Site {
     ghost use Rattle.point_list.specs.Sites as sites;
+    ghost use Rattle.point_list.specs.Columns.{is_device};
 
     /// Whether its parts agree: at most 64 lines and 256 devices, names that differ, a line for each
     /// device, and no two devices that share line and unit identifier. A site that `read_site` gives
@@ -70,5 +72,12 @@ impl Site {
         ensures { result ≡ sites.is_sound self.now.lines self.now.devices }
     {
         is_sound(self.lines.as_slice(), self.devices.as_slice())
+    }
+
+    /// Whether it has a device of this name.
+    pub fn has_device(&self, name: &Label) -> bool
+        ensures { result ≡ is_device self.now name.now }
+    {
+        is_device_named(self.devices.as_slice(), name.as_bytes())
     }
 }

@@ -4,13 +4,14 @@ ghost use Rattle.std.specs.List.{list_all, list_any, position};
 ghost use Rattle.std.specs.Str.{bytes_eq};
 ghost use Rattle.toml.specs.Data.{Members, get_member};
 ghost use Rattle.toml.specs.View.{table_view, view, items_view};
-ghost use Rattle.point_list.specs.Sites.{IsSound, all_differ, have_lines, is_sound, same_line_name, same_device_name, same_place};
-ghost use Rattle.point_list.specs.SiteFile.{Gives, IsDocument, bad_site, no_memory, device_in, devices_of, each, entries_at, line_in, line_of, lines_of, name_at, number_at, number_in, optional_at, site_of, text_at};
+ghost use Rattle.point_list.specs.Sites.{IsSound, all_differ, line_of, have_lines, is_sound, same_line_name, same_device_name, same_place};
+ghost use Rattle.point_list.specs.SiteFile.{Gives, IsDocument, bad_site, no_memory, device_in, devices_of, each, entries_at, line_in, lines_of, name_at, number_at, number_in, optional_at, site_of, text_at};
 
 use crate::error::{ListError, ListFault};
 use crate::items::Items;
-use crate::name::Name;
-use crate::site::{Address, Device, Line, Site};
+use crate::name::is_name;
+use crate::site::{Device, Line, Site};
+use crate::text::Text;
 use std::alloc::Global;
 use toml::{Table, Value};
 
@@ -41,15 +42,26 @@ fn text_at<'a>(table: &'a Table, key: &str) -> Result<&'a str, Refusal>
     }
 }
 
+/// A text of its own.
+fn copied(alloc: Global, text: &str) -> Result<Text, Refusal>
+    ensures copy { IfOk result (λ copy. copy ≡ text.now) }
+    ensures memory { IfErr result (λ e. e ≡ Refusal.Memory) }
+{
+    match String::from_str(alloc, text) {
+        Ok(copy) => Ok(Text::from_string(copy)),
+        Err(_) => Err(Refusal::Memory),
+    }
+}
+
 #[tactic(auto, unfolding(crate::specs::SiteFile::name_at))]
-fn name_at(table: &Table, key: &str) -> Result<Name, Refusal>
+fn name_at(alloc: Global, table: &Table, key: &str) -> Result<Text, Refusal>
     ensures { Gives (λ n. n) result (name_at key.now (table_view table.now)) }
 {
     let text = text_at(table, key)?;
-    match Name::new(text.as_bytes()) {
-        Some(name) => Ok(name),
-        None => Err(Refusal::BadSite),
+    if !is_name(text.as_bytes()) {
+        return Err(Refusal::BadSite);
     }
+    copied(alloc, text)
 }
 
 /// A value as a whole number up to a limit.
@@ -101,14 +113,11 @@ fn entries_at<'a>(table: &'a Table, key: &str) -> Result<&'a [Value], Refusal>
 
 /// The address at a key.
 #[tactic(auto, unfolding(crate::specs::SiteFile::text_at))]
-fn address_at(alloc: Global, table: &Table, key: &str) -> Result<Address, Refusal>
+fn address_at(alloc: Global, table: &Table, key: &str) -> Result<Text, Refusal>
     ensures { Gives (λ a. a) result (text_at key.now (table_view table.now)) }
 {
     let text = text_at(table, key)?;
-    match String::from_str(alloc, text) {
-        Ok(copy) => Ok(Address::from_string(copy)),
-        Err(_) => Err(Refusal::Memory),
-    }
+    copied(alloc, text)
 }
 
 #[tactic(auto, unfolding(crate::specs::SiteFile::line_in))]
@@ -118,7 +127,7 @@ fn line_in(alloc: Global, entry: &Value) -> Result<Line, Refusal>
     let Some(table) = entry.as_table() else {
         return Err(Refusal::BadSite);
     };
-    let name = name_at(table, "name")?;
+    let name = name_at(alloc, table, "name")?;
     let address = address_at(alloc, table, "address")?;
     Ok(Line { name, address })
 }
@@ -139,32 +148,25 @@ fn lines_in(alloc: Global, entries: &[Value]) -> Result<Vec<Line>, Refusal>
     Ok(lines)
 }
 
-/// The place of the line of this name.
-fn place_of(lines: &[Line], name: &str) -> Option<usize>
-    ensures { result ≡ line_of lines.now name.now }
-{
-    lines.iter().position(|line| line.name.as_str() == name)
-}
-
 fn line_named(lines: &[Line], name: &str) -> Option<u16>
     requires { length lines.now ≤ 64 }
     ensures { result ≡ line_of lines.now name.now }
 {
-    match place_of(lines, name) {
+    match Line::place(lines, name.as_bytes()) {
         Some(place) => Some(place as u16),
         None => None,
     }
 }
 
 #[tactic(auto, unfolding(crate::specs::SiteFile::device_in))]
-fn device_in(lines: &[Line], entry: &Value) -> Result<Device, Refusal>
+fn device_in(alloc: Global, lines: &[Line], entry: &Value) -> Result<Device, Refusal>
     requires { length lines.now ≤ 64 }
     ensures { Gives (λ d. d) result (device_in lines.now (view entry.now)) }
 {
     let Some(table) = entry.as_table() else {
         return Err(Refusal::BadSite);
     };
-    let name = name_at(table, "name")?;
+    let name = name_at(alloc, table, "name")?;
     let line = text_at(table, "line")?;
     let Some(line) = line_named(lines, line) else {
         return Err(Refusal::BadSite);
@@ -185,7 +187,7 @@ fn devices_in(alloc: Global, lines: &[Line], entries: &[Value]) -> Result<Vec<De
 {
     let mut devices = Vec::new(alloc);
     for entry in entries {
-        let device = match device_in(lines, entry) {
+        let device = match device_in(alloc, lines, entry) {
             Ok(device) => device,
             Err(e) => return Err(e),
         };
@@ -196,10 +198,12 @@ fn devices_in(alloc: Global, lines: &[Line], entries: &[Value]) -> Result<Vec<De
     Ok(devices)
 }
 
-fn is_line_named(lines: &[Line], name: &Name) -> bool
+fn is_line_named(lines: &[Line], name: &Text) -> bool
     ensures { result ≡ list_any (λ x. bytes_eq x.name name.now) lines.now }
 {
-    lines.iter().any(|line| line.name == *name)
+    lines
+        .iter()
+        .any(|line| line.name.as_bytes() == name.as_bytes())
 }
 
 fn line_names_differ(lines: &[Line]) -> bool
@@ -217,10 +221,12 @@ fn line_names_differ(lines: &[Line]) -> bool
     }
 }
 
-fn is_device_named(devices: &[Device], name: &Name) -> bool
+fn is_device_named(devices: &[Device], name: &Text) -> bool
     ensures { result ≡ list_any (λ x. bytes_eq x.name name.now) devices.now }
 {
-    devices.iter().any(|device| device.name == *name)
+    devices
+        .iter()
+        .any(|device| device.name.as_bytes() == name.as_bytes())
 }
 
 fn device_names_differ(devices: &[Device]) -> bool

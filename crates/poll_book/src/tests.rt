@@ -4,7 +4,7 @@ mod totals;
 use crate::{Change, Keeper, MemKeeper, PointRow, StoreFault, record};
 use mb_map::Table;
 use mb_pdu::Registers;
-use point_list::{Items, Name, Point, Role};
+use point_list::{Items, Label, Name, Point, Role};
 use std::alloc::Global;
 use sunspec::PointType;
 
@@ -14,7 +14,7 @@ fn counter(number: u32, kind: PointType, roll: u64) -> Option<PointRow> {
         number,
         point: Point {
             name: Name::new(b"energy")?,
-            device: Name::new(b"m1")?,
+            device: Label::new(b"m1")?,
             table: Table::Holding,
             address: 107,
             kind,

@@ -1,6 +1,7 @@
 //! Each column at its limits and one past them, and which fault comes first.
 use crate::{
-    Device, Items, Line, ListError, ListFault, ListRow, Name, Point, Role, Site, read_list,
+    Device, Items, Label, Line, ListError, ListFault, ListRow, Name, Point, Role, Site, Text,
+    read_list,
 };
 use mb_map::Table;
 use std::alloc::{AllocError, Global};
@@ -12,15 +13,18 @@ const HEADER: &str = "name,device,table,address,type,length,scale,role,roll\n";
 
 /// A site with the device `m1`.
 pub(crate) fn site(alloc: Global) -> Result<Site, AllocError> {
+    site_of(alloc, "m1")
+}
+
+/// A site with a device of this name.
+fn site_of(alloc: Global, name: &str) -> Result<Site, AllocError> {
     let mut devices = Vec::new(alloc);
-    if let Some(name) = Name::new(b"m1") {
-        devices.push(Device {
-            name,
-            line: 0,
-            unit: 17,
-            gap: 8,
-        })?;
-    }
+    devices.push(Device {
+        name: Text::from_string(String::from_str(alloc, name)?),
+        line: 0,
+        unit: 17,
+        gap: 8,
+    })?;
     Ok(Site {
         lines: Items::from_vec(Vec::<Line>::new(alloc)),
         devices: Items::from_vec(devices),
@@ -66,7 +70,7 @@ fn what_a_record_says(rt: HostRuntime) -> Result<(), Fail> {
         .ok_or("a row")?;
     assert_eq!(rt; row.row, 2);
     let name = Name::new(b"lim.x-2_A").ok_or("a name")?;
-    let device = Name::new(b"m1").ok_or("a name")?;
+    let device = Label::new(b"m1").ok_or("a label")?;
     let point = Point {
         name,
         device,
@@ -78,6 +82,32 @@ fn what_a_record_says(rt: HostRuntime) -> Result<(), Fail> {
         roll: 0,
     };
     assert_eq!(rt; row.point, point);
+    Ok(())
+}
+
+/// The fault of a point of the device of this name, in a site that has it.
+fn fault_at(alloc: Global, device: &str) -> Result<Option<(ListFault, u8)>, AllocError> {
+    let site = site_of(alloc, device)?;
+    let text = format!(in alloc; "{HEADER}e,{device},holding,107,uint16,,,gauge,\n")?;
+    Ok(match read_list(alloc, text.as_bytes(), &site) {
+        Ok(_) => None,
+        Err(e) => Some((e.fault, e.column)),
+    })
+}
+
+/// A point can have a device of any name of 1 to 64 ASCII characters.
+#[test]
+fn names_of_devices(rt: HostRuntime) -> Result<(), Fail> {
+    let unknown = Some((ListFault::UnknownDevice, 2));
+    assert_eq!(rt; fault_at(rt.alloc(), "m1")?, None);
+    assert_eq!(rt; fault_at(rt.alloc(), "PM/5560 (roof)")?, None);
+    assert_eq!(rt; fault_at(rt.alloc(), &"m".repeat(rt.alloc(), 64)?)?, None);
+    assert_eq!(rt;
+        fault_at(rt.alloc(), &"m".repeat(rt.alloc(), 65)?)?,
+        unknown
+    );
+    assert_eq!(rt; fault_at(rt.alloc(), "")?, unknown);
+    assert_eq!(rt; fault_at(rt.alloc(), "z\u{e4}hler")?, unknown);
     Ok(())
 }
 

@@ -1,5 +1,5 @@
 //! Site files as operators write them.
-use crate::{Items, ListError, ListFault, Name, Site, read_site};
+use crate::{Device, Items, Label, Line, ListError, ListFault, Site, read_site};
 use std::alloc::{AllocError, Global};
 use std::process::Abort;
 use std::test::Fail;
@@ -33,22 +33,34 @@ fn read(alloc: Global, text: &[u8]) -> Result<Site, ListError> {
 #[test]
 fn the_example(rt: HostRuntime) -> Result<(), Fail> {
     let site = read(rt.alloc(), EXAMPLE.as_bytes()).ok().ok_or("a site")?;
-    let roof = Name::new(b"roof").ok_or("a name")?;
-    let m1 = Name::new(b"m1").ok_or("a name")?;
     match site.lines.as_slice() {
         [line] => {
-            assert_eq!(rt; line.name, roof);
+            assert_eq!(rt; line.name.as_str(), "roof");
             assert_eq!(rt; line.address.as_str(), "127.0.0.1:1502");
         }
         _ => assert!(rt; false, "one line"),
     }
     match site.devices.as_slice() {
         [device] => {
-            assert_eq!(rt; device.name, m1);
+            assert_eq!(rt; device.name.as_str(), "m1");
             assert_eq!(rt; (device.line, device.unit, device.gap), (0, 17, 8));
         }
         _ => assert!(rt; false, "one device"),
     }
+    Ok(())
+}
+
+#[test]
+fn lines_and_devices_by_name(rt: HostRuntime) -> Result<(), Fail> {
+    let site = read(rt.alloc(), EXAMPLE.as_bytes()).ok().ok_or("a site")?;
+    assert_eq!(rt; Line::place(site.lines.as_slice(), b"roof"), Some(0));
+    assert_eq!(rt; Line::place(site.lines.as_slice(), b"m1"), None);
+    assert_eq!(rt; Device::place(site.devices.as_slice(), b"m1"), Some(0));
+    assert_eq!(rt; Device::place(site.devices.as_slice(), b"roof"), None);
+    let m1 = Label::new(b"m1").ok_or("a label")?;
+    let m2 = Label::new(b"m2").ok_or("a label")?;
+    assert!(rt; site.has_device(&m1));
+    assert!(rt; !site.has_device(&m2));
     Ok(())
 }
 

@@ -108,12 +108,9 @@ const WRONG_DEVICES: &[&str] = &[
     "device m2 roof -1",
     "device m2 roof x",
     "device m2 roof ",
-    "device m/2 roof 18",
-    "device m2 ro,of 18",
-    "device m\r2 roof 18",
     "device m\u{F6}2 roof 18",
-    "device a2345678901234567890123456789012345678901234567890123456789012345 roof 18",
-    "device m2 a2345678901234567890123456789012345678901234567890123456789012345 18",
+    "device m2 r\u{F6}of 18",
+    "device m2 roof 18\r\r",
     "device m1 roof 18",
     "device m1 cellar 18",
     "device m2 roof 17",
@@ -165,9 +162,18 @@ const FAULTLESS: &[(&str, &str)] = &[
         "connection 1\nrefused WrongLine\n",
     ),
     ("device Az09_-. .-_90zA 0\nopen .-_90zA\n", "connection 1\n"),
+    // Any word is a name, and points can have devices of names of up to 64 characters.
     (
-        "device a234567890123456789012345678901234567890123456789012345678901234 b234567890123456789012345678901234567890123456789012345678901234 9\nopen b234567890123456789012345678901234567890123456789012345678901234\n",
-        "connection 1\n",
+        "device PM/5560,a ro\rof 17\npoint a,\"PM/5560,a\",holding,107,uint16,,,gauge,\nopen ro\rof\nask 1 PM/5560,a 1 3 107 1\n",
+        "loaded 1\nconnection 1\nquery 00 00 00 00 00 06 11 03 00 6B 00 01\n",
+    ),
+    (
+        "device a234567890123456789012345678901234567890123456789012345678901234 b2345678901234567890123456789012345678901234567890123456789012345 9\npoint a,a234567890123456789012345678901234567890123456789012345678901234,holding,107,uint16,,,gauge,\nopen b2345678901234567890123456789012345678901234567890123456789012345\n",
+        "loaded 1\nconnection 1\n",
+    ),
+    (
+        "device a2345678901234567890123456789012345678901234567890123456789012345 roof 9\npoint a,a2345678901234567890123456789012345678901234567890123456789012345,holding,107,uint16,,,gauge,\nopen roof\nask 1 a2345678901234567890123456789012345678901234567890123456789012345 1 3 107 1\n",
+        "refused unknown device\nconnection 1\nrefused NoRead\n",
     ),
     ("open roof\n", "refused WrongLine\n"),
     // A carriage return that isn't before a line feed belongs to the line.

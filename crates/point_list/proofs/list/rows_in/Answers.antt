@@ -1,4 +1,5 @@
-use Rattle.std.proofs.Common.{◌≡◌, ◌≢◌, ◌∷◌, ℕ, List, Bool, refl, inl, inr, rules, map, subst}
+use Rattle.std.proofs.Common.{◌≡◌, ◌≢◌, ◌∷◌, ℕ, List, Bool, refl, sym, ◌∙◌, inl, inr, rules, map, subst}
+use Rattle.std.proofs.lemmas.Bool.{and_parts}
 use Rattle.csv.specs.Records.{fields_of}
 use Rattle.point_list.specs.Columns.{Record, is_device}
 use Rattle.point_list.specs.Lists.{header, AreRows, IsFirstInBody}
@@ -16,7 +17,7 @@ pub returns-in-Ok-rows_of-clause-rows : goal.returns-in-Ok-rows_of-clause-rows
 returns-in-Ok-rows_of-clause-rows c =
     let whole = list_is c.args.list.now c.in-Some.first.now c.in-Some.body.now c.in-Some.ensures.cases.0 (search rules) in
     let body = c.in-Ok-rows_of.ensures.rows in
-    let known = rw c.as_slice.ensures at c.in-Ok.ensures.known in
+    let known = rw c.as_slice.ensures at c.in-Ok.ensures in
     let same : has_text c.in-Ok.devices ≡ is_device c.args.site.now = λ i text. known text i in
     let P : (List ℕ → Bool) → Type 0 = λ test. AreRows test (map fields_of c.args.list.now) c.in-Ok-rows_of.rows.items in
     subst P same (record { body = map fields_of c.in-Some.body.now; whole = whole; faultless = body.0; say = body.1 })
@@ -24,10 +25,15 @@ returns-in-Ok-rows_of-clause-rows c =
 pub returns-clause-fault : goal.returns-clause-fault
 returns-clause-fault c =
     let whole = list_is c.args.list.now c.in-Some.first.now c.in-Some.body.now c.in-Some.ensures.cases.0 (search rules) in
-    let known = rw c.as_slice.ensures at c.in-Ok.ensures.known in
+    let known = rw c.as_slice.ensures at c.in-Ok.ensures in
     let same : has_text c.in-Ok.devices ≡ is_device c.args.site.now = λ i text. known text i in
     let P : (List ℕ → Bool) → Type 0 = λ test. IsFirstInBody test (map fields_of c.in-Some.body.now) c.in-Err-rows_of.e in
     elim c.in-Err-rows_of.ensures.fault [
       | inl memory ↦ inl memory
       | inr first ↦ inr (inr (record { body = map fields_of c.in-Some.body.now; whole = whole; first = subst P same first }))
     ]
+
+pub rows_of-requires : goal.rows_of-requires
+rows_of-requires c = λ text has.
+    let known = rw c.as_slice.ensures at c.in-Ok.ensures in
+    (and_parts _ _ (sym (known text) ∙ has)).0

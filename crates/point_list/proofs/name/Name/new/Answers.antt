@@ -1,7 +1,9 @@
-use Rattle.std.proofs.Common.{◌∙◌, sym, length, arith, ap}
-use Rattle.point_list.proofs.Names.{over_zeros}
+use Rattle.std.proofs.Common.{◌≡◌, true, rules}
+use Rattle.point_list.specs.Name.{is_name}
+use Rattle.point_list.proofs.Names.{name_is_label}
 use Rattle.point_list.proofs.name.Name.new.Goals as goal
 
-pub invariant_of-result : goal.invariant_of-result
-invariant_of-result c = over_zeros (length c.args.text.now) c.copy_from_slice.new.self (ap length c.copy_from_slice.ensures.after) (omega arith)
-    (rw c.copy_from_slice.ensures.after (sym c.is_name.ensures.name ∙ c.if-not-is_name.false))
+pub unreachable-requires : goal.unreachable-requires
+unreachable-requires c =
+    let name : is_name c.args.text.now ≡ true = search rules in
+    search (rules, name_is_label c.args.text.now name)

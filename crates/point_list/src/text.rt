@@ -2,7 +2,7 @@ ghost use Rattle.std.specs.Prelude.{◌≡◌, string_bytes};
 
 use std::marker::Model;
 
-/// A text that an event names something by. Contracts see its bytes.
+/// A text of any length. Contracts see its bytes.
 #[derive(Debug, Drop)]
 pub struct Text {
     text: String,
@@ -24,9 +24,17 @@ impl Text {
         Text { text }
     }
 
+    /// The text.
     pub fn as_str(&self) -> &str
         ensures { result.now ≡ self.now }
     {
         self.text.as_str()
+    }
+
+    /// Its bytes.
+    pub fn as_bytes(&self) -> &[u8]
+        ensures { result.now ≡ self.now }
+    {
+        self.text.as_bytes()
     }
 }
