@@ -8,6 +8,7 @@ pub mod Opened
 pub mod Lines
 pub mod Messages
 pub mod Played
+pub mod Happened
 pub mod Framed
 pub mod Lacking
 pub mod Unset

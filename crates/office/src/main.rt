@@ -6,6 +6,7 @@ mod command;
 mod cutting;
 mod device;
 mod input;
+mod laws;
 mod opening;
 mod printing;
 mod replay;
