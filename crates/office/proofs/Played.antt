@@ -1,13 +1,14 @@
 -- A text of lines, played from its first on.
-use Rattle.std.proofs.Common.{◌≡◌, ℕ, List, [], ◌∷◌, ◌++◌, length, sym, ap, ◌∙◌, subst, Option, arith}
+use Rattle.std.proofs.Common.{◌≡◌, ℕ, List, [], ◌∷◌, ◌++◌, length, sym, ap, ◌∙◌, subst, append_assoc, Option, arith}
 use Rattle.std.specs.Io.KnownBytes.{Appends}
 use Rattle.std.specs.Str.Lines.{lines}
-use Rattle.std.proofs.lemmas.List.{append-nil}
 use Rattle.std.proofs.KnownBytes.{Appends-trans}
-use Rattle.office_core.specs.History.{History}
+use Rattle.office_core.specs.History.{History, tables}
+use Rattle.office.specs.Printing.{report_of}
 use Rattle.office.specs.Scripts.{Step, step_of, steps_of}
 use Rattle.office.specs.Playing.{Owes, Leaves}
 use Rattle.office.specs.declared.replay.Replayed.{Replayed}
+use Rattle.office.specs.declared.replay.Replayed.TheVariants.{Done}
 use Rattle.office.specs.declared.replay.Played.{Played}
 use Rattle.office.proofs.Opened.{first_step}
 
@@ -24,13 +25,14 @@ line_played stands stands_new out out_new number text line rest output ending pl
 pub whole_written : (start now new : Option (List ℕ)) (done out output : List ℕ) → done ++ out ≡ output → Appends start now done → Appends now new out → Appends start new output
 whole_written start now new done out output e a b = subst (Appends start new) e (Appends-trans start now new done out a b)
 
--- nothing is pending after a write
-pub owed_after : (stands : History → Type 0) (done out pending : List ℕ) (number : ℕ) (steps : List Step) (output : List ℕ) (ending : Replayed)
-    → pending ≡ [] → Owes stands (done ++ out) number steps output ending → Owes stands ((done ++ out) ++ pending) number steps output ending
-owed_after stands done out pending number steps output ending none owes =
-    subst (λ s. Owes stands s number steps output ending) (sym (ap (λ p. (done ++ out) ++ p) none ∙ append-nil (done ++ out))) owes
+-- what is owed stays so where a front of what was pending is written
+pub owed_after : (stands : History → Type 0) (done out front pending : List ℕ) (number : ℕ) (steps : List Step) (output : List ℕ) (ending : Replayed)
+    → front ++ pending ≡ out → Owes stands (done ++ out) number steps output ending → Owes stands ((done ++ front) ++ pending) number steps output ending
+owed_after stands done out front pending number steps output ending split owes =
+    subst (λ s. Owes stands s number steps output ending) (ap (λ t. done ++ t) (sym split) ∙ sym (append_assoc done front pending)) owes
 
--- where no text is left, no step is
-pub nothing_left : (stands : History → Type 0) (so_far text output : List ℕ) (number : ℕ) (ending : Replayed) → length text ≡ 0 → Owes stands so_far number (steps_of text) output ending → Owes stands so_far number [] output ending
-nothing_left stands so_far [] output number ending none owes = owes
-nothing_left stands so_far (x ∷ xs) output number ending none owes = absurd (omega arith)
+-- where no text is left, the report is owed, with which a script is done
+pub report_owed : (stands : History → Type 0) (so_far text output : List ℕ) (number : ℕ) (ending : Replayed) → length text ≡ 0 → Owes stands so_far number (steps_of text) output ending
+    → (before : History) × stands before × (so_far ++ report_of (tables before) ≡ output) × (Done ≡ ending)
+report_owed stands so_far [] output number ending none owes = owes
+report_owed stands so_far (x ∷ xs) output number ending none owes = absurd (omega arith)

@@ -38,6 +38,10 @@ Leaves stands so_far number rest output ending Faulty = IsWhole so_far output (F
 abbrev pub TookFront : Option (List ℕ) → Option (List ℕ) → List ℕ → Type 0
 TookFront old new output = (front : List ℕ) × (rest : List ℕ) × (front ++ rest ≡ output) × Appends old new front
 
+-- the writer took a front of what was pending, and the rest is pending still
+abbrev pub WroteFront : Option (List ℕ) → Option (List ℕ) → List ℕ → List ℕ → Type 0
+WroteFront old new pending rest = (front : List ℕ) × (front ++ rest ≡ pending) × Appends old new front
+
 -- what the lines before the first that declares no device leave of the script
 abbrev pub Opens : List ℕ → Opening → Type 0
 Opens script (Ready site rest number) =

@@ -3,9 +3,10 @@ ghost use Rattle.std.specs.Prelude.{◌≡◌, ◌≢◌, ℕ, ◌<◌, ◌≤�
 ghost use Rattle.std.specs.Io.KnownBytes.{Appends};
 ghost use Rattle.mb_mbap.specs.Counted.{inner_of, failures_of, HasRisen};
 ghost use Rattle.point_list.specs.Sites.{IsSound};
-ghost use Rattle.office_core.specs.History.{History, Restart};
+ghost use Rattle.office_core.specs.History.{History, Restart, tables};
+ghost use Rattle.office.specs.Printing.{report_of};
 ghost use Rattle.office.specs.Scripts.{Step, ends, outcome_of, output_of, printed, step_of, steps_of};
-ghost use Rattle.office.specs.Playing.{Follows, IsWhole, Leaves, Owes, TookFront};
+ghost use Rattle.office.specs.Playing.{Follows, Leaves, Owes, TookFront, WroteFront};
 
 use crate::acting::act;
 use crate::command::event;
@@ -40,6 +41,16 @@ pub enum ReplayFault {
     Write,
     /// Memory was refused. What was written is a beginning of the script's output.
     Memory,
+}
+
+impl From<AllocError> for ReplayFault {
+    ghost use Rattle.office.specs.declared.replay.ReplayFault.TheVariants.{Memory};
+
+    ghost from_gives = { λ _ fault. fault ≡ Memory };
+
+    fn from(_: AllocError) -> ReplayFault {
+        ReplayFault::Memory
+    }
 }
 
 /// Whether a script goes on after a line.
@@ -79,12 +90,10 @@ fn play_line(
     }
 }
 
-/// Writes the report of an office.
+/// Puts the report of an office behind what is pending.
 fn report(alloc: Global, office: Office<MemKeeper>, out: &mut Vec<u8>) -> Result<(), AllocError>
     requires { (before : History) × Follows office before }
-    ensures { OnOk result ((done : List ℕ) (number : ℕ) (output : List ℕ) (ending : Replayed)
-        → Owes (Follows office) (done ++ out.old.items) number [] output ending
-        → IsWhole (done ++ out.new.items) output Replayed.Done ending) }
+    ensures { OnOk result ((before : History) → Follows office before → out.new.items ≡ out.old.items ++ report_of (tables before)) }
 {
     fitting_tables();
     let mut keeper = office.into_keeper();
@@ -106,6 +115,39 @@ fn write_pending<W: Write>(writer: &mut Counted<W>, out: &mut Vec<u8>) -> Result
         }
         Err(_) => Err(ReplayFault::Write),
     }
+}
+
+/// Writes what is pending once it fills a piece.
+fn write_piece<W: Write>(writer: &mut Counted<W>, out: &mut Vec<u8>) -> Result<(), ReplayFault>
+    ensures front { OnOk result (WroteFront (W.contents (inner_of writer.old)) (W.contents (inner_of writer.new)) out.old.items out.new.items) }
+    ensures calm { OnOk result (failures_of writer.new ≡ failures_of writer.old) }
+    ensures write { IsErrOf result ReplayFault.Write → HasRisen (failures_of writer.old) (failures_of writer.new) }
+    ensures no_other { IfErr result (λ fault. fault ≡ ReplayFault.Write) }
+{
+    if out.len() < PIECE {
+        return Ok(());
+    }
+    write_pending(writer, out)
+}
+
+/// Writes what is pending and the report of an office, with which a script is done.
+fn write_report<W: Write>(
+    alloc: Global,
+    office: Office<MemKeeper>,
+    out: &mut Vec<u8>,
+    writer: &mut Counted<W>,
+) -> Result<Replayed, ReplayFault>
+    requires { (before : History) × Follows office before }
+    ensures ending { IfOk result (λ ending. ending ≡ Replayed.Done) }
+    ensures output { (before : History) → Follows office before
+        → OnOk result (Appends (W.contents (inner_of writer.old)) (W.contents (inner_of writer.new)) (out.old.items ++ report_of (tables before))) }
+    ensures nothing_written { IsErrOf result ReplayFault.Memory → writer.new ≡ writer.old }
+    ensures write { IsErrOf result ReplayFault.Write → HasRisen (failures_of writer.old) (failures_of writer.new) }
+    ensures no_read { IfErr result (λ fault. fault ≢ ReplayFault.Read) }
+{
+    report(alloc, office, out)?;
+    write_pending(writer, out)?;
+    Ok(Replayed::Done)
 }
 
 /// Plays the lines from line `first` on.
@@ -132,32 +174,18 @@ fn play<W: Write>(
     let mut number = first;
     while !rest.is_empty() {
         let (line, more) = first_line(rest);
-        match play_line(alloc, &mut office, &mut out, line, number) {
-            Ok(Played::On) => {}
-            Ok(Played::Faulty) => {
-                match write_pending(writer, &mut out) {
-                    Ok(()) => return Ok(Replayed::FaultLine(number)),
-                    Err(fault) => return Err(fault),
-                }
+        match play_line(alloc, &mut office, &mut out, line, number)? {
+            Played::On => {}
+            Played::Faulty => {
+                write_pending(writer, &mut out)?;
+                return Ok(Replayed::FaultLine(number));
             }
-            Err(_) => return Err(ReplayFault::Memory),
         }
         rest = more;
         number += 1;
-        if out.len() >= PIECE {
-            match write_pending(writer, &mut out) {
-                Ok(()) => {}
-                Err(fault) => return Err(fault),
-            }
-        }
+        write_piece(writer, &mut out)?;
     }
-    let Ok(()) = report(alloc, office, &mut out) else {
-        return Err(ReplayFault::Memory);
-    };
-    match write_pending(writer, &mut out) {
-        Ok(()) => Ok(Replayed::Done),
-        Err(fault) => Err(fault),
-    }
+    write_report(alloc, office, &mut out, writer)
 }
 
 /// An office of a site, before anything happened.
@@ -184,24 +212,17 @@ fn perform<W: Write>(
     ensures write { IsErrOf result ReplayFault.Write → HasRisen (failures_of writer.old) (failures_of writer.new) }
     ensures no_read { IfErr result (λ fault. fault ≢ ReplayFault.Read) }
 {
-    match open_script(alloc, script) {
-        Ok(Opening::Ready { site, rest, number }) => {
-            let Ok(office) = new_office(alloc, site) else {
-                return Err(ReplayFault::Memory);
-            };
+    match open_script(alloc, script)? {
+        Opening::Ready { site, rest, number } => {
+            let office = new_office(alloc, site)?;
             play(alloc, office, rest, number, writer)
         }
-        Ok(Opening::Broken { number }) => {
+        Opening::Broken { number } => {
             let mut out = Vec::new(alloc);
-            let Ok(()) = push_fault(&mut out, number) else {
-                return Err(ReplayFault::Memory);
-            };
-            match write_pending(writer, &mut out) {
-                Ok(()) => Ok(Replayed::FaultLine(number)),
-                Err(fault) => Err(fault),
-            }
+            push_fault(&mut out, number)?;
+            write_pending(writer, &mut out)?;
+            Ok(Replayed::FaultLine(number))
         }
-        Err(_) => Err(ReplayFault::Memory),
     }
 }
 
