@@ -1,6 +1,7 @@
 -- What scripts that are written out print.
 use Rattle.std.proofs.Common.{◌≡◌, ℕ, List, [], ◌++◌, refl, codes}
 use Rattle.std.specs.Fmt.{digits}
+use Rattle.hex.specs.Hex.{encode_with}
 use Rattle.sunspec.specs.PointType.{row}
 use Rattle.point_list.specs.Sites.{all_differ}
 use Rattle.office_core.proofs.Examples.{histories_on_literals}
@@ -36,9 +37,9 @@ counter_text =
     ++ codes "recorded 1\nrecorded 1\nrefused Repeat\nrecorded 1\nreading e 1 65000\nreading e 2 64000\nreading e 3 500\ntotal e 66572\n"
 
 pub counter_prints : output_of counter ≡ counter_text
-unfolding histories_on_literals all_differ row digits
+unfolding histories_on_literals all_differ row digits encode_with
 counter_prints = refl
 
 pub counter_ends : outcome_of counter ≡ Done
-unfolding histories_on_literals all_differ row digits
+unfolding histories_on_literals all_differ row digits encode_with
 counter_ends = refl

@@ -7,6 +7,7 @@ use Rattle.std.specs.Str.{bytes_eq}
 use Rattle.std.proofs.lemmas.Bool.{and_parts}
 use Rattle.std.proofs.lemmas.Bool.Decides.{nat_tests}
 use Rattle.std.proofs.lemmas.List.Folds.{list_all-append}
+use Rattle.hex.specs.Hex.{hex_digit_value}
 use Rattle.mb_pdu.specs.Replies.{IsBytes}
 use Rattle.mb_mbap.specs.declared.frame.Frame.{Frame}
 use Rattle.sunspec.specs.Digits.{number_within, is_number_within}
@@ -15,7 +16,7 @@ use Rattle.read_planner.specs.declared.Read.{Read}
 use Rattle.office_core.specs.declared.event.Event.{Event}
 use Rattle.office_core.specs.declared.event.Event.TheVariants.{Load, Open, Ask, Arrive}
 use Rattle.office_core.specs.Messages.{IsMessage}
-use Rattle.office.specs.Words.{words_of, word_at, is_ascii, is_text, is_between, hex_value, joined, byte_of, onto_bytes, bytes_of}
+use Rattle.office.specs.Words.{words_of, word_at, is_ascii, is_text, joined, byte_of, onto_bytes, bytes_of}
 use Rattle.office.specs.Frames.{fields_in, is_whole}
 use Rattle.office.specs.Commands.{number_limit, byte_limit, word_limit, list_header, list_with, point_of, open_of, read_of, asking, ask_of, frame_in, arriving, reply_of, event_of_words, record_in, event_with, event_of}
 use Rattle.office.proofs.Texts.{all_ascii}
@@ -47,20 +48,20 @@ within_limit limit n word is = by (is_number_within limit word) refl is
 
 -- ---- bytes
 
-hex_below : (c d : ℕ) → hex_value c ≡ Some d → d < 16
-hex_below c d e = by (is_between 48 57 c) (is_between 65 70 c) (is_between 97 102 c) refl refl refl e
+hex_below : (c d : ℕ) → hex_digit_value c ≡ Some d → d < 16
+hex_below c d e = by (nat_le 65 c && nat_le c 70) (nat_le 97 c && nat_le c 102) (nat_le 48 c && nat_le c 57) refl refl refl e
   where
-    by : (p q r : Bool) → is_between 48 57 c ≡ p → is_between 65 70 c ≡ q → is_between 97 102 c ≡ r
-        → cond p (Some (c - 48)) (cond q (Some (c - 55)) (cond r (Some (c - 87)) None)) ≡ Some d → d < 16
-    by true q r hp hq hr e = let top = (and_parts (nat_le 48 c) (nat_le c 57) hp).1 in let value = same (c - 48) d e in let small : c ≤ 57 = grind (arith, nat_tests, top) in omega (arith, value, small)
-    by false true r hp hq hr e = let top = (and_parts (nat_le 65 c) (nat_le c 70) hq).1 in let value = same (c - 55) d e in let small : c ≤ 70 = grind (arith, nat_tests, top) in omega (arith, value, small)
-    by false false true hp hq hr e = let top = (and_parts (nat_le 97 c) (nat_le c 102) hr).1 in let value = same (c - 87) d e in let small : c ≤ 102 = grind (arith, nat_tests, top) in omega (arith, value, small)
+    by : (p q r : Bool) → (nat_le 65 c && nat_le c 70) ≡ p → (nat_le 97 c && nat_le c 102) ≡ q → (nat_le 48 c && nat_le c 57) ≡ r
+        → cond p (Some (c - 55)) (cond q (Some (c - 87)) (cond r (Some (c - 48)) None)) ≡ Some d → d < 16
+    by true q r hp hq hr e = let top = (and_parts (nat_le 65 c) (nat_le c 70) hp).1 in let value = same (c - 55) d e in let small : c ≤ 70 = grind (arith, nat_tests, top) in omega (arith, value, small)
+    by false true r hp hq hr e = let top = (and_parts (nat_le 97 c) (nat_le c 102) hq).1 in let value = same (c - 87) d e in let small : c ≤ 102 = grind (arith, nat_tests, top) in omega (arith, value, small)
+    by false false true hp hq hr e = let top = (and_parts (nat_le 48 c) (nat_le c 57) hr).1 in let value = same (c - 48) d e in let small : c ≤ 57 = grind (arith, nat_tests, top) in omega (arith, value, small)
     by false false false hp hq hr e = absurd (cc)
 
 byte_below : (word : List ℕ) (b : ℕ) → byte_of word ≡ Some b → b < 256
 byte_below [] b e = absurd (cc)
 byte_below (x ∷ []) b e = absurd (cc)
-byte_below (x ∷ y ∷ []) b e = by (hex_value x) (hex_value y) (hex_below x) (hex_below y) e
+byte_below (x ∷ y ∷ []) b e = by (hex_digit_value x) (hex_digit_value y) (hex_below x) (hex_below y) e
   where
     by : (o p : Option ℕ) → ((d : ℕ) → o ≡ Some d → d < 16) → ((d : ℕ) → p ≡ Some d → d < 16) → joined o p ≡ Some b → b < 256
     by None p ho hp e = absurd (cc)

@@ -1,5 +1,6 @@
 -- What is printed of answers, and of an office's tables at the end.
-use Rattle.std.specs.Prelude.{ℕ, ◌+◌, ◌/◌, ◌%◌, List, [], ◌∷◌, ◌++◌, if◌then◌else◌, flat_map, codes, decimal, nat_lt, pos, unwrap_or}
+use Rattle.std.specs.Prelude.{ℕ, List, [], ◌∷◌, ◌++◌, if◌then◌else◌, flat_map, codes, decimal, pos, unwrap_or}
+use Rattle.hex.specs.Hex.{encode_upper}
 use Rattle.sunspec.specs.Text.{shown, scaled}
 use Rattle.point_list.specs.declared.point.Point.{Point}
 use Rattle.point_list.specs.declared.error.ListFault.TheVariants.{BadRole}
@@ -29,12 +30,9 @@ numbered_line words number = words ++ decimal number ++ line_end
 
 -- ---- bytes
 
-abbrev pub hex_digit : ℕ → ℕ
-hex_digit d = if nat_lt d 10 then 48 + d else 55 + d
-
 -- a space and a byte, in upper case
 abbrev pub spaced_byte : ℕ → List ℕ
-spaced_byte b = 32 ∷ hex_digit (b / 16) ∷ hex_digit (b % 16) ∷ []
+spaced_byte b = 32 ∷ encode_upper (b ∷ [])
 
 -- ---- answers
 

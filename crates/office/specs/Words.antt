@@ -1,7 +1,8 @@
 -- The words of a line, and what a word spells.
-use Rattle.std.specs.Prelude.{ℕ, ◌+◌, ◌-◌, ◌*◌, List, [], ◌∷◌, Bool, ◌&&◌, Option, Some, None, if◌then◌else◌, nat_le, nat_lt, length, map, ◌==◌, get_or}
+use Rattle.std.specs.Prelude.{ℕ, ◌+◌, ◌*◌, List, [], ◌∷◌, Bool, ◌&&◌, Option, Some, None, nat_lt, length, map, ◌==◌, get_or}
 use Rattle.std.specs.List.{list_all, slice_split}
 use Rattle.std.specs.Borrow.{Bor}
+use Rattle.hex.specs.Hex.{hex_digit_value}
 
 -- the words between single spaces; two spaces together have an empty word between them
 abbrev pub words_of : List ℕ → List (List ℕ)
@@ -22,24 +23,14 @@ is_ascii b = nat_lt b 128
 abbrev pub is_text : List ℕ → Bool
 is_text word = nat_lt 0 (length word) && list_all is_ascii word
 
-abbrev pub is_between : ℕ → ℕ → ℕ → Bool
-is_between low high c = nat_le low c && nat_le c high
-
--- what a hexadecimal digit means, in either case
-abbrev pub hex_value : ℕ → Option ℕ
-hex_value c =
-    if is_between 48 57 c then Some (c - 48) else
-    if is_between 65 70 c then Some (c - 55) else
-    if is_between 97 102 c then Some (c - 87) else None
-
 abbrev pub joined : Option ℕ → Option ℕ → Option ℕ
 joined (Some high) (Some low) = Some (high * 16 + low)
 joined (Some high) None = None
 joined None _ = None
 
--- two hexadecimal digits
+-- what two hexadecimal digits mean, in either case
 abbrev pub byte_of : List ℕ → Option ℕ
-byte_of (high ∷ low ∷ []) = joined (hex_value high) (hex_value low)
+byte_of (high ∷ low ∷ []) = joined (hex_digit_value high) (hex_digit_value low)
 byte_of _ = None
 
 abbrev pub onto_bytes : Option ℕ → Option (List ℕ) → Option (List ℕ)

@@ -1,8 +1,8 @@
 //! Answers as lines of text.
-ghost use Rattle.std.specs.Prelude.{◌≡◌, ◌++◌, ◌<◌, OnOk, codes, decimal, flat_map};
+ghost use Rattle.std.specs.Prelude.{◌≡◌, ◌++◌, OnOk, codes, decimal, flat_map};
 ghost use Rattle.mb_mbap.specs.Stream.{spelled};
 ghost use Rattle.point_list.specs.FaultTexts.{fault_text};
-ghost use Rattle.office.specs.Printing.{answer_line, arrival_line, fault_line, hex_digit, line_end, load_fault_text, numbered_line, outcome_line, refusal_line, refusal_name, setting_line, spaced_byte};
+ghost use Rattle.office.specs.Printing.{answer_line, arrival_line, fault_line, line_end, load_fault_text, numbered_line, outcome_line, refusal_line, refusal_name, setting_line, spaced_byte};
 
 use itoa::Buffer;
 use mb_mbap::Frame;
@@ -26,31 +26,22 @@ fn push_numbered(out: &mut Vec<u8>, words: &[u8], number: u32) -> Result<(), All
     Ok(out.push(b'\n')?)
 }
 
-fn glyph(digit: u8) -> u8
-    requires { digit < 16 }
-    ensures { result ≡ hex_digit digit }
-{
-    if digit < 10 {
-        b'0' + digit
-    } else {
-        b'A' - 10 + digit
-    }
-}
-
-fn push_bytes(out: &mut Vec<u8>, bytes: &[u8]) -> Result<(), AllocError>
+fn push_bytes(alloc: Global, out: &mut Vec<u8>, bytes: &[u8]) -> Result<(), AllocError>
     ensures { OnOk result (out.new.items ≡ out.old.items ++ flat_map spaced_byte bytes.now) }
 {
     for byte in bytes {
-        out.extend_from_slice(&[b' ', glyph(*byte / 16), glyph(*byte % 16)])?;
+        let digits = hex::encode_upper(alloc, [*byte])?;
+        out.push(b' ')?;
+        out.extend_from_slice(digits.as_bytes())?;
     }
     Ok(())
 }
 
-fn push_query(out: &mut Vec<u8>, frame: &Frame) -> Result<(), AllocError>
+fn push_query(alloc: Global, out: &mut Vec<u8>, frame: &Frame) -> Result<(), AllocError>
     ensures { OnOk result (out.new.items ≡ out.old.items ++ (codes "query" ++ flat_map spaced_byte (spelled frame.now) ++ line_end)) }
 {
     out.extend_from_slice(b"query")?;
-    push_bytes(out, frame.encode().as_bytes())?;
+    push_bytes(alloc, out, frame.encode().as_bytes())?;
     Ok(out.push(b'\n')?)
 }
 
@@ -124,7 +115,7 @@ pub(crate) fn push_answer(
     match answer {
         EventAnswer::Judged(outcome) => push_outcome(alloc, out, *outcome),
         EventAnswer::Opened(conn) => push_numbered(out, b"connection ", conn.number()),
-        EventAnswer::Query(frame) => push_query(out, frame),
+        EventAnswer::Query(frame) => push_query(alloc, out, frame),
         EventAnswer::Arrived(arrival) => push_arrival(out, *arrival),
         EventAnswer::Restarted => out.extend_from_slice(b"restarted\n"),
         EventAnswer::Refused(error) => push_refusal(out, refusal_name(*error)),

@@ -1,10 +1,11 @@
 //! What a word spells: a number, a text, or a byte in hexadecimal digits.
-ghost use Rattle.std.specs.Prelude.{◌≡◌, ◌<◌, IfOk, IfSome, option_map, true};
+ghost use Rattle.std.specs.Prelude.{◌≡◌, IfOk, option_map, true};
 ghost use Rattle.std.specs.List.{list_all};
 ghost use Rattle.sunspec.specs.Digits.{number_within};
 ghost use Rattle.office.specs.Words as words;
-ghost use Rattle.office.specs.Words.{byte_of, bytes_of, hex_value, texts};
+ghost use Rattle.office.specs.Words.{byte_of, bytes_of, texts};
 
+use hex::FromHex;
 use point_list::Text;
 use std::alloc::{AllocError, Global};
 use std::str;
@@ -45,28 +46,14 @@ pub(crate) fn text(alloc: Global, word: &[u8]) -> Result<Text, AllocError>
     }
 }
 
-fn digit(byte: u8) -> Option<u8>
-    ensures value { result ≡ hex_value byte }
-    ensures small { IfSome result (λ d. d < 16) }
-{
-    match byte {
-        b'0'..=b'9' => Some(byte - b'0'),
-        b'A'..=b'F' => Some(byte - b'A' + 10),
-        b'a'..=b'f' => Some(byte - b'a' + 10),
-        _ => None,
-    }
-}
-
 /// The byte that two hexadecimal digits spell, in either case.
 fn byte(word: &[u8]) -> Option<u8>
     ensures { result ≡ byte_of word.now }
 {
-    if word.len() != 2 {
-        return None;
+    match <[u8; 1]>::from_hex(word) {
+        Ok(bytes) => Some(bytes[0]),
+        Err(_) => None,
     }
-    let high = digit(word[0])?;
-    let low = digit(word[1])?;
-    Some(high * 16 + low)
 }
 
 /// The bytes that words spell, each of them one.
