@@ -1,7 +1,7 @@
 -- The events that lines ask for are messages: their texts are bytes, and their numbers are of their types.
 use Rattle.std.proofs.Common.{◌≡◌, ◌≤◌, ◌<◌, ◌+◌, ◌-◌, ◌*◌, ℕ, zero, suc, Bool, true, false, cond, List, [], ◌∷◌, length, drop, refl, sym, ◌∙◌, subst, arith, Option, Some, None}
 use Rattle.std.specs.Prelude.{codes, ◌==◌, ◌&&◌, nat_le, nat_lt}
-use Rattle.std.specs.Char.{is_ascii_digit}
+use Rattle.std.specs.Char.{is_ascii, is_ascii_digit}
 use Rattle.std.specs.List.{list_all}
 use Rattle.std.specs.Str.{bytes_eq}
 use Rattle.std.proofs.lemmas.Bool.{and_parts}
@@ -16,7 +16,7 @@ use Rattle.read_planner.specs.declared.Read.{Read}
 use Rattle.office_core.specs.declared.event.Event.{Event}
 use Rattle.office_core.specs.declared.event.Event.TheVariants.{Load, Open, Ask, Arrive}
 use Rattle.office_core.specs.Messages.{IsMessage}
-use Rattle.office.specs.Words.{words_of, word_at, is_ascii, is_text, joined, byte_of, onto_bytes, bytes_of}
+use Rattle.office.specs.Words.{words_of, word_at, is_text, joined, byte_of, onto_bytes, bytes_of}
 use Rattle.office.specs.Frames.{fields_in, is_whole}
 use Rattle.office.specs.Commands.{number_limit, byte_limit, word_limit, list_header, list_with, point_of, open_of, read_of, asking, ask_of, frame_in, arriving, reply_of, event_of_words, record_in, event_with, event_of}
 use Rattle.office.proofs.Texts.{all_ascii}

@@ -1,5 +1,6 @@
 -- What a line asks of the office.
 use Rattle.std.specs.Prelude.{ℕ, List, [], ◌∷◌, ◌++◌, ◌&&◌, Option, Some, None, if◌then◌else◌, length, ◌==◌, codes, drop, take}
+use Rattle.std.specs.Char.{is_ascii}
 use Rattle.std.specs.List.{list_all}
 use Rattle.std.specs.Str.{bytes_eq}
 use Rattle.mb_mbap.specs.declared.frame.Frame.{Frame}
@@ -7,7 +8,7 @@ use Rattle.sunspec.specs.Digits.{number_within}
 use Rattle.read_planner.specs.declared.Read.{Read}
 use Rattle.office_core.specs.declared.event.Event.{Event}
 use Rattle.office_core.specs.declared.event.Event.TheVariants.{Load, Open, Ask, Arrive}
-use Rattle.office.specs.Words.{words_of, word_at, is_ascii, is_text, bytes_of}
+use Rattle.office.specs.Words.{words_of, word_at, is_text, bytes_of}
 use Rattle.office.specs.Frames.{frame_of}
 
 abbrev pub byte_limit : ℕ

@@ -1,5 +1,6 @@
 -- The words of a line, and what a word spells.
 use Rattle.std.specs.Prelude.{ℕ, ◌+◌, ◌*◌, List, [], ◌∷◌, Bool, ◌&&◌, Option, Some, None, nat_lt, length, map, ◌==◌, get_or}
+use Rattle.std.specs.Char.{is_ascii}
 use Rattle.std.specs.List.{list_all, slice_split}
 use Rattle.std.specs.Borrow.{Bor}
 use Rattle.hex.specs.Hex.{hex_digit_value}
@@ -15,9 +16,6 @@ texts words = map (λ word. word.now) words
 -- the word at a place
 abbrev pub word_at : List (List ℕ) → ℕ → List ℕ
 word_at words i = get_or words i []
-
-abbrev pub is_ascii : ℕ → Bool
-is_ascii b = nat_lt b 128
 
 -- one byte or more, all of them ASCII
 abbrev pub is_text : List ℕ → Bool

@@ -1,5 +1,5 @@
 //! What the office does at one line, and what is printed of it.
-ghost use Rattle.std.specs.Prelude.{◌≡◌, ◌≢◌, ◌++◌, ◌∷◌, ◌==◌, ℕ, Bool, IfOk, IsTrue, List, OnOk, false};
+ghost use Rattle.std.specs.Prelude.{◌≡◌, ◌≢◌, ◌++◌, ◌∷◌, ℕ, Bool, IfOk, IsTrue, List, OnOk, false};
 ghost use Rattle.std.specs.List.{list_any};
 ghost use Rattle.point_list.specs.Columns.{is_device};
 ghost use Rattle.point_list.specs.Lists.{records_of};
@@ -39,13 +39,6 @@ fn refused_list(error: ListError) -> Result<bool, AllocError>
     }
 }
 
-/// Whether an `s` stands in a text.
-fn has_s(text: &[u8]) -> bool
-    ensures { result ≡ list_any (λ b. b == 115) text.now }
-{
-    text.iter().any(|byte| *byte == b's')
-}
-
 /// Whether no `s` stands behind the header, so that no column says `setting`. Most lists of a script
 /// need not be read for it.
 fn says_no_setting(list: &[u8]) -> bool
@@ -57,7 +50,7 @@ fn says_no_setting(list: &[u8]) -> bool
     if &list[..HEADER.len()] != HEADER {
         return false;
     }
-    !has_s(&list[HEADER.len()..])
+    !list[HEADER.len()..].contains(&b's')
 }
 
 /// Whether a list of the site has a point that can be set.

@@ -1,42 +1,15 @@
-//! Lines and words, cut off a text one by one.
-ghost use Rattle.std.specs.Prelude.{◌≡◌, ◌==◌, ◌∷◌, ◌<◌, [], length, position, IfOk, MatchOption};
+//! Lines, cut off a text one by one, and the words of a line.
+ghost use Rattle.std.specs.Prelude.{◌≡◌, ◌==◌, ◌∷◌, ◌<◌, length, position, IfOk};
 ghost use Rattle.std.specs.Str.Lines.{lines, strip_carriage_return};
 ghost use Rattle.office.specs.Words.{texts, words_of};
 
 use std::alloc::{AllocError, Global};
 
-/// Where a byte stands first.
-fn place_of(text: &[u8], byte: u8) -> Option<usize>
-    ensures { result ≡ position (λ b. b == byte) text.now }
-{
-    text.iter().position(|b| *b == byte)
-}
-
-/// The first word, and the text behind the space after it.
-fn first_word(text: &[u8]) -> (&[u8], Option<&[u8]>)
-    ensures words { MatchOption result.1 (words_of text.now ≡ result.0.now ∷ []) (λ rest. words_of text.now ≡ result.0.now ∷ words_of rest.now) }
-    ensures shorter { MatchOption result.1 (result.0.now ≡ text.now) (λ rest. length rest.now < length text.now) }
-{
-    match place_of(text, b' ') {
-        Some(at) => (&text[..at], Some(&text[at + 1..])),
-        None => (text, None),
-    }
-}
-
 /// The words of a line, which single spaces part.
 pub(crate) fn words<'a>(alloc: Global, line: &'a [u8]) -> Result<Vec<&'a [u8]>, AllocError>
     ensures { IfOk result (λ words. texts words.items ≡ words_of line.now) }
 {
-    let mut words = Vec::new(alloc);
-    let mut rest = line;
-    loop {
-        let (word, more) = first_word(rest);
-        words.push(word)?;
-        match more {
-            Some(more) => rest = more,
-            None => return Ok(words),
-        }
-    }
+    line.split(|byte| *byte == b' ').collect(alloc)
 }
 
 /// A line without the carriage return at its end.
@@ -48,6 +21,13 @@ fn stripped(line: &[u8]) -> &[u8]
     } else {
         line
     }
+}
+
+/// Where a byte stands first.
+fn place_of(text: &[u8], byte: u8) -> Option<usize>
+    ensures { result ≡ position (λ b. b == byte) text.now }
+{
+    text.iter().position(|b| *b == byte)
 }
 
 /// The first line, and the text behind it.

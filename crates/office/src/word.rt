@@ -1,5 +1,6 @@
 //! What a word spells: a number, a text, or a byte in hexadecimal digits.
 ghost use Rattle.std.specs.Prelude.{◌≡◌, IfOk, option_map, true};
+ghost use Rattle.std.specs.Char.{is_ascii};
 ghost use Rattle.std.specs.List.{list_all};
 ghost use Rattle.sunspec.specs.Digits.{number_within};
 ghost use Rattle.office.specs.Words as words;
@@ -23,9 +24,9 @@ pub(crate) fn number(word: &[u8], limit: u32) -> Option<u32>
 
 /// Whether all bytes are ASCII.
 pub(crate) fn is_ascii(bytes: &[u8]) -> bool
-    ensures { result ≡ list_all words.is_ascii bytes.now }
+    ensures { result ≡ list_all is_ascii bytes.now }
 {
-    bytes.iter().all(|byte| *byte < 128)
+    bytes.is_ascii()
 }
 
 /// Whether a word is one byte or more, all of them ASCII.

@@ -7,4 +7,4 @@ use Rattle.office.proofs.acting.says_no_setting.Goals as goal
 pub returns : goal.returns
 returns c =
     let header : bytes_eq (take 54 c.args.list.now) list_header ≡ true = search rules in
-    spared_by c.args.list.now c.has_s.result header c.has_s.ensures
+    spared_by c.args.list.now c.contains.result header c.contains.ensures.value
