@@ -5,7 +5,6 @@ use Rattle.std.specs.List.{list_all, list_any}
 use Rattle.std.specs.Str.{bytes_eq}
 use Rattle.std.proofs.lemmas.Bool.{and_parts}
 use Rattle.std.proofs.lemmas.List.{take-append-drop, take_rest}
-use Rattle.std.proofs.lemmas.Option.{none-some}
 use Rattle.std.proofs.lemmas.Slice.Eq.{bytes_eq-Decides}
 use Rattle.csv.specs.Records.{field_at}
 use Rattle.mb_map.specs.declared.table.Table.{Table}
@@ -20,16 +19,12 @@ use Rattle.point_list.specs.declared.point.Point.{Point}
 use Rattle.point_list.specs.declared.point.Role.{Role}
 use Rattle.point_list.specs.declared.point.Role.TheVariants.{Gauge, Counter, Setting}
 use Rattle.office_core.specs.Loads.{same_role}
+use Rattle.office_core.proofs.Forms.{then_some}
 use Rattle.office.specs.Commands.{list_header, list_with}
 use Rattle.office.specs.Scripts.{has_setting}
 use Rattle.office.proofs.Lacking.{lacks, BodyLacks, body_lacks}
 
 -- ---- columns
-
--- where one step after another says something, so does the first
-then_some : {A B : Type 0} (o : Option A) (f : A → Option B) (y : B) → (o then f) ≡ Some y → (x : A) × (o ≡ Some x) × (f x ≡ Some y)
-then_some None f y e = absurd (none-some y e)
-then_some (Some x) f y e = (x, refl, e)
 
 -- a role that is a setting's is spelled so
 role_text : (table : Table) (kind : PointType) (text : List ℕ) → role_of table kind text ≡ Some Setting → text ≡ codes "setting"

@@ -33,7 +33,7 @@ abbrev pub IsFormed : Point → Type 0
 IsFormed point = HasForm point × (is_bit point.kind ≡ true → holds_bits point.table ≡ true)
 
 -- where one step after another says something, the first says something that the other goes on from
-then_some : {A B : Type 0} (o : Option A) (f : A → Option B) (y : B) → (o then f) ≡ Some y → (x : A) × (o ≡ Some x) × (f x ≡ Some y)
+pub then_some : {A B : Type 0} (o : Option A) (f : A → Option B) (y : B) → (o then f) ≡ Some y → (x : A) × (o ≡ Some x) × (f x ≡ Some y)
 then_some None f y e = absurd (none-some y e)
 then_some (Some x) f y e = (x, refl, e)
 
