@@ -1,5 +1,5 @@
 -- The lines that declare devices.
-use Rattle.std.proofs.Common.{◌≡◌, ◌+◌, ℕ, List, [], ◌∷◌, true, false, length, refl, ap, Option, Some, None, arith}
+use Rattle.std.proofs.Common.{◌≡◌, ◌+◌, ℕ, List, [], ◌∷◌, true, false, length, refl, ap, ◌∙◌, Option, Some, None, arith}
 use Rattle.std.specs.Str.Lines.{lines}
 use Rattle.point_list.specs.declared.site.Site.{Site}
 use Rattle.point_list.specs.declared.site.Line.{Line}
@@ -11,7 +11,7 @@ use Rattle.office.specs.declared.replay.Replayed.TheVariants.{FaultLine}
 use Rattle.office.specs.Commands.{event_of}
 use Rattle.office.specs.Devices.{device_of, with_device, is_site}
 use Rattle.office.specs.Printing.{fault_line}
-use Rattle.office.specs.Scripts.{Step, steps_in, steps_of, step_of, is_skipped, does, said_without, declared_by, opening, opening_ends, begun, ends}
+use Rattle.office.specs.Scripts.{Step, steps_in, steps_of, step_of, Declares, Does, Skipped, Wrong, is_skipped, does, declared_in, declared_by, opening, opening_ends, begun, ends}
 
 -- a text's first line is its first step
 pub first_step : (text line rest : List ℕ) → lines text ≡ line ∷ lines rest → steps_of text ≡ step_of line ∷ steps_of rest
@@ -26,26 +26,32 @@ pub skipped : (site : Site) (number : ℕ) (text line rest : List ℕ) → lines
     → AreSame site number (steps_of text) site (number + 1) (steps_of rest)
 skipped site number text line rest e h = (rw (e, h) refl, rw (e, h) refl)
 
--- a line that declares a device asks for nothing
-only_device : (o : Option Event) (p : Option Declared) (said : Declared) → Some said ≡ said_without o p → (None ≡ o) × (Some said ≡ p)
-only_device None p said e = (refl, e)
-only_device (Some seen) p said e = absurd (cc)
+-- what a line that isn't skipped is for
+read : (line : List ℕ) → is_skipped line ≡ false → step_of line ≡ does (event_of line) (device_of line)
+read line h = rw h refl
+
+-- a step that declares a device is that device's
+declares : (step : Step) (said : Declared) → Some said ≡ declared_in step → step ≡ Declares said
+declares Skipped said e = absurd (cc)
+declares Wrong said e = absurd (cc)
+declares (Declares other) said e = let same : other ≡ said = cc in ap Declares same
+declares (Does seen) said e = absurd (cc)
+
+-- a text's first line that declares a device
+declaring_step : (text line rest : List ℕ) (said : Declared) → lines text ≡ line ∷ lines rest → Some said ≡ declared_by line → steps_of text ≡ Declares said ∷ steps_of rest
+declaring_step text line rest said e d = first_step text line rest e ∙ ap (λ step. step ∷ steps_of rest) (declares (step_of line) said d)
 
 -- a device more
-pub declared : (site : Site) (number : ℕ) (text line rest : List ℕ) (said : Declared) → lines text ≡ line ∷ lines rest → is_skipped line ≡ false → Some said ≡ declared_by line → is_site (with_device site said) ≡ true
+pub declared : (site : Site) (number : ℕ) (text line rest : List ℕ) (said : Declared) → lines text ≡ line ∷ lines rest → Some said ≡ declared_by line → is_site (with_device site said) ≡ true
     → AreSame site number (steps_of text) (with_device site said) (number + 1) (steps_of rest)
-declared site number text line rest said e h d s =
-    let (none, some) = only_device (event_of line) (device_of line) said d in
-    (rw (e, h, ← none, ← some, s) refl, rw (e, h, ← none, ← some, s) refl)
+declared site number text line rest said e d s = let steps = declaring_step text line rest said e d in (rw (steps, s) refl, rw (steps, s) refl)
 
 -- a device that makes no site
-pub broken : (site : Site) (number : ℕ) (text line rest : List ℕ) (said : Declared) → lines text ≡ line ∷ lines rest → is_skipped line ≡ false → Some said ≡ declared_by line → is_site (with_device site said) ≡ false
+pub broken : (site : Site) (number : ℕ) (text line rest : List ℕ) (said : Declared) → lines text ≡ line ∷ lines rest → Some said ≡ declared_by line → is_site (with_device site said) ≡ false
     → (opening site number (steps_of text) ≡ fault_line number) × (opening_ends site number (steps_of text) ≡ FaultLine number)
-broken site number text line rest said e h d s =
-    let (none, some) = only_device (event_of line) (device_of line) said d in
-    (rw (e, h, ← none, ← some, s) refl, rw (e, h, ← none, ← some, s) refl)
+broken site number text line rest said e d s = let steps = declaring_step text line rest said e d in (rw (steps, s) refl, rw (steps, s) refl)
 
-begun_by : (site : Site) (number : ℕ) (o : Option Event) (p : Option Declared) (more : List Step) → None ≡ said_without o p
+begun_by : (site : Site) (number : ℕ) (o : Option Event) (p : Option Declared) (more : List Step) → None ≡ declared_in (does o p)
     → (opening site number (does o p ∷ more) ≡ begun site number (does o p ∷ more)) × (opening_ends site number (does o p ∷ more) ≡ ends number (does o p ∷ more))
 begun_by site number (Some seen) p more none = (refl, refl)
 begun_by site number None None more none = (refl, refl)
@@ -55,7 +61,7 @@ begun_by site number None (Some said) more none = absurd (cc)
 pub ready : (site : Site) (number : ℕ) (text line rest : List ℕ) → lines text ≡ line ∷ lines rest → is_skipped line ≡ false → None ≡ declared_by line
     → (opening site number (steps_of text) ≡ begun site number (steps_of text)) × (opening_ends site number (steps_of text) ≡ ends number (steps_of text))
 ready site number text line rest e h d =
-    let both = begun_by site number (event_of line) (device_of line) (steps_of rest) d in
+    let both = begun_by site number (event_of line) (device_of line) (steps_of rest) (d ∙ ap declared_in (read line h)) in
     (rw (e, h) both.0, rw (e, h) both.1)
 
 -- and so does the end

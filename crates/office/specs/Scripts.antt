@@ -41,16 +41,18 @@ does (Some seen) said = Does seen
 does None (Some said) = Declares said
 does None None = Wrong
 
--- the device that a line declares which asks for nothing
-abbrev pub said_without : Option Event → Option Declared → Option Declared
-said_without (Some seen) said = None
-said_without None said = said
-
-abbrev pub declared_by : List ℕ → Option Declared
-declared_by line = said_without (event_of line) (device_of line)
-
 abbrev pub step_of : List ℕ → Step
 step_of line = if is_skipped line then Skipped else does (event_of line) (device_of line)
+
+abbrev pub declared_in : Step → Option Declared
+declared_in Skipped = None
+declared_in Wrong = None
+declared_in (Declares said) = Some said
+declared_in (Does seen) = None
+
+-- the device that a line declares
+abbrev pub declared_by : List ℕ → Option Declared
+declared_by line = declared_in (step_of line)
 
 abbrev pub steps_in : List (List ℕ) → List Step
 steps_in [] = []

@@ -19,7 +19,7 @@ returns-in_default c =
 pub returns-then-not-is_sound : goal.returns-then-not-is_sound
 returns-then-not-is_sound c =
     let unsound : is_site (with_device c.loop-alloc.site c.in-Some.said) ≡ false = subst (λ s. is_site s ≡ false) c.in_ok-site.ensures (sym c.is_sound.ensures ∙ c.if-not-is_sound.true) in
-    let both = broken c.loop-alloc.site c.loop-alloc.number c.loop-alloc.rest.now c.first_line.result.0.now c.first_line.result.1.now c.in-Some.said c.first_line.ensures.lines (sym c.skips.ensures ∙ c.if-skips.false)
+    let both = broken c.loop-alloc.site c.loop-alloc.number c.loop-alloc.rest.now c.first_line.result.0.now c.first_line.result.1.now c.in-Some.said c.first_line.ensures.lines
     (sym c.in-Some.is ∙ c.in_ok-said.ensures) unsound in
     (c.loop-alloc.invariant.output ∙ both.0, c.loop-alloc.invariant.outcome ∙ both.1)
 
@@ -27,7 +27,7 @@ pub loop-alloc-preserved : goal.loop-alloc-preserved
 loop-alloc-preserved c =
     let sound = sym c.is_sound.ensures ∙ c.if-not-is_sound.false in
     let grown : is_site (with_device c.loop-alloc.site c.in-Some.said) ≡ true = subst (λ s. is_site s ≡ true) c.in_ok-site.ensures sound in
-    let both = declared c.loop-alloc.site c.loop-alloc.number c.loop-alloc.rest.now c.first_line.result.0.now c.first_line.result.1.now c.in-Some.said c.first_line.ensures.lines (sym c.skips.ensures ∙ c.if-skips.false)
+    let both = declared c.loop-alloc.site c.loop-alloc.number c.loop-alloc.rest.now c.first_line.result.0.now c.first_line.result.1.now c.in-Some.said c.first_line.ensures.lines
     (sym c.in-Some.is ∙ c.in_ok-said.ensures) grown in
     let steps = steps_of c.first_line.result.1.now in
     record {
