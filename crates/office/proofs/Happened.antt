@@ -1,5 +1,5 @@
 -- What happens in a script may happen, and its report is of the tables after it.
-use Rattle.std.proofs.Common.{◌≡◌, ◌≢◌, ◌+◌, ℕ, Bool, true, false, cond, List, [], ◌∷◌, ◌++◌, refl, sym, ap, ◌∙◌, Option, Some, None, subst}
+use Rattle.std.proofs.Common.{◌≡◌, ◌≢◌, ◌+◌, ℕ, Bool, true, false, cond, List, [], ◌∷◌, ◌++◌, refl, sym, ap, ◌∙◌, Option, Some, None}
 use Rattle.std.proofs.lemmas.List.{append_assoc}
 use Rattle.std.specs.Str.Lines.{lines}
 use Rattle.point_list.specs.Sites.{IsSound}
@@ -16,7 +16,7 @@ use Rattle.office.specs.Commands.{event_of}
 use Rattle.office.specs.Devices.{device_of, with_device, is_site}
 use Rattle.office.specs.Happened.{happened, happened_from, history_of}
 use Rattle.office.specs.Printing.{report_of, fault_line}
-use Rattle.office.specs.Scripts.{Step, Skipped, Wrong, Declares, Does, steps_in, steps_of, step_of, is_skipped, does, lists_setting, printed_for, then_before, printed, ends, begun, opening, opening_ends, output_of, outcome_of}
+use Rattle.office.specs.Scripts.{Step, Skipped, Wrong, Declares, Does, steps_in, steps_of, is_skipped, does, lists_setting, printed_for, then_before, printed, ends, opening, opening_ends, output_of, outcome_of}
 use Rattle.office.proofs.Messages.{is_message}
 use Rattle.office.proofs.Opened.{nothing_sound}
 

@@ -7,7 +7,8 @@ use Rattle.std.proofs.lemmas.Str.{IsUtf8-from_ascii}
 use Rattle.std.proofs.lemmas.Str.Ascii.{IsAscii-nil, IsAscii-cons}
 use Rattle.std.specs.List.{list_all}
 use Rattle.std.specs.Str.{IsAscii, IsUtf8}
-use Rattle.point_list.specs.Label.{is_ascii, is_label}
+use Rattle.std.specs.Char.{is_ascii}
+use Rattle.point_list.specs.Label.{is_label}
 use Rattle.point_list.specs.LabelFields.{IsLabelFields}
 
 ascii_byte : (b : ℕ) → is_ascii b ≡ true → b < 128

@@ -3,7 +3,8 @@ use Rattle.std.proofs.Common.{◌≡◌, ℕ, true, List, [], ◌∷◌, refl, a
 use Rattle.std.proofs.lemmas.Bool.{and_parts, and_from}
 use Rattle.std.proofs.lemmas.Bool.Decides.{nat_tests}
 use Rattle.std.specs.List.{list_all}
-use Rattle.point_list.specs.Label.{is_ascii, is_label}
+use Rattle.std.specs.Char.{is_ascii}
+use Rattle.point_list.specs.Label.{is_label}
 use Rattle.point_list.specs.Name.{is_name, is_name_byte}
 
 name_byte_ascii : (b : ℕ) → is_name_byte b ≡ true → is_ascii b ≡ true

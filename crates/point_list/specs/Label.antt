@@ -1,9 +1,7 @@
 -- Short texts.
 use Rattle.std.specs.Prelude.{ℕ, List, Bool, ◌&&◌, nat_le, nat_lt, length}
+use Rattle.std.specs.Char.{is_ascii}
 use Rattle.std.specs.List.{list_all}
-
-abbrev pub is_ascii : ℕ → Bool
-is_ascii b = nat_lt b 128
 
 -- 1 to 64 ASCII characters
 abbrev pub is_label : List ℕ → Bool

@@ -1,10 +1,11 @@
 ghost use Rattle.std.specs.Prelude.{◌≡◌, ◌≤◌, length, if◌then◌else◌, Some, None, IsTrue};
-ghost use Rattle.std.specs.List.{list_all};
 ghost use Rattle.std.specs.Cmp.{partial_equiv_from_equiv};
 ghost use Rattle.std.specs.Cmp.Lexicographic.{pointwise, nat_list_eq_equiv, slice_cmp, nat_list_cmp_total, texts_po, texts_ties};
 ghost use Rattle.std.specs.Ordering.{nat_cmp};
 ghost use Rattle.std.specs.Prelude.{nat_eq, refl, true};
-ghost use Rattle.point_list.specs.Label.{is_ascii, is_label};
+ghost use Rattle.std.specs.Char.{is_ascii};
+ghost use Rattle.std.specs.List.{list_all};
+ghost use Rattle.point_list.specs.Label.{is_label};
 
 use std::cmp::Ordering;
 use std::marker::Model;
@@ -37,7 +38,7 @@ impl Model for Label {
 fn is_ascii(text: &[u8]) -> bool
     ensures { result ≡ list_all is_ascii text.now }
 {
-    text.iter().all(|byte| *byte < 128)
+    text.iter().all(|byte| byte.is_ascii())
 }
 
 /// Whether a text is 1 to 64 ASCII characters.
