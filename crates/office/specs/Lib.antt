@@ -5,4 +5,5 @@ pub mod Devices
 pub mod Printing
 pub mod Scripts
 pub mod Happened
+pub mod Ends
 pub mod Playing

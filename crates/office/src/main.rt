@@ -18,32 +18,49 @@ use mb_mbap::Counted;
 use replay::{ReplayFault, Replayed, replay};
 use std::alloc::{AllocError, Global};
 use std::process::ExitCode;
-use std::{env, io};
+use std::{env, fmt, io};
 
 /// A fault that ends the program, as standard error tells it.
 #[derive(Clone, Copy)]
 enum Fault {
     /// The words are no command.
     Command,
-    /// Standard input or standard output failed, or a script is too long.
-    File,
-    Memory,
+    /// Standard input or standard output failed, a script is too long, or memory was refused.
+    Failed(ReplayFault),
 }
 
 impl Fault {
-    fn text(self) -> &'static str {
-        match self {
-            Fault::Command => "office: command",
-            Fault::File => "office: file",
-            Fault::Memory => "office: memory",
-        }
-    }
-
     fn status(self) -> ExitCode {
         match self {
             Fault::Command => ExitCode::from(2),
-            Fault::File | Fault::Memory => ExitCode::from(1),
+            Fault::Failed(_) => ExitCode::from(1),
         }
+    }
+}
+
+impl fmt::Display for Fault {
+    ghost use Rattle.std.specs.Prelude.{Some};
+    ghost use Rattle.office.specs.Ends.{told_text};
+
+    ghost output = { λ fault. Some (told_text fault) };
+
+    fn fmt<W: fmt::Write>(&self, f: &mut fmt::Formatter<W>) -> fmt::Result {
+        match *self {
+            Fault::Command => f.write_str("office: command"),
+            Fault::Failed(fault) => write!(f, "office: {fault}"),
+        }
+    }
+}
+
+impl From<ReplayFault> for Fault {
+    fn from(fault: ReplayFault) -> Fault {
+        Fault::Failed(fault)
+    }
+}
+
+impl From<AllocError> for Fault {
+    fn from(_: AllocError) -> Fault {
+        Fault::Failed(ReplayFault::Memory)
     }
 }
 
@@ -51,11 +68,9 @@ impl Fault {
 fn replay_input<R: Input + Print + AllocGlobal>(rt: &R) -> Result<ExitCode, Fault> {
     let mut reader = Counted::new(rt.reader());
     let mut writer = Counted::new(io::writer(rt));
-    match replay(rt.alloc(), &mut reader, &mut writer) {
-        Ok(Replayed::Done) => Ok(ExitCode::SUCCESS),
-        Ok(Replayed::FaultLine(_)) => Ok(ExitCode::from(2)),
-        Err(ReplayFault::Read | ReplayFault::Write) => Err(Fault::File),
-        Err(ReplayFault::Memory) => Err(Fault::Memory),
+    match replay(rt.alloc(), &mut reader, &mut writer)? {
+        Replayed::Done => Ok(ExitCode::SUCCESS),
+        Replayed::FaultLine(_) => Ok(ExitCode::from(2)),
     }
 }
 
@@ -66,11 +81,9 @@ fn is_replay(words: &[String]) -> bool {
 
 fn run(rt: &HostRuntime) -> Result<ExitCode, Fault> {
     let Ok(words) = env::args(rt) else {
-        return Err(Fault::Memory);
+        return Err(Fault::Failed(ReplayFault::Memory));
     };
-    let Ok(words) = words.skip(1).collect::<Vec<String>>(rt.alloc()) else {
-        return Err(Fault::Memory);
-    };
+    let words = words.skip(1).collect::<Vec<String>>(rt.alloc())?;
     if is_replay(&words) {
         replay_input(rt)
     } else {
@@ -82,7 +95,7 @@ fn main(rt: HostRuntime) -> io::Result<ExitCode> {
     match run(&rt) {
         Ok(status) => Ok(status),
         Err(fault) => {
-            rt.eprintln(fault.text())?;
+            eprintln!(rt; "{fault}")?;
             Ok(fault.status())
         }
     }

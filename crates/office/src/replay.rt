@@ -21,6 +21,8 @@ use office_core::laws::fitting_tables;
 use point_list::Site;
 use poll_book::MemKeeper;
 use std::alloc::{AllocError, Global};
+use std::error::Error;
+use std::fmt;
 use std::io::{Read, Write};
 
 /// How a script ended.
@@ -42,6 +44,36 @@ pub enum ReplayFault {
     /// Memory was refused. What was written is a beginning of the script's output.
     Memory,
 }
+
+impl fmt::Display for Replayed {
+    ghost use Rattle.std.specs.Prelude.{Some};
+    ghost use Rattle.office.specs.Ends.{ending_text};
+
+    ghost output = { λ ending. Some (ending_text ending) };
+
+    fn fmt<W: fmt::Write>(&self, f: &mut fmt::Formatter<W>) -> fmt::Result {
+        match *self {
+            Replayed::Done => f.write_str("done"),
+            Replayed::FaultLine(number) => write!(f, "fault line {number}"),
+        }
+    }
+}
+
+impl fmt::Display for ReplayFault {
+    ghost use Rattle.std.specs.Prelude.{Some};
+    ghost use Rattle.office.specs.Ends.{fault_text};
+
+    ghost output = { λ fault. Some (fault_text fault) };
+
+    fn fmt<W: fmt::Write>(&self, f: &mut fmt::Formatter<W>) -> fmt::Result {
+        f.write_str(match self {
+            ReplayFault::Read | ReplayFault::Write => "file",
+            ReplayFault::Memory => "memory",
+        })
+    }
+}
+
+impl Error for ReplayFault {}
 
 impl From<AllocError> for ReplayFault {
     ghost use Rattle.office.specs.declared.replay.ReplayFault.TheVariants.{Memory};

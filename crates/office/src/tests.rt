@@ -1,6 +1,8 @@
 //! The words of the command line, and faults as standard error tells them.
+use crate::replay::{ReplayFault, Replayed};
 use crate::{Fault, is_replay};
 use std::alloc::{AllocError, Global};
+use std::fmt;
 use std::test::Fail;
 
 fn words(alloc: Global, texts: &[&str]) -> Result<Vec<String>, AllocError> {
@@ -38,9 +40,34 @@ fn replay_is_the_one_word(rt: HostRuntime) -> Result<(), Fail> {
     Ok(())
 }
 
+/// What a value is shown as, asked for once more where memory was refused.
+fn text_of<T: fmt::Display>(alloc: Global, shown: &T) -> Result<String, AllocError> {
+    match shown.to_string(alloc) {
+        Ok(text) => Ok(text),
+        Err(_) => shown.to_string(alloc),
+    }
+}
+
 #[test]
-fn faults_are_told_in_one_form(rt: HostRuntime) {
-    assert_eq!(rt; Fault::Command.text(), "office: command");
-    assert_eq!(rt; Fault::File.text(), "office: file");
-    assert_eq!(rt; Fault::Memory.text(), "office: memory");
+fn faults_are_told_in_one_form(rt: HostRuntime) -> Result<(), Fail> {
+    let faults = [
+        (Fault::Command, "office: command"),
+        (Fault::Failed(ReplayFault::Read), "office: file"),
+        (Fault::Failed(ReplayFault::Write), "office: file"),
+        (Fault::Failed(ReplayFault::Memory), "office: memory"),
+    ];
+    for (fault, wanted) in &faults {
+        assert_eq!(rt; text_of(rt.alloc(), fault)?.as_str(), *wanted);
+    }
+    Ok(())
+}
+
+#[test]
+fn endings_are_shown(rt: HostRuntime) -> Result<(), Fail> {
+    assert_eq!(rt; text_of(rt.alloc(), &Replayed::Done)?.as_str(), "done");
+    assert_eq!(rt;
+        text_of(rt.alloc(), &Replayed::FaultLine(3))?.as_str(),
+        "fault line 3"
+    );
+    Ok(())
 }
