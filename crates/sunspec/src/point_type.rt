@@ -126,6 +126,8 @@ impl PointType {
     ];
 
     /// The row of the table for this type (SunSpec Device Information Model, point types).
+    // In a caller that wants a column or two the rest of the row falls away.
+    #[inline(always)]
     #[tactic(auto, unfolding(crate::specs::PointType::row))]
     pub fn row(&self) -> Row
         ensures { row_shown result ≡ row self.now }

@@ -21,6 +21,8 @@ pub enum Value {
 /// What registers of a type mean: as many as the type has, and 0 or 1 for a bit. The most
 /// significant register comes first; signed numbers are two's complement (SunSpec Device
 /// Information Model, point types).
+// A caller that wants a number then doesn't move the room that a value has for a text.
+#[inline(always)]
 pub fn read_value(kind: &PointType, words: &[u16]) -> Value
     requires sized { IsSized kind.now }
     requires registers { AreRegistersOf kind.now words.now }
@@ -40,6 +42,7 @@ pub fn read_value(kind: &PointType, words: &[u16]) -> Value
 }
 
 // A string is not implemented where all registers are zero.
+#[inline(never)]
 fn text_value(words: &[u16]) -> Value
     requires { length words.now ≤ 125 }
     ensures { result ≡ (if register_sum words.now == 0 then Value.Unimplemented
