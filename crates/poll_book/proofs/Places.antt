@@ -30,16 +30,18 @@ module _ {X : Type 0} (key : X → ℕ) (l : List X) (rising : IsRising key l) (
       let keys_rise : key (get_or l i d) ≤ key (get_or l j d) = grind (arith, rising i j d, λ (same : i ≡ j). ap (λ n. key (get_or l n d)) same) in
       grind (arith, nat_tests)
 
+  -- a key that is seen at a place stands there
+  pub seen : (at : ℕ) → at < length l → ((d : X) → key (get_or l at d) ≡ k) → IsAt key l k at
+  seen at in_range same = record {
+    in_range = in_range;
+    below = all_before (λ x. key x < k) l at (omega arith) (λ i d lt. omega (arith, rising i at d lt in_range, same d));
+    same = same;
+    above = all_from (λ x. k < key x) l (suc at) (λ i d le lt. omega (arith, rising at i d (omega arith) lt, same d));
+  }
+
   -- a binary search by key ends at the key, or at the gap for it
   pub found : (r : Result ℕ ℕ) → IsSearchInRange r (length l) → IsBinarySearchResult (λ x. nat_cmp (key x) k) l r → IfOk r (IsAt key l k)
-  found (Ok at) in_range equal =
-      let same : (d : X) → key (get_or l at d) ≡ k = λ d. ranked _ k _ (sym (equal d)) in
-      record {
-        in_range = in_range;
-        below = all_before (λ x. key x < k) l at (omega arith) (λ i d lt. omega (arith, rising i at d lt in_range, same d));
-        same = same;
-        above = all_from (λ x. k < key x) l (suc at) (λ i d le lt. omega (arith, rising at i d (omega arith) lt, same d));
-      }
+  found (Ok at) in_range equal = seen at in_range (λ d. ranked _ k _ (sym (equal d)))
   found (Err at) in_range parted = tt
 
   pub absent : (r : Result ℕ ℕ) → IsSearchInRange r (length l) → IsBinarySearchResult (λ x. nat_cmp (key x) k) l r → IfErr r (IsGap key l k)

@@ -1,5 +1,5 @@
 -- Histories after an insert or a write: their order, their points and their room.
-use Rattle.std.proofs.Common.{◌≡◌, ℕ, suc, ◌+◌, ◌≤◌, cond, eqb, List, [], ◌∷◌, ◌++◌, get_or, set, take, drop, inl, inr, vec_len, sym, ap, subst, ◌∙◌, arith}
+use Rattle.std.proofs.Common.{◌≡◌, ℕ, suc, ◌+◌, ◌<◌, ◌≤◌, cond, eqb, List, [], ◌∷◌, ◌++◌, get_or, set, take, drop, inl, inr, refl, vec_len, sym, ap, subst, ◌∙◌, arith}
 use Rattle.std.specs.Prelude.{All, Contains, map, count_by, vec_capacity}
 use Rattle.std.specs.List.{insert}
 use Rattle.std.proofs.Math.Seq.{split_at, map-set_same}
@@ -29,6 +29,13 @@ count_own xs row point same = count_more xs row point ∙ ap (λ b. count_of xs 
 count_other : (xs : List ReadingRow) (row : ReadingRow) (point : ℕ) → (row.point ≡ point → ⊥) → count_of (xs ++ row ∷ []) point ≡ count_of xs point
 count_other xs row point other =
     let e = count_more xs row point ∙ ap (λ b. count_of xs point + cond b 1 0) (ne_eqb row.point point other) in omega (arith, e)
+
+-- no row is of a point from a bound on that all are below
+pub count_none : (rows : List ReadingRow) (bound point : ℕ) → All (λ row. row.point < bound) rows → bound ≤ point → count_of rows point ≡ 0
+count_none [] bound point below le = refl
+count_none (row ∷ rows) bound point below le =
+    let lt : row.point < bound = below 0 row (omega arith) in
+    rw (ne_eqb row.point point (omega (arith, lt, le))) (count_none rows bound point (λ k d in_range. below (suc k) d (omega (arith, in_range))) le)
 
 module _ (hs : List History) (p at : ℕ) (new : History) (here : IsAt point_of hs p at) (same : new.point ≡ p) where
   pub points_set : map point_of (set hs at new) ≡ map point_of hs

@@ -1,4 +1,4 @@
-ghost use Rattle.std.specs.Prelude.{◌≡◌, ◌==◌, count_by, ℕ, ◌++◌, ◌∷◌, [], IfOk, OnOk, Contains, List, map};
+ghost use Rattle.std.specs.Prelude.{All, ◌≡◌, ◌==◌, ◌<◌, count_by, ℕ, ◌++◌, ◌∷◌, [], IfOk, OnOk, Contains, List, map};
 ghost use Rattle.poll_book.specs.declared.rows.ReadingRow.{ReadingRow as Row};
 ghost use Rattle.poll_book.specs.Tables.{with_row, with_rows};
 ghost use Rattle.poll_book.specs.Changes.{as_row, as_rows};
@@ -72,9 +72,11 @@ pub(crate) fn staged(
     ensures room { OnOk result (HaveRoom histories.new.items added.now) }
 {
     let mut rows = Vec::with_capacity(alloc, added.len())?;
+    let mut bound = 0;
     for row in added {
-        make_room(histories, &rows, row.point)?;
+        make_room(histories, &rows, bound, row.point)?;
         rows.push(copy_of(row)?)?;
+        bound = bound.max(u64::from(row.point) + 1);
     }
     Ok(rows)
 }
@@ -90,18 +92,32 @@ fn copy_of(row: &ReadingRow) -> Result<ReadingRow, AllocError>
     })
 }
 
-fn count_of(rows: &[ReadingRow], point: u32) -> usize
+fn counted(rows: &[ReadingRow], point: u32) -> usize
     ensures { result ≡ count_by (λ row. row.point == point) rows.now }
 {
     rows.iter().filter(|row| row.point == point).count()
 }
 
-// Makes room for one more row of the point, beside these.
+/// How many rows are of the point. The points of all are below a bound, so that none is counted
+/// where rows come by point.
+fn count_of(rows: &[ReadingRow], bound: u64, point: u32) -> usize
+    requires { All (λ row. row.point < bound) rows.now }
+    ensures { result ≡ count_by (λ row. row.point == point) rows.now }
+{
+    if bound <= u64::from(point) {
+        return 0;
+    }
+    counted(rows, point)
+}
+
+// Makes room for one more row of the point, beside these, whose points are below the bound.
 fn make_room(
     histories: &mut Vec<History>,
     rows: &[ReadingRow],
+    bound: u64,
     point: u32,
 ) -> Result<(), AllocError>
+    requires below { All (λ row. row.point < bound) rows.now }
     requires ordered { AreOrdered histories.old.items }
     requires made { Contains (map point_of histories.old.items) point }
     requires room { HaveRoom histories.old.items rows.now }
@@ -112,7 +128,7 @@ fn make_room(
     ensures room { OnOk result ((row : Row) → row.point ≡ point
         → HaveRoom histories.new.items (rows.now ++ row ∷ [])) }
 {
-    let count = count_of(rows, point);
+    let count = count_of(rows, bound, point);
     let place = history_place(histories, point).unwrap();
     histories[place].slots.reserve(count + 1)
 }

@@ -41,14 +41,36 @@ pub(crate) fn slot_place(slots: &[SlotRow], slot: u32) -> Result<usize, usize>
     slots.binary_search_by_key(&slot, |row| row.slot)
 }
 
-/// Where the point's history stands, or where it would go.
-pub(crate) fn history_place(histories: &[History], point: u32) -> Result<usize, usize>
+/// Whether the point's history stands at the place.
+fn stands_at(histories: &[History], point: u32, place: usize) -> bool
+    requires { IsRising point_of histories.now }
+    ensures { IsTrue result → IsAt point_of histories.now point place }
+{
+    place < histories.len() && histories[place].point == point
+}
+
+fn search(histories: &[History], point: u32) -> Result<usize, usize>
     requires { IsRising point_of histories.now }
     ensures found { IfOk result (IsAt point_of histories.now point) }
     ensures absent { IfErr result (IsGap point_of histories.now point) }
     ensures known { Contains (map point_of histories.now) point → IsOk result }
 {
     histories.binary_search_by_key(&point, |history| history.point)
+}
+
+/// Where the point's history stands, or where it would go. Points are numbered from 1, so where
+/// all have a history it stands at the number less 1, which is tried first.
+pub(crate) fn history_place(histories: &[History], point: u32) -> Result<usize, usize>
+    requires { IsRising point_of histories.now }
+    ensures found { IfOk result (IsAt point_of histories.now point) }
+    ensures absent { IfErr result (IsGap point_of histories.now point) }
+    ensures known { Contains (map point_of histories.now) point → IsOk result }
+{
+    let guess = point.saturating_sub(1) as usize;
+    if stands_at(histories, point, guess) {
+        return Ok(guess);
+    }
+    search(histories, point)
 }
 
 impl History {

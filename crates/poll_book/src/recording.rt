@@ -30,9 +30,9 @@ pub fn record<N: Neighbours>(
 {
     let mut rows = Vec::new(alloc);
     for entry in covered {
-        let point = entry.0;
-        if keeper.reading(&point, slot)?.is_none() {
-            rows.push(row_of(alloc, &point, slot, entry.1.as_slice())?)?;
+        let point = &entry.0;
+        if keeper.reading(point, slot)?.is_none() {
+            rows.push(row_of(alloc, point, slot, entry.1.as_slice())?)?;
         }
     }
     Ok(rows)

@@ -3,7 +3,7 @@ use Rattle.std.specs.Prelude.{IsOk}
 use Rattle.std.proofs.lemmas.List.Sorted.{answers_always}
 use Rattle.poll_book.specs.Histories.{point_of, IsGap}
 use Rattle.poll_book.proofs.Places.{found, absent, not_in_gap}
-use Rattle.poll_book.proofs.history.history_place.Goals as goal
+use Rattle.poll_book.proofs.history.search.Goals as goal
 
 pub returns-clause-found : goal.returns-clause-found
 returns-clause-found c =
