@@ -1,5 +1,5 @@
 //! The lines of a script that declare devices, which stand before all others.
-ghost use Rattle.std.specs.Prelude.{◌≡◌, ◌≤◌, IfOk, false, length};
+ghost use Rattle.std.specs.Prelude.{◌≡◌, ◌≤◌, IfOk, length};
 ghost use Rattle.office.specs.Scripts.{declared_by, is_skipped};
 ghost use Rattle.office.specs.Playing.{Opens};
 
@@ -32,9 +32,8 @@ pub(crate) fn skips(line: &[u8]) -> bool
     line.is_empty() || line[0] == b'#'
 }
 
-/// The device that a line declares.
+/// The device that a line declares which asks for nothing.
 fn declared(alloc: Global, line: &[u8]) -> Result<Option<Declared>, AllocError>
-    requires { is_skipped line.now ≡ false }
     ensures { IfOk result (λ said. said ≡ declared_by line.now) }
 {
     if event(alloc, line)?.is_some() {
