@@ -53,12 +53,23 @@ impl fmt::Display for Fault {
 }
 
 impl From<ReplayFault> for Fault {
+    ghost use Rattle.std.specs.Prelude.{◌≡◌};
+    ghost use Rattle.office.specs.declared.Fault.TheVariants.{Failed};
+
+    ghost from_gives = { λ why fault. fault ≡ Failed why };
+
     fn from(fault: ReplayFault) -> Fault {
         Fault::Failed(fault)
     }
 }
 
 impl From<AllocError> for Fault {
+    ghost use Rattle.std.specs.Prelude.{◌≡◌};
+    ghost use Rattle.office.specs.declared.Fault.TheVariants.{Failed};
+    ghost use Rattle.office.specs.declared.replay.ReplayFault.TheVariants.{Memory};
+
+    ghost from_gives = { λ _ fault. fault ≡ Failed Memory };
+
     fn from(_: AllocError) -> Fault {
         Fault::Failed(ReplayFault::Memory)
     }
