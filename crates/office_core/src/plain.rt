@@ -10,9 +10,9 @@ ghost use Rattle.office_core.specs.Cover as cover;
 ghost use Rattle.read_planner.specs.Read.{read_request};
 ghost use Rattle.office_core.specs.Plain.{AreSmall, IsSmall, history_of, question_of, questions_of, tables_of};
 ghost use Rattle.office_core.specs.Plain.{is_excepted, is_normal, is_before, has_key, place_of};
-ghost use Rattle.poll_book.specs.Changes.{as_row, as_rows, keyed};
+ghost use Rattle.poll_book.specs.Changes.{as_rows, keyed};
 ghost use Rattle.poll_book.specs.Tables.{with_row, with_rows};
-ghost use Rattle.poll_book.specs.Totals.{counted_numbers, is_counted, steps};
+ghost use Rattle.poll_book.specs.Totals.{counted_numbers, steps};
 ghost use Rattle.poll_book.specs.Totals as totals;
 
 use crate::cover::{covered, is_readable};
@@ -21,7 +21,7 @@ use crate::site::{Target, find_target, line_place};
 use mb_mbap::Frame;
 use mb_pdu::{Registers, Reply, Request};
 use point_list::{Items, Site, Text};
-use poll_book::{PointRow, ReadingRow, StoreFault, Words, counted_number};
+use poll_book::{PointRow, ReadingRow, StoreFault, counted_number};
 use read_planner::Read;
 use std::alloc::{AllocError, Global};
 
@@ -416,30 +416,6 @@ pub fn is_answered(
     }
 }
 
-fn row_of(
-    alloc: Global,
-    known: &PointRow,
-    slot: u32,
-    words: &[u16],
-) -> Result<ReadingRow, AllocError>
-    requires not_empty { 0 < length words.now }
-    requires short { length words.now ≤ 125 }
-    ensures { IfOk result (λ row. as_row row ≡ (
-      (known.now.number, slot),
-      record {
-        words = words.now;
-        counted = is_counted known.now.point words.now;
-      },
-    )) }
-{
-    Ok(ReadingRow {
-        point: known.number,
-        slot,
-        words: Words::new(alloc, words)?,
-        counted: counted_number(&known.point, words).is_some(),
-    })
-}
-
 fn rows_of(
     alloc: Global,
     covered: &[(PointRow, Registers)],
@@ -449,7 +425,7 @@ fn rows_of(
 {
     let mut rows = Vec::new(alloc);
     for entry in covered {
-        rows.push(row_of(alloc, &entry.0, slot, entry.1.as_slice())?)?;
+        rows.push(ReadingRow::new(alloc, &entry.0, slot, entry.1.as_slice())?)?;
     }
     Ok(rows)
 }

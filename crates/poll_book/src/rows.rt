@@ -1,5 +1,7 @@
+use crate::counting::counted_number;
 use crate::words::Words;
 use point_list::{Items, Point};
+use std::alloc::{AllocError, Global};
 
 /// A known point. Points are numbered from 1, in the order in which they were accepted.
 #[derive(Clone, Copy, Debug, PartialEq, Eq)]
@@ -24,6 +26,35 @@ pub struct ReadingRow {
     pub words: Words,
     /// Whether it counts for the point's total.
     pub counted: bool,
+}
+
+impl ReadingRow {
+    ghost use Rattle.std.specs.Prelude.{◌≡◌, ◌≤◌, ◌<◌, length, IfOk};
+    ghost use Rattle.poll_book.specs.Totals.{is_counted};
+
+    /// The reading that registers of a point, 1 to 125, are in a slot.
+    pub fn new(
+        alloc: Global,
+        point: &PointRow,
+        slot: u32,
+        words: &[u16],
+    ) -> Result<ReadingRow, AllocError>
+        requires not_empty { 0 < length words.now }
+        requires short { length words.now ≤ 125 }
+        ensures { IfOk result (λ row. row ≡ record {
+          point = point.now.number;
+          slot = slot;
+          words = words.now;
+          counted = is_counted point.now.point words.now;
+        }) }
+    {
+        Ok(ReadingRow {
+            point: point.number,
+            slot,
+            words: Words::new(alloc, words)?,
+            counted: counted_number(&point.point, words).is_some(),
+        })
+    }
 }
 
 /// Rows that are written together, each under its key, and a new connection number or none.
