@@ -89,25 +89,38 @@ fn what_a_record_says(rt: HostRuntime) -> Result<(), Fail> {
 fn fault_at(alloc: Global, device: &str) -> Result<Option<(ListFault, u8)>, AllocError> {
     let site = site_of(alloc, device)?;
     let text = format!(in alloc; "{HEADER}e,{device},holding,107,uint16,,,gauge,\n")?;
-    Ok(match read_list(alloc, text.as_bytes(), &site) {
-        Ok(_) => None,
-        Err(e) => Some((e.fault, e.column)),
-    })
+    match read_list(alloc, text.as_bytes(), &site) {
+        Ok(_) => Ok(None),
+        Err(e) if e.fault == ListFault::Memory => Err(AllocError),
+        Err(e) => Ok(Some((e.fault, e.column))),
+    }
 }
 
 /// A point can have a device of any name of 1 to 64 ASCII characters.
 #[test]
 fn names_of_devices(rt: HostRuntime) -> Result<(), Fail> {
     let unknown = Some((ListFault::UnknownDevice, 2));
-    assert_eq!(rt; fault_at(rt.alloc(), "m1")?, None);
-    assert_eq!(rt; fault_at(rt.alloc(), "PM/5560 (roof)")?, None);
-    assert_eq!(rt; fault_at(rt.alloc(), &"m".repeat(rt.alloc(), 64)?)?, None);
-    assert_eq!(rt;
-        fault_at(rt.alloc(), &"m".repeat(rt.alloc(), 65)?)?,
-        unknown
-    );
-    assert_eq!(rt; fault_at(rt.alloc(), "")?, unknown);
-    assert_eq!(rt; fault_at(rt.alloc(), "z\u{e4}hler")?, unknown);
+    let cases = [
+        ("m1", None),
+        ("PM/5560 (roof)", None),
+        (
+            "a234567890123456789012345678901234567890123456789012345678901234",
+            None,
+        ),
+        (
+            "a2345678901234567890123456789012345678901234567890123456789012345",
+            unknown,
+        ),
+        ("", unknown),
+        ("z\u{e4}hler", unknown),
+    ];
+    for (device, wanted) in &cases {
+        let fault = match fault_at(rt.alloc(), device) {
+            Ok(fault) => fault,
+            Err(_) => fault_at(rt.alloc(), device)?,
+        };
+        assert_eq!(rt; fault, *wanted, "{device}");
+    }
     Ok(())
 }
 
