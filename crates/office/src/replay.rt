@@ -152,6 +152,7 @@ fn write_pending<W: Write>(writer: &mut Counted<W>, out: &mut Vec<u8>) -> Result
 /// Writes what is pending once it fills a piece.
 fn write_piece<W: Write>(writer: &mut Counted<W>, out: &mut Vec<u8>) -> Result<(), ReplayFault>
     ensures front { OnOk result (WroteFront (W.contents (inner_of writer.old)) (W.contents (inner_of writer.new)) out.old.items out.new.items) }
+    ensures little { OnOk result (length out.new.items < PIECE) }
     ensures calm { OnOk result (failures_of writer.new ≡ failures_of writer.old) }
     ensures write { IsErrOf result ReplayFault.Write → HasRisen (failures_of writer.old) (failures_of writer.new) }
     ensures no_other { IfErr result (λ fault. fault ≡ ReplayFault.Write) }
