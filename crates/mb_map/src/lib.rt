@@ -20,6 +20,3 @@ pub use mapping::Mapping;
 pub use sim::Sim;
 pub use step::Step;
 pub use table::Table;
-
-#[cfg(test)]
-mod tests;

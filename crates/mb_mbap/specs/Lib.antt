@@ -5,4 +5,3 @@ pub mod Feeding
 pub mod Places
 pub mod Counted
 pub use Rattle.mb_pdu.specs.Packing
-pub mod Texts

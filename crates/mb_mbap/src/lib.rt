@@ -15,6 +15,3 @@ pub use counted::Counted;
 pub use fault::FrameFault;
 pub use frame::{Frame, FrameBytes};
 pub use reader::{Fed, FrameReader};
-
-#[cfg(test)]
-mod tests;

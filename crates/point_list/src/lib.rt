@@ -24,6 +24,3 @@ pub use point::{ListRow, Point, Role};
 pub use site::{Device, Line, Site};
 pub use site_file::read_site;
 pub use text::Text;
-
-#[cfg(test)]
-mod tests;

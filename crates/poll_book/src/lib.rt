@@ -19,6 +19,3 @@ pub use mem_keeper::MemKeeper;
 pub use recording::record;
 pub use rows::{Change, PointRow, Reading, ReadingRow};
 pub use words::Words;
-
-#[cfg(test)]
-mod tests;

@@ -1,4 +1,3 @@
 pub mod Queries
 pub mod Window
 pub mod ConnectionFields
-pub mod Texts

@@ -1,42 +1,27 @@
-use std::error::Error;
-use std::fmt;
+use thiserror::Error;
 
 /// Why there is no query.
-#[derive(Clone, Copy, Debug, PartialEq, Eq)]
+#[derive(Clone, Copy, Debug, PartialEq, Eq, Error)]
 pub enum MatchError {
     /// The connection isn't open.
+    #[error("no such connection")]
     NoConnection,
     /// No query of the connection has the frame's transaction.
+    #[error("no query has this transaction identifier")]
     NoQuery,
     /// The frame's unit identifier isn't the query's.
+    #[error("the unit identifier is not the query's")]
     WrongUnit,
     /// The query was answered before.
+    #[error("the query was answered before")]
     Repeat,
     /// The unit is no reply to the query.
+    #[error("no reply to the query")]
     WrongReply,
     /// Memory was refused.
+    #[error("out of memory")]
     Memory,
     /// The connection made 4,294,967,295 queries.
+    #[error("no query number is left")]
     Exhausted,
 }
-
-impl fmt::Display for MatchError {
-    ghost use Rattle.std.specs.Prelude.{Some};
-    ghost use Rattle.poll_match.specs.Texts.{refusal_text};
-
-    ghost output = { λ e. Some (refusal_text e) };
-
-    fn fmt<W: fmt::Write>(&self, f: &mut fmt::Formatter<W>) -> fmt::Result {
-        f.write_str(match self {
-            MatchError::NoConnection => "no such connection",
-            MatchError::NoQuery => "no query has this transaction identifier",
-            MatchError::WrongUnit => "the unit identifier is not the query's",
-            MatchError::Repeat => "the query was answered before",
-            MatchError::WrongReply => "no reply to the query",
-            MatchError::Memory => "out of memory",
-            MatchError::Exhausted => "no query number is left",
-        })
-    }
-}
-
-impl Error for MatchError {}

@@ -12,6 +12,3 @@ pub use asked::{Asked, Matched};
 pub use conn::Conn;
 pub use error::MatchError;
 pub use matcher::{Found, Matcher};
-
-#[cfg(test)]
-mod tests;

@@ -8,16 +8,16 @@ use Rattle.std.proofs.lemmas.List.Sums.{prefix_len-le-length}
 use Rattle.std.proofs.lemmas.List.{length-append, length-replicate, length-set, take-append-le, take_all, drop-replicate, take_more, take_more_set}
 use Rattle.std.proofs.lemmas.List.Concat.{flat_map-append}
 use Rattle.mb_pdu.specs.Packing.{two, words_text}
-use Rattle.sunspec.specs.ShortText.{IsShortText}
+use Rattle.sunspec.specs.FixedText.{IsPadded}
 
 -- a text written over the front of zeros
-pub over_zeros : (n : ℕ) (text : List ℕ) → length text ≡ n → n ≤ 250 → IsShortText (record { bytes = text ++ drop n (replicate 250 0); len = n })
-over_zeros n text count short =
-    let zeros : List ℕ = replicate (250 - n) 0 in
-    let rest : drop n (replicate 250 0) ≡ zeros = drop-replicate n 250 0 in
+pub over_zeros : (room n : ℕ) (text : List ℕ) → length text ≡ n → n ≤ room → IsPadded room n (text ++ drop n (replicate room 0))
+over_zeros room n text count short =
+    let zeros : List ℕ = replicate (room - n) 0 in
+    let rest : drop n (replicate room 0) ≡ zeros = drop-replicate n room 0 in
     let front : take n (text ++ zeros) ≡ text = take-append-le n text zeros (omega arith) ∙ take_all n text (omega arith) in
     record {
-      room = rw rest (omega (arith, length-append text zeros, length-replicate {A = ℕ} (250 - n) 0));
+      whole = rw rest (omega (arith, length-append text zeros, length-replicate {A = ℕ} (room - n) 0));
       short = short;
       rest = rw (rest, front) refl;
     }

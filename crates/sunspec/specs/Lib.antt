@@ -1,6 +1,5 @@
 pub mod PointType
-pub mod Refusal
 pub mod Digits
-pub mod ShortText
+pub mod FixedText
 pub mod Text
 pub mod Value

@@ -4,20 +4,17 @@
 pub mod digits;
 mod encode;
 mod error;
+mod fixed_text;
 pub mod laws;
 mod point_type;
 mod scaled;
-mod short_text;
 mod shown;
 mod value;
 
 pub use encode::to_registers;
 pub use error::SunError;
+pub use fixed_text::{FixedText, ShortText};
 pub use point_type::{Content, PointType, Row};
 pub use scaled::scaled_text;
-pub use short_text::ShortText;
 pub use shown::shown_text;
 pub use value::{Value, read_value};
-
-#[cfg(test)]
-mod tests;

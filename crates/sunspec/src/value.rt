@@ -5,7 +5,7 @@ ghost use Rattle.sunspec.specs.PointType.{IsSized, bits};
 ghost use Rattle.sunspec.specs.Value.{AreRegistersOf, number_meant, register_sum, text_meant, value};
 
 use crate::point_type::{Content, PointType, greatest_of};
-use crate::short_text::ShortText;
+use crate::fixed_text::ShortText;
 
 /// What the registers of a point mean.
 #[derive(Clone, Copy, Debug, PartialEq, Eq)]

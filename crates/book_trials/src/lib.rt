@@ -1,0 +1,12 @@
+//! Tests of queries and their replies, of what a keeper gives back, and of totals. Nothing stands
+//! on this crate.
+#![tactic(auto)]
+
+#[cfg(test)]
+mod keeping;
+#[cfg(test)]
+mod queries;
+#[cfg(test)]
+mod storing;
+#[cfg(test)]
+mod totals;

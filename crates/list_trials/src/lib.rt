@@ -1,0 +1,12 @@
+//! Tests of values, of point lists and of site files, as operators write them. Nothing stands on
+//! this crate.
+#![tactic(auto)]
+
+#[cfg(test)]
+mod columns;
+#[cfg(test)]
+mod lists;
+#[cfg(test)]
+mod sites;
+#[cfg(test)]
+mod values;

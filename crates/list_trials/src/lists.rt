@@ -1,0 +1,175 @@
+//! Whole lists: the header, line ends, names twice, and how many points there may be.
+use crate::columns::{read, read_once, site};
+use point_list::{ListError, ListFault, Point, read_list, resolve};
+use std::alloc::{AllocError, Global};
+use std::fmt;
+use std::test::Fail;
+
+fn error(fault: ListFault, row: u32, column: u8) -> ListError {
+    ListError { fault, row, column }
+}
+
+fn count_once(alloc: Global, bytes: &[u8]) -> Result<usize, ListError> {
+    match site(alloc) {
+        Ok(site) => Ok(read_list(alloc, bytes, &site)?.len()),
+        Err(_) => Err(error(ListFault::Memory, 0, 0)),
+    }
+}
+
+/// How many rows a list's bytes have, or its fault, and once more where memory was refused.
+fn count(alloc: Global, bytes: &[u8]) -> Result<usize, ListError> {
+    match count_once(alloc, bytes) {
+        Err(e) if e.fault == ListFault::Memory => count_once(alloc, bytes),
+        other => other,
+    }
+}
+
+#[test]
+fn headers_and_line_ends(rt: HostRuntime) {
+    let header = b"name,device,table,address,type,length,scale,role,roll";
+    let marked =
+        b"\xEF\xBB\xBFname,device,table,address,type,length,scale,role,roll\r\ne,m1,holding,107,uint16,,,counter,\r\n";
+    assert_eq!(rt; count(rt.alloc(), marked), Ok(1));
+    assert_eq!(rt; count(rt.alloc(), header), Ok(0));
+    let missing = error(ListFault::BadHeader, 1, 0);
+    assert_eq!(rt; count(rt.alloc(), b""), Err(missing));
+    assert_eq!(rt; count(rt.alloc(), b"name,device\n"), Err(missing));
+    assert_eq!(rt;
+        count(
+            rt.alloc(),
+            b"name,device,table,address,type,length,scale,role,rolls\n"
+        ),
+        Err(missing)
+    );
+    let quoted =
+        b"\"name\",device,table,address,type,length,scale,role,roll\n\"e\",m1,\"holding\",107,uint16,,,counter,";
+    assert_eq!(rt; count(rt.alloc(), quoted), Ok(1));
+}
+
+#[test]
+fn faults_of_later_records(rt: HostRuntime) {
+    let two = "e,m1,holding,107,uint16,,,counter,\np,m1,holding,200,float32,,,gauge,\n";
+    assert_eq!(rt;
+        read(rt.alloc(), two).err(),
+        Some(error(ListFault::LeftOutType, 3, 5))
+    );
+    let twice =
+        "e,m1,holding,107,uint16,,,counter,\nf,m1,input,1,int16,,,gauge,\ne,m1,input,2,int16,,,gauge,\n";
+    assert_eq!(rt;
+        read(rt.alloc(), twice).err(),
+        Some(error(ListFault::Twice, 4, 1))
+    );
+    let not_text =
+        b"name,device,table,address,type,length,scale,role,roll\n\xFF,m1,holding,1,int16,,,gauge,\n";
+    let fault = count(rt.alloc(), not_text);
+    assert_eq!(rt; fault, Err(error(ListFault::BadName, 2, 1)));
+    let twice_and_range =
+        "e,m1,holding,107,uint16,,,counter,\ne,m1,holding,65535,uint32,,,gauge,\n";
+    assert_eq!(rt;
+        read(rt.alloc(), twice_and_range).err(),
+        Some(error(ListFault::BadAddress, 3, 4))
+    );
+}
+
+fn list_once(alloc: Global, points: u32) -> Result<String, AllocError> {
+    let mut text = String::from_str(
+        alloc,
+        "name,device,table,address,type,length,scale,role,roll\n",
+    )?;
+    for number in 0..points {
+        let record = format!(in alloc; "p{number},m1,holding,{number},uint16,,,counter,\n")?;
+        text.push_str(record.as_str())?;
+    }
+    Ok(text)
+}
+
+/// The header and so many points, and once more where memory was refused.
+fn list_of(alloc: Global, points: u32) -> Result<String, AllocError> {
+    match list_once(alloc, points) {
+        Ok(text) => Ok(text),
+        Err(_) => list_once(alloc, points),
+    }
+}
+
+#[test]
+fn ten_thousand_points(rt: HostRuntime) -> Result<(), Fail> {
+    let most = list_of(rt.alloc(), 10_000)?;
+    assert_eq!(rt; count(rt.alloc(), most.as_bytes()), Ok(10_000));
+    let over = list_of(rt.alloc(), 10_001)?;
+    assert_eq!(rt;
+        count(rt.alloc(), over.as_bytes()),
+        Err(error(ListFault::TooManyPoints, 10_002, 0))
+    );
+    Ok(())
+}
+
+const TWO: &str = "e,m1,holding,107,uint16,,,counter,\nf,m1,input,1,int16,,,gauge,\n";
+
+/// The points of a list, and once more where memory was refused.
+fn points(alloc: Global, body: &str) -> Result<Vec<Point>, ListError> {
+    match resolve(alloc, read(alloc, body)?) {
+        Err(e) if e.fault == ListFault::Memory => resolve(alloc, read(alloc, body)?),
+        other => other,
+    }
+}
+
+#[test]
+fn points_of_rows(rt: HostRuntime) -> Result<(), Fail> {
+    let points = points(rt.alloc(), TWO).ok().ok_or("two points")?;
+    match points.as_slice() {
+        [e, f] => assert_eq!(rt; (e.address, f.address), (107, 1)),
+        _ => assert!(rt; false, "two points"),
+    }
+    Ok(())
+}
+
+/// Where an allocation is refused the answer is `Memory` and nothing else.
+#[test]
+fn refused_memory_is_told(rt: HostRuntime) {
+    match read_once(rt.alloc(), TWO) {
+        Ok(rows) => match resolve(rt.alloc(), rows) {
+            Ok(points) => assert_eq!(rt; points.len(), 2),
+            Err(e) => assert_eq!(rt; e, error(ListFault::Memory, 0, 0)),
+        },
+        Err(e) => assert_eq!(rt; e, error(ListFault::Memory, 0, 0)),
+    }
+}
+
+/// What is shown of it, and once more where memory was refused.
+fn text_of<T: fmt::Display>(alloc: Global, shown: &T) -> Result<String, AllocError> {
+    match format!(in alloc; "{shown}") {
+        Ok(text) => Ok(text),
+        Err(_) => format!(in alloc; "{shown}"),
+    }
+}
+
+#[test]
+fn texts_of_faults(rt: HostRuntime) -> Result<(), Fail> {
+    use ListFault::*;
+    let cases = [
+        (BadCsv, "bad csv"),
+        (BadHeader, "bad header"),
+        (BadName, "bad name"),
+        (UnknownDevice, "unknown device"),
+        (BadTable, "bad table"),
+        (BadAddress, "bad address"),
+        (BadType, "bad type"),
+        (LeftOutType, "left-out type"),
+        (BadLength, "bad length"),
+        (BadScale, "bad scale"),
+        (BadRole, "bad role"),
+        (BadRoll, "bad roll"),
+        (Twice, "twice"),
+        (TooManyPoints, "too many points"),
+        (BadSite, "bad site"),
+    ];
+    for (fault, text) in cases {
+        assert_eq!(rt; text_of(rt.alloc(), &fault)?.as_str(), text);
+    }
+    let whole = error(BadRole, 3, 8);
+    assert_eq!(rt;
+        text_of(rt.alloc(), &whole)?.as_str(),
+        "bad role row 3 column 8"
+    );
+    Ok(())
+}

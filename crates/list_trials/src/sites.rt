@@ -1,0 +1,228 @@
+//! Site files as operators write them.
+use point_list::{Device, Items, Label, Line, ListError, ListFault, Site, read_site};
+use std::alloc::{AllocError, Global};
+use std::process::Abort;
+use std::test::Fail;
+
+const EXAMPLE: &str = "[[line]]
+name = \"roof\"
+address = \"127.0.0.1:1502\"
+
+[[device]]
+name = \"m1\"
+line = \"roof\"
+unit = 17
+gap = 8
+models = [[1, 40002, 66], [103, 40070, 50]]
+";
+
+const BAD_SITE: ListError = ListError {
+    fault: ListFault::BadSite,
+    row: 0,
+    column: 0,
+};
+
+/// Reads a site file, and once more where memory was refused.
+fn read(alloc: Global, text: &[u8]) -> Result<Site, ListError> {
+    match read_site(alloc, text) {
+        Err(e) if e.fault == ListFault::Memory => read_site(alloc, text),
+        other => other,
+    }
+}
+
+#[test]
+fn the_example(rt: HostRuntime) -> Result<(), Fail> {
+    let site = read(rt.alloc(), EXAMPLE.as_bytes()).ok().ok_or("a site")?;
+    match site.lines.as_slice() {
+        [line] => {
+            assert_eq!(rt; line.name.as_str(), "roof");
+            assert_eq!(rt; line.address.as_str(), "127.0.0.1:1502");
+        }
+        _ => assert!(rt; false, "one line"),
+    }
+    match site.devices.as_slice() {
+        [device] => {
+            assert_eq!(rt; device.name.as_str(), "m1");
+            assert_eq!(rt; (device.line, device.unit, device.gap), (0, 17, 8));
+        }
+        _ => assert!(rt; false, "one device"),
+    }
+    Ok(())
+}
+
+#[test]
+fn lines_and_devices_by_name(rt: HostRuntime) -> Result<(), Fail> {
+    let site = read(rt.alloc(), EXAMPLE.as_bytes()).ok().ok_or("a site")?;
+    assert_eq!(rt; Line::place(site.lines.as_slice(), b"roof"), Some(0));
+    assert_eq!(rt; Line::place(site.lines.as_slice(), b"m1"), None);
+    assert_eq!(rt; Device::place(site.devices.as_slice(), b"m1"), Some(0));
+    assert_eq!(rt; Device::place(site.devices.as_slice(), b"roof"), None);
+    let m1 = Label::new(b"m1").ok_or("a label")?;
+    let m2 = Label::new(b"m2").ok_or("a label")?;
+    assert!(rt; site.has_device(&m1));
+    assert!(rt; !site.has_device(&m2));
+    Ok(())
+}
+
+#[test]
+fn a_device_needs_its_line(rt: HostRuntime) -> Result<(), Fail> {
+    let site = read(rt.alloc(), EXAMPLE.as_bytes()).ok().ok_or("a site")?;
+    assert!(rt; site.is_sound());
+    let Site { devices, .. } = site;
+    let alone = Site {
+        lines: Items::from_vec(Vec::new(rt.alloc())),
+        devices,
+    };
+    assert!(rt; !alone.is_sound());
+    Ok(())
+}
+
+/// Where an allocation is refused the answer is `Memory` and nothing else.
+#[test]
+fn refused_memory_is_told(rt: HostRuntime) {
+    match read_site(rt.alloc(), EXAMPLE.as_bytes()) {
+        Ok(site) => assert_eq!(rt; site.devices.as_slice().len(), 1),
+        Err(e) => assert_eq!(rt; (e.fault, e.row, e.column), (ListFault::Memory, 0, 0)),
+    }
+}
+
+/// A site with one line and devices of these members.
+fn with_devices(alloc: Global, members: &str) -> Result<String, AllocError> {
+    format!(in alloc; "line = [{{name = \"roof\", address = \"\"}}]\ndevice = [{members}]\n")
+}
+
+/// Whether such a site is read; else it is `BadSite`.
+fn assert_fits(
+    rt: &impl Abort,
+    alloc: Global,
+    members: &str,
+    fits: bool,
+) -> Result<(), AllocError> {
+    let text = match with_devices(alloc, members) {
+        Ok(text) => text,
+        Err(_) => with_devices(alloc, members)?,
+    };
+    match read(alloc, text.as_bytes()) {
+        Ok(_) => assert!(rt; fits, "{members}"),
+        Err(e) => assert_eq!(rt; (e, fits), (BAD_SITE, false), "{members}"),
+    }
+    Ok(())
+}
+
+#[test]
+fn devices_at_their_limits(rt: HostRuntime) -> Result<(), Fail> {
+    for (members, fits) in [
+        (
+            "{name = \"a\", line = \"roof\", unit = 255, gap = 124}",
+            true,
+        ),
+        ("{name = \"a\", line = \"roof\", unit = 0}", true),
+        (
+            "{name = \"roof\", line = \"roof\", unit = 0, else = 1}",
+            true,
+        ),
+        ("{name = \"a\", line = \"roof\", unit = 256}", false),
+        ("{name = \"a\", line = \"roof\", unit = -1}", false),
+        (
+            "{name = \"a\", line = \"roof\", unit = 1, gap = 125}",
+            false,
+        ),
+    ] {
+        assert_fits(&rt, rt.alloc(), members, fits)?;
+    }
+    Ok(())
+}
+
+#[test]
+fn members_of_another_kind(rt: HostRuntime) -> Result<(), Fail> {
+    for members in [
+        "{name = \"a\", line = \"roof\", unit = \"1\"}",
+        "{name = \"a\", line = \"roof\"}",
+        "{name = \"a\", line = \"roof\", unit = 1, gap = 1.0}",
+        "{name = \"a\", line = \"attic\", unit = 1}",
+        "{name = \"a b\", line = \"roof\", unit = 1}",
+        "{name = 1, line = \"roof\", unit = 1}",
+        "{line = \"roof\", unit = 1}",
+        "1",
+    ] {
+        assert_fits(&rt, rt.alloc(), members, false)?;
+    }
+    Ok(())
+}
+
+#[test]
+fn devices_that_may_agree(rt: HostRuntime) -> Result<(), Fail> {
+    for (members, fits) in [
+        (
+            "{name = \"a\", line = \"roof\", unit = 1}, {name = \"b\", line = \"roof\", unit = 2}",
+            true,
+        ),
+        (
+            "{name = \"a\", line = \"roof\", unit = 1}, {name = \"a\", line = \"roof\", unit = 2}",
+            false,
+        ),
+        (
+            "{name = \"a\", line = \"roof\", unit = 1}, {name = \"b\", line = \"roof\", unit = 1}",
+            false,
+        ),
+    ] {
+        assert_fits(&rt, rt.alloc(), members, fits)?;
+    }
+    Ok(())
+}
+
+#[test]
+fn texts_that_are_no_site(rt: HostRuntime) {
+    let cases: [&[u8]; 7] = [
+        b"",
+        b"\xFF",
+        b"line = []",
+        b"device = []",
+        b"[line]\nname = \"a\"\naddress = \"b\"\n",
+        b"[[line]]\nname = \"a\"\n[[device]]\nname = \"a\"\nline = \"a\"\nunit = 1\n",
+        b"device = []\nline = [{name = \"a\", address = \"\"}, {name = \"a\", address = \"\"}]",
+    ];
+    for text in cases {
+        assert_eq!(rt; read(rt.alloc(), text).err(), Some(BAD_SITE), "{text:?}");
+    }
+    assert!(rt; read(rt.alloc(), b"line = []\ndevice = []").is_ok());
+}
+
+fn many_once(alloc: Global, lines: u32, devices: u32) -> Result<String, AllocError> {
+    let mut text = String::new(alloc);
+    for number in 0..lines {
+        let line = format!(in alloc; "[[line]]\nname = \"l{number}\"\naddress = \"\"\n")?;
+        text.push_str(line.as_str())?;
+    }
+    for number in 0..devices {
+        let line = number % 64;
+        let unit = number / 64;
+        let device = format!(in alloc;
+            "[[device]]\nname = \"d{number}\"\nline = \"l{line}\"\nunit = {unit}\n"
+        )?;
+        text.push_str(device.as_str())?;
+    }
+    Ok(text)
+}
+
+/// So many lines and devices, each device behind the line of its number, and once more where
+/// memory was refused.
+fn many(alloc: Global, lines: u32, devices: u32) -> Result<String, AllocError> {
+    match many_once(alloc, lines, devices) {
+        Ok(text) => Ok(text),
+        Err(_) => many_once(alloc, lines, devices),
+    }
+}
+
+#[test]
+fn as_many_as_there_may_be(rt: HostRuntime) -> Result<(), Fail> {
+    for (lines, devices, fits) in [(64u32, 256u32, true), (65, 1, false), (64, 257, false)] {
+        let text = many(rt.alloc(), lines, devices)?;
+        assert_eq!(rt;
+            read(rt.alloc(), text.as_bytes()).is_ok(),
+            fits,
+            "{lines} {devices}"
+        );
+    }
+    Ok(())
+}

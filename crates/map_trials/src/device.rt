@@ -1,0 +1,269 @@
+//! Requests to the tables of a device, on both sides of each limit.
+use mb_map::{MapError, Mapping, Table};
+use mb_pdu::Unit;
+use std::alloc::Global;
+use std::process::Abort;
+use std::test::Fail;
+
+/// The four tables, and a second try where memory was refused.
+fn mapping(alloc: Global, start: u32, bits: u32, registers: u32) -> Result<Mapping, MapError> {
+    let make = || {
+        Mapping::new_start_address(
+            alloc, start, bits, start, bits, start, registers, start, registers,
+        )
+    };
+    match make() {
+        Err(MapError::Memory) => make(),
+        other => other,
+    }
+}
+
+fn assert_answer(rt: &impl Abort, mapping: &mut Mapping, asked: &[u8], answer: &[u8]) {
+    let asked = Unit::from_bytes(asked).expect(rt, "a unit");
+    let reply = mapping.reply(&asked);
+    assert_eq!(rt; reply.as_bytes(), answer);
+}
+
+/// Whether a request is answered normally, or the code of its exception.
+fn code(rt: &impl Abort, mapping: &mut Mapping, asked: &[u8]) -> Option<u8> {
+    let unit = Unit::from_bytes(asked).expect(rt, "a unit");
+    let reply = mapping.reply(&unit);
+    match reply.as_bytes() {
+        [function, code] if *function >= 0x80 => Some(*code),
+        _ => None,
+    }
+}
+
+#[test]
+fn checks_come_in_order(rt: HostRuntime) -> Result<(), Fail> {
+    let mut mapping = mapping(rt.alloc(), 0, 0, 10)?;
+    let rows: [(&[u8], &[u8]); 8] = [
+        (b"\x03\x00\x00\x00\x00", b"\x83\x03"),
+        (b"\x03\x00\x00\x00\x7D", b"\x83\x02"),
+        (b"\x03\x00\x00\x00\x7E", b"\x83\x03"),
+        (b"\x10\x00\x00\x00\x7C\xF8\x00\x00", b"\x90\x03"),
+        (b"\x05\x00\x00\x00\x01", b"\x85\x03"),
+        (b"\x07", b"\x87\x01"),
+        (b"\x03\x00\x09\x00\x01", b"\x03\x02\x00\x00"),
+        (b"\x03\x00\x0A\x00\x01", b"\x83\x02"),
+    ];
+    for (asked, answer) in rows {
+        assert_answer(&rt, &mut mapping, asked, answer);
+    }
+    assert_answer(&rt, &mut mapping, b"\x91\x00", b"\x91\x01");
+    assert_answer(&rt, &mut mapping, b"\x03\x00", b"\x83\x03");
+    Ok(())
+}
+
+#[test]
+fn masks_are_written(rt: HostRuntime) -> Result<(), Fail> {
+    let mut mapping = mapping(rt.alloc(), 0, 10, 10)?;
+    assert!(rt; mapping.set(Table::Holding, 4, 0x12));
+    assert_answer(
+        &rt,
+        &mut mapping,
+        b"\x16\x00\x04\x00\xF2\x00\x25",
+        b"\x16\x00\x04\x00\xF2\x00\x25",
+    );
+    assert_eq!(rt; mapping.get(Table::Holding, 4), Some(0x17));
+    Ok(())
+}
+
+#[test]
+fn coils_are_written(rt: HostRuntime) -> Result<(), Fail> {
+    let mut mapping = mapping(rt.alloc(), 0, 10, 10)?;
+    let rows: [(&[u8], &[u8]); 5] = [
+        (b"\x0F\x00\x00\x00\x03\x01\x05", b"\x0F\x00\x00\x00\x03"),
+        (b"\x01\x00\x00\x00\x03", b"\x01\x01\x05"),
+        (b"\x0F\x00\x00\x00\x03\x01\x0D", b"\x8F\x03"),
+        (b"\x05\x00\x01\xFF\x00", b"\x05\x00\x01\xFF\x00"),
+        (b"\x01\x00\x00\x00\x03", b"\x01\x01\x07"),
+    ];
+    for (asked, answer) in rows {
+        assert_answer(&rt, &mut mapping, asked, answer);
+    }
+    Ok(())
+}
+
+#[test]
+fn registers_are_written(rt: HostRuntime) -> Result<(), Fail> {
+    let mut mapping = mapping(rt.alloc(), 0, 10, 10)?;
+    let rows: [(&[u8], &[u8]); 5] = [
+        (
+            b"\x17\x00\x00\x00\x02\x00\x01\x00\x01\x02\x00\x07",
+            b"\x17\x04\x00\x00\x00\x07",
+        ),
+        (b"\x06\x00\x09\x01\x02", b"\x06\x00\x09\x01\x02"),
+        (b"\x03\x00\x09\x00\x01", b"\x03\x02\x01\x02"),
+        (
+            b"\x10\x00\x08\x00\x02\x04\x00\x0A\x01\x02",
+            b"\x10\x00\x08\x00\x02",
+        ),
+        (b"\x03\x00\x08\x00\x02", b"\x03\x04\x00\x0A\x01\x02"),
+    ];
+    for (asked, answer) in rows {
+        assert_answer(&rt, &mut mapping, asked, answer);
+    }
+    Ok(())
+}
+
+#[test]
+fn reads_keep_to_their_limits(rt: HostRuntime) -> Result<(), Fail> {
+    let mut mapping = mapping(rt.alloc(), 256, 2000, 125)?;
+    for (function, most) in [(1u8, 2000u16), (2, 2000), (3, 125), (4, 125)] {
+        let rows = [
+            (256, 1, None),
+            (256, most, None),
+            (256 + most - 1, 1, None),
+            (256, 0, Some(3)),
+            (256, most + 1, Some(3)),
+            (255, 1, Some(2)),
+            (255, 2, Some(2)),
+            (256 + most - 1, 2, Some(2)),
+            (256 + most, 1, Some(2)),
+            (65535, 1, Some(2)),
+            (65535, 2, Some(2)),
+        ];
+        for (start, quantity, wanted) in rows {
+            let [high, low] = start.to_be_bytes();
+            let [many, few] = quantity.to_be_bytes();
+            let asked = [function, high, low, many, few];
+            assert_eq!(rt;
+                code(&rt, &mut mapping, &asked),
+                wanted,
+                "{function} at {start}, {quantity}"
+            );
+        }
+    }
+    Ok(())
+}
+
+/// A write of function 15, 16 or 23 with its byte count and so many bytes of data.
+fn write(
+    alloc: Global,
+    head: &[u8],
+    quantity: u16,
+    count: u8,
+) -> Result<Vec<u8>, std::alloc::AllocError> {
+    let mut bytes = Vec::with_capacity(alloc, 300)?;
+    bytes.extend_from_slice(head)?;
+    bytes.extend_from_slice(&quantity.to_be_bytes())?;
+    bytes.push(count)?;
+    for _ in 0..count {
+        bytes.push(0)?;
+    }
+    Ok(bytes)
+}
+
+#[test]
+fn counted_writes_keep_to_their_limits(rt: HostRuntime) -> Result<(), Fail> {
+    let alloc = rt.alloc();
+    let mut mapping = mapping(alloc, 256, 1968, 125)?;
+    let rows: [(&[u8], u16, u8, Option<u8>); 17] = [
+        (b"\x0F\x01\x00", 1, 1, None),
+        (b"\x0F\x01\x00", 1968, 246, None),
+        (b"\x0F\x01\x00", 0, 0, Some(3)),
+        (b"\x0F\x01\x00", 1969, 247, Some(3)),
+        (b"\x0F\x00\xFF", 1, 1, Some(2)),
+        (b"\x0F\x08\xAF", 2, 1, Some(2)),
+        (b"\x10\x01\x00", 1, 2, None),
+        (b"\x10\x01\x00", 123, 246, None),
+        (b"\x10\x01\x00", 0, 0, Some(3)),
+        (b"\x10\x01\x00", 124, 246, Some(3)),
+        (b"\x10\x01\x7C", 2, 4, Some(2)),
+        (b"\x17\x01\x00\x00\x7D\x01\x00", 121, 242, None),
+        (b"\x17\x01\x00\x00\x7E\x01\x00", 121, 242, Some(3)),
+        (b"\x17\x01\x00\x00\x00\x01\x00", 1, 2, Some(3)),
+        (b"\x17\x01\x00\x00\x01\x01\x00", 122, 242, Some(3)),
+        (b"\x17\x01\x00\x00\x01\x00\xFF", 1, 2, Some(2)),
+        (b"\x17\x00\xFF\x00\x01\x01\x00", 1, 2, Some(2)),
+    ];
+    for (head, quantity, count, wanted) in rows {
+        let asked = match write(alloc, head, quantity, count) {
+            Ok(bytes) => bytes,
+            Err(_) => write(alloc, head, quantity, count)?,
+        };
+        assert_eq!(rt;
+            code(&rt, &mut mapping, asked.as_slice()),
+            wanted,
+            "{head:?}, {quantity}"
+        );
+    }
+    Ok(())
+}
+
+#[test]
+fn single_writes_keep_to_their_limits(rt: HostRuntime) -> Result<(), Fail> {
+    let mut mapping = mapping(rt.alloc(), 256, 1968, 125)?;
+    let rows: [(&[u8], Option<u8>); 9] = [
+        (b"\x05\x00\xFF\xFF\x00", Some(2)),
+        (b"\x05\x01\x00\xFF\x00", None),
+        (b"\x05\x08\xB0\xFF\x00", Some(2)),
+        (b"\x06\x00\xFF\x00\x00", Some(2)),
+        (b"\x06\x01\x7C\x00\x00", None),
+        (b"\x06\x01\x7D\x00\x00", Some(2)),
+        (b"\x16\x00\xFF\x00\x00\x00\x00", Some(2)),
+        (b"\x16\x01\x00\x00\x00\x00\x00", None),
+        (b"\x16\x01\x7D\x00\x00\x00\x00", Some(2)),
+    ];
+    for (asked, wanted) in rows {
+        assert_eq!(rt; code(&rt, &mut mapping, asked), wanted, "{asked:?}");
+    }
+    Ok(())
+}
+
+#[test]
+fn a_refused_range_changes_nothing(rt: HostRuntime) -> Result<(), Fail> {
+    let mut mapping = mapping(rt.alloc(), 5, 2, 2)?;
+    assert_answer(
+        &rt,
+        &mut mapping,
+        b"\x03\x00\x05\x00\x02",
+        b"\x03\x04\x00\x00\x00\x00",
+    );
+    assert_answer(&rt, &mut mapping, b"\x03\x00\x04\x00\x01", b"\x83\x02");
+    assert_answer(
+        &rt,
+        &mut mapping,
+        b"\x17\x00\x04\x00\x01\x00\x05\x00\x01\x02\x00\x07",
+        b"\x97\x02",
+    );
+    assert_answer(
+        &rt,
+        &mut mapping,
+        b"\x10\x00\x06\x00\x02\x04\x00\x07\x00\x07",
+        b"\x90\x02",
+    );
+    assert_answer(
+        &rt,
+        &mut mapping,
+        b"\x03\x00\x05\x00\x02",
+        b"\x03\x04\x00\x00\x00\x00",
+    );
+    assert!(rt; mapping.set(Table::Coil, 6, 1));
+    assert!(rt; !mapping.set(Table::Coil, 6, 2));
+    assert!(rt; !mapping.set(Table::Discrete, 7, 1));
+    assert!(rt; mapping.set(Table::Input, 5, 65535));
+    assert_eq!(rt; mapping.get(Table::Coil, 6), Some(1));
+    assert_eq!(rt; mapping.get(Table::Discrete, 6), Some(0));
+    assert_eq!(rt; mapping.get(Table::Input, 5), Some(65535));
+    assert_eq!(rt; mapping.get(Table::Holding, 4), None);
+    Ok(())
+}
+
+#[test]
+fn sizes_are_checked(rt: HostRuntime) -> Result<(), Fail> {
+    let alloc = rt.alloc();
+    let mut empty = mapping(alloc, 65536, 0, 0)?;
+    assert_answer(&rt, &mut empty, b"\x01\xFF\xFF\x00\x01", b"\x81\x02");
+    let whole = match Mapping::new(alloc, 65536, 65536, 65536, 65536) {
+        Err(MapError::Memory) => Mapping::new(alloc, 65536, 65536, 65536, 65536)?,
+        other => other?,
+    };
+    assert_eq!(rt; whole.get(Table::Holding, 65535), Some(0));
+    for (start, size) in [(65536, 1), (0, 65537), (u32::MAX, u32::MAX)] {
+        let refused = Mapping::new_start_address(alloc, 0, 1, 0, 1, 0, 1, start, size);
+        assert!(rt; refused.is_err_and(|e| e == MapError::TooLarge));
+    }
+    Ok(())
+}

@@ -1,0 +1,9 @@
+//! Tests of devices' tables, of the simulator and of its file. Nothing stands on this crate.
+#![tactic(auto)]
+
+#[cfg(test)]
+mod device;
+#[cfg(test)]
+mod image;
+#[cfg(test)]
+mod schedule;

@@ -1,4 +1,0 @@
-//! Point lists and site files as operators write them.
-mod columns;
-mod lists;
-mod sites;

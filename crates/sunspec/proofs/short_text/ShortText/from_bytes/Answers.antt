@@ -1,6 +1,0 @@
-use Rattle.std.proofs.Common.{length, arith, ap}
-use Rattle.sunspec.proofs.Texts.{over_zeros}
-use Rattle.sunspec.proofs.short_text.ShortText.from_bytes.Goals as goal
-
-pub invariant_of-result : goal.invariant_of-result
-invariant_of-result c = over_zeros (length c.args.bytes.now) c.copy_from_slice.new.self (ap length c.copy_from_slice.ensures.after) (omega arith)
