@@ -1,9 +1,1 @@
-pub mod Words
-pub mod Frames
-pub mod Commands
-pub mod Devices
-pub mod Printing
-pub mod Scripts
-pub mod Happened
-pub mod Ends
-pub mod Playing
+pub mod Faults

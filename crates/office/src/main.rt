@@ -1,21 +1,8 @@
 //! `office`: a polling office for Modbus devices, from the command line.
 #![tactic(auto)]
 
-mod acting;
-mod command;
-mod cutting;
-mod device;
-mod input;
-mod laws;
-mod opening;
-mod printing;
-mod replay;
-mod report;
-mod whole_frame;
-mod word;
-
 use mb_mbap::Counted;
-use replay::{ReplayFault, Replayed, replay};
+use office_script::{ReplayFault, Replayed, replay};
 use std::alloc::{AllocError, Global};
 use std::process::ExitCode;
 use std::{env, fmt, io};
@@ -40,7 +27,7 @@ impl Fault {
 
 impl fmt::Display for Fault {
     ghost use Rattle.std.specs.Prelude.{Some};
-    ghost use Rattle.office.specs.Ends.{told_text};
+    ghost use Rattle.office.specs.Faults.{told_text};
 
     ghost output = { λ fault. Some (told_text fault) };
 
@@ -66,7 +53,7 @@ impl From<ReplayFault> for Fault {
 impl From<AllocError> for Fault {
     ghost use Rattle.std.specs.Prelude.{◌≡◌};
     ghost use Rattle.office.specs.declared.Fault.TheVariants.{Failed};
-    ghost use Rattle.office.specs.declared.replay.ReplayFault.TheVariants.{Memory};
+    ghost use Rattle.office_script.specs.declared.replay.ReplayFault.TheVariants.{Memory};
 
     ghost from_gives = { λ _ fault. fault ≡ Failed Memory };
 

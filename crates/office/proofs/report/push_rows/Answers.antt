@@ -1,5 +1,0 @@
-use Rattle.office.proofs.Rows.{registers_at}
-use Rattle.office.proofs.report.push_rows.Goals as goal
-
-pub push_reading-requires-clause-registers : goal.push_reading-requires-clause-registers
-push_reading-requires-clause-registers c = rw c.row-item.is (registers_at c.args.known.now.point c.args.rows.now c.loop-row.row-index c.row-item.result c.loop-row-test.true c.requires.registers)

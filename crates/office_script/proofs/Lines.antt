@@ -1,0 +1,60 @@
+-- One line more of a script.
+use Rattle.std.proofs.Common.{◌≡◌, ◌+◌, ℕ, List, ◌∷◌, ◌++◌, false, Option, Some, None, refl, sym, ap, ◌∙◌, subst, append_assoc}
+use Rattle.std.specs.Prelude.{⊤}
+use Rattle.office_core.specs.History.{History}
+use Rattle.office_core.specs.Messages.{IsMessage}
+use Rattle.office_core.specs.declared.event.Event.{Event}
+use Rattle.office_script.specs.declared.device.Declared.{Declared}
+use Rattle.office_script.specs.declared.replay.Replayed.{Replayed}
+use Rattle.office_script.specs.declared.replay.Replayed.TheVariants.{FaultLine}
+use Rattle.office_script.specs.Commands.{event_of}
+use Rattle.office_script.specs.Devices.{device_of}
+use Rattle.office_script.specs.Printing.{fault_line}
+use Rattle.office_script.specs.Scripts.{Step, Skipped, Wrong, Declares, Does, does, step_of, is_skipped, printed, printed_for, then_before}
+use Rattle.office_script.specs.Playing.{Owes, IsWhole}
+
+-- a step at which a script breaks off
+abbrev pub IsFaulty : Step → Type 0
+IsFaulty Skipped = ⊥
+IsFaulty Wrong = ⊤
+IsFaulty (Declares said) = ⊤
+IsFaulty (Does seen) = ⊥
+
+-- a line that asks for nothing breaks a script off
+pub no_event : (line : List ℕ) → is_skipped line ≡ false → None ≡ event_of line → IsFaulty (step_of line)
+no_event line skip none = rw (skip, ← none) (by (device_of line))
+  where
+    by : (o : Option Declared) → IsFaulty (does None o)
+    by None = tt
+    by (Some said) = tt
+
+-- a line that asks for an event
+pub one_event : (line : List ℕ) (seen : Event) → is_skipped line ≡ false → Some seen ≡ event_of line → step_of line ≡ Does seen
+one_event line seen skip is = rw (skip, ← is) refl
+
+-- a script that breaks off is whole with the number of the line
+pub broken_off : (stands : History → Type 0) (done out more : List ℕ) (number : ℕ) (step : Step) (rest : List Step) (output : List ℕ) (ending : Replayed)
+    → IsFaulty step → more ≡ out ++ fault_line number → Owes stands (done ++ out) number (step ∷ rest) output ending → IsWhole (done ++ more) output (FaultLine number) ending
+broken_off stands done out more number Skipped rest output ending is e owes = absurd is
+broken_off stands done out more number (Does seen) rest output ending is e owes = absurd is
+broken_off stands done out more number Wrong rest output ending is e owes =
+    let (before, stood, text, end) = owes in
+    (ap (λ t. done ++ t) e ∙ sym (append_assoc done out (fault_line number)) ∙ text, end)
+broken_off stands done out more number (Declares said) rest output ending is e owes =
+    let (before, stood, text, end) = owes in
+    (ap (λ t. done ++ t) e ∙ sym (append_assoc done out (fault_line number)) ∙ text, end)
+
+-- a script goes on after an event
+pub went_on : (stands now : History → Type 0) (done out more : List ℕ) (number : ℕ) (line : List ℕ) (seen : Event) (rest : List Step) (output : List ℕ) (ending : Replayed)
+    → ((before : History) → stands before → IsMessage seen → now (then_before before seen) × (more ≡ out ++ printed_for before seen))
+    → IsMessage seen → step_of line ≡ Does seen → Owes stands (done ++ out) number (step_of line ∷ rest) output ending → Owes now (done ++ more) (number + 1) rest output ending
+went_on stands now done out more number line seen rest output ending acted message is owes =
+    let (before, stood, text, end) = subst (λ s. Owes stands (done ++ out) number (s ∷ rest) output ending) is owes in
+    let (follows, e) = acted before stood message in
+    let last = printed (then_before before seen) (number + 1) rest in (
+      then_before before seen,
+      follows,
+      ap (λ t. (done ++ t) ++ last) e ∙ ap (λ t. t ++ last) (sym (append_assoc done out (printed_for before seen)))
+          ∙ append_assoc (done ++ out) (printed_for before seen) last ∙ text,
+      end,
+    )

@@ -1,0 +1,164 @@
+-- The events that lines ask for are messages: their texts are bytes, and their numbers are of their types.
+use Rattle.std.proofs.Common.{◌≡◌, ◌≤◌, ◌<◌, ◌+◌, ◌-◌, ◌*◌, ℕ, zero, suc, Bool, true, false, cond, List, [], ◌∷◌, length, drop, refl, sym, ◌∙◌, subst, arith, Option, Some, None}
+use Rattle.std.specs.Prelude.{codes, ◌==◌, ◌&&◌, nat_le, nat_lt}
+use Rattle.std.specs.Char.{is_ascii, is_ascii_digit}
+use Rattle.std.specs.List.{list_all}
+use Rattle.std.specs.Str.{bytes_eq}
+use Rattle.std.proofs.lemmas.Bool.{and_parts}
+use Rattle.std.proofs.lemmas.Bool.Decides.{nat_tests}
+use Rattle.std.proofs.lemmas.List.Folds.{list_all-append}
+use Rattle.hex.specs.Hex.{hex_digit_value}
+use Rattle.mb_pdu.specs.Replies.{IsBytes}
+use Rattle.mb_mbap.specs.declared.frame.Frame.{Frame}
+use Rattle.sunspec.specs.Digits.{number_within, is_number_within}
+use Rattle.std.specs.Str.Parse.{digits_value}
+use Rattle.read_planner.specs.declared.Read.{Read}
+use Rattle.office_core.specs.declared.event.Event.{Event}
+use Rattle.office_core.specs.declared.event.Event.TheVariants.{Load, Open, Ask, Arrive}
+use Rattle.office_core.specs.Messages.{IsMessage}
+use Rattle.office_script.specs.Words.{words_of, word_at, is_text, joined, byte_of, onto_bytes, bytes_of}
+use Rattle.office_script.specs.Frames.{fields_in, is_whole}
+use Rattle.office_script.specs.Commands.{number_limit, byte_limit, word_limit, list_header, list_with, point_of, open_of, read_of, asking, ask_of, frame_in, arriving, reply_of, event_of_words, record_in, event_with, event_of}
+use Rattle.office_script.proofs.Texts.{all_ascii}
+
+same : {A : Type 0} (x y : A) → Some x ≡ Some y → y ≡ x
+same x y e = cc
+
+-- ---- texts
+
+ascii_bytes : (text : List ℕ) → list_all is_ascii text ≡ true → IsBytes text
+ascii_bytes text h = λ i. let small = all_ascii text h i in omega (arith, small)
+
+text_bytes : (word : List ℕ) → is_text word ≡ true → IsBytes word
+text_bytes word h = ascii_bytes word (and_parts (nat_lt 0 (length word)) (list_all is_ascii word) h).1
+
+-- ---- numbers
+
+-- a number that digits spell is at most the limit
+within_limit : (limit n : ℕ) (word : List ℕ) → Some n ≡ number_within limit word → n ≤ limit
+within_limit limit n word is = by (is_number_within limit word) refl is
+  where
+    by : (b : Bool) → is_number_within limit word ≡ b → Some n ≡ cond b (Some (digits_value 10 word)) None → n ≤ limit
+    by false h e = absurd (cc)
+    by true h e =
+        let parts = and_parts (list_all is_ascii_digit word) (nat_le (digits_value 10 word) limit) (and_parts (nat_lt 0 (length word)) (list_all is_ascii_digit word && nat_le (digits_value 10 word) limit) h).1 in
+        let value = same n (digits_value 10 word) e in
+        let small : digits_value 10 word ≤ limit = grind (arith, nat_tests, parts) in
+        omega (arith, value, small)
+
+-- ---- bytes
+
+hex_below : (c d : ℕ) → hex_digit_value c ≡ Some d → d < 16
+hex_below c d e = by (nat_le 65 c && nat_le c 70) (nat_le 97 c && nat_le c 102) (nat_le 48 c && nat_le c 57) refl refl refl e
+  where
+    by : (p q r : Bool) → (nat_le 65 c && nat_le c 70) ≡ p → (nat_le 97 c && nat_le c 102) ≡ q → (nat_le 48 c && nat_le c 57) ≡ r
+        → cond p (Some (c - 55)) (cond q (Some (c - 87)) (cond r (Some (c - 48)) None)) ≡ Some d → d < 16
+    by true q r hp hq hr e = let top = (and_parts (nat_le 65 c) (nat_le c 70) hp).1 in let value = same (c - 55) d e in let small : c ≤ 70 = grind (arith, nat_tests, top) in omega (arith, value, small)
+    by false true r hp hq hr e = let top = (and_parts (nat_le 97 c) (nat_le c 102) hq).1 in let value = same (c - 87) d e in let small : c ≤ 102 = grind (arith, nat_tests, top) in omega (arith, value, small)
+    by false false true hp hq hr e = let top = (and_parts (nat_le 48 c) (nat_le c 57) hr).1 in let value = same (c - 48) d e in let small : c ≤ 57 = grind (arith, nat_tests, top) in omega (arith, value, small)
+    by false false false hp hq hr e = absurd (cc)
+
+byte_below : (word : List ℕ) (b : ℕ) → byte_of word ≡ Some b → b < 256
+byte_below [] b e = absurd (cc)
+byte_below (x ∷ []) b e = absurd (cc)
+byte_below (x ∷ y ∷ []) b e = by (hex_digit_value x) (hex_digit_value y) (hex_below x) (hex_below y) e
+  where
+    by : (o p : Option ℕ) → ((d : ℕ) → o ≡ Some d → d < 16) → ((d : ℕ) → p ≡ Some d → d < 16) → joined o p ≡ Some b → b < 256
+    by None p ho hp e = absurd (cc)
+    by (Some high) None ho hp e = absurd (cc)
+    by (Some high) (Some low) ho hp e = let h = ho high refl in let l = hp low refl in let value = same (high * 16 + low) b e in omega (arith, h, l, value)
+byte_below (x ∷ y ∷ z ∷ rest) b e = absurd (cc)
+
+-- bytes that words spell are bytes
+bytes_below : (words : List (List ℕ)) (bytes : List ℕ) → bytes_of words ≡ Some bytes → IsBytes bytes
+bytes_below [] bytes e = let value = same [] bytes e in subst IsBytes (sym value) (λ i. omega arith)
+bytes_below (word ∷ words) bytes e = by (byte_of word) (bytes_of words) (byte_below word) (bytes_below words) e
+  where
+    by : (o : Option ℕ) (p : Option (List ℕ)) → ((b : ℕ) → o ≡ Some b → b < 256) → ((bs : List ℕ) → p ≡ Some bs → IsBytes bs) → onto_bytes o p ≡ Some bytes → IsBytes bytes
+    by None p ho hp e = absurd (cc)
+    by (Some b) None ho hp e = absurd (cc)
+    by (Some b) (Some bs) ho hp e = subst IsBytes (sym (same (b ∷ bs) bytes e)) (each (ho b refl) (hp bs refl))
+      where
+        each : b < 256 → IsBytes bs → IsBytes (b ∷ bs)
+        each here more zero = here
+        each here more (suc i) = more i
+
+drop_bytes : (n : ℕ) (bytes : List ℕ) → IsBytes bytes → IsBytes (drop n bytes)
+drop_bytes zero bytes h = h
+drop_bytes (suc n) [] h = h
+drop_bytes (suc n) (b ∷ bytes) h = drop_bytes n bytes (λ i. h (suc i))
+
+-- ---- events
+
+point_message : (said : List ℕ) (e : Event) → Some e ≡ point_of said → IsMessage e
+point_message said e is = by (list_all is_ascii said) refl is
+  where
+    by : (b : Bool) → list_all is_ascii said ≡ b → Some e ≡ cond b (Some (Load (list_with said))) None → IsMessage e
+    by false h is = absurd (cc)
+    by true h is = subst IsMessage (same e (Load (list_with said)) is) (ascii_bytes (list_with said) (list_all-append is_ascii list_header said ∙ h))
+
+open_message : (words : List (List ℕ)) (e : Event) → Some e ≡ open_of words → IsMessage e
+open_message words e is = by (length words == 1) (is_text (word_at words 0)) refl is
+  where
+    by : (a b : Bool) → is_text (word_at words 0) ≡ b → Some e ≡ cond (a && b) (Some (Open (word_at words 0))) None → IsMessage e
+    by false b h is = absurd (cc)
+    by true false h is = absurd (cc)
+    by true true h is = subst IsMessage (same e (Open (word_at words 0)) is) (text_bytes (word_at words 0) h)
+
+ask_message : (words : List (List ℕ)) (e : Event) → Some e ≡ ask_of words → IsMessage e
+ask_message words e is = by (length words == 6) is
+  where
+    asked : (o p : Option ℕ) (device : List ℕ) (r : Option Read) → ((n : ℕ) → Some n ≡ o → n ≤ number_limit) → ((n : ℕ) → Some n ≡ p → n ≤ number_limit)
+        → Some e ≡ asking o device p r → IsMessage e
+    asked None p device r ho hp is = absurd (cc)
+    asked (Some conn) None device r ho hp is = absurd (cc)
+    asked (Some conn) (Some slot) device None ho hp is = absurd (cc)
+    asked (Some conn) (Some slot) device (Some r) ho hp is = named (is_text device) refl is
+      where
+        named : (b : Bool) → is_text device ≡ b → Some e ≡ cond b (Some (Ask conn device slot r)) None → IsMessage e
+        named false h is = absurd (cc)
+        named true h is = subst IsMessage (same e (Ask conn device slot r) is) (text_bytes device h, ho conn refl, hp slot refl)
+
+    the_read : Option Read
+    the_read = read_of (number_within byte_limit (word_at words 3)) (number_within word_limit (word_at words 4)) (number_within word_limit (word_at words 5))
+
+    by : (b : Bool) → Some e ≡ cond b (asking (number_within number_limit (word_at words 0)) (word_at words 1) (number_within number_limit (word_at words 2)) the_read) None → IsMessage e
+    by false is = absurd (cc)
+    by true is =
+        asked (number_within number_limit (word_at words 0)) (number_within number_limit (word_at words 2)) (word_at words 1) the_read
+        (λ n h. within_limit number_limit n (word_at words 0) h) (λ n h. within_limit number_limit n (word_at words 2) h) is
+
+frame_bytes : (o : Option (List ℕ)) (frame : Frame) → ((bs : List ℕ) → o ≡ Some bs → IsBytes bs) → Some frame ≡ frame_in o → IsBytes frame.unit
+frame_bytes None frame h is = absurd (cc)
+frame_bytes (Some bytes) frame h is = by (is_whole bytes) is
+  where
+    by : (b : Bool) → Some frame ≡ cond b (Some (fields_in bytes)) None → IsBytes frame.unit
+    by false is = absurd (cc)
+    by true is = subst (λ (f : Frame). IsBytes f.unit) (same frame (fields_in bytes) is) (drop_bytes 7 bytes (h bytes refl))
+
+reply_message : (words : List (List ℕ)) (e : Event) → Some e ≡ reply_of words → IsMessage e
+reply_message [] e is = absurd (cc)
+reply_message (conn ∷ bytes) e is = by (number_within number_limit conn) (frame_in (bytes_of bytes)) (λ frame h. frame_bytes (bytes_of bytes) frame (bytes_below bytes) h) is
+  where
+    by : (o : Option ℕ) (p : Option Frame) → ((frame : Frame) → Some frame ≡ p → IsBytes frame.unit) → Some e ≡ arriving o p → IsMessage e
+    by None p h is = absurd (cc)
+    by (Some c) None h is = absurd (cc)
+    by (Some c) (Some frame) h is = subst IsMessage (same e (Arrive c frame) is) (h frame refl)
+
+words_message : (words : List (List ℕ)) (e : Event) → Some e ≡ event_of_words words → IsMessage e
+words_message [] e is = absurd (cc)
+words_message (name ∷ rest) e is = by (bytes_eq name (codes "open")) (bytes_eq name (codes "ask")) (bytes_eq name (codes "reply")) is
+  where
+    by : (a b c : Bool) → Some e ≡ cond a (open_of rest) (cond b (ask_of rest) (cond c (reply_of rest) None)) → IsMessage e
+    by true b c is = open_message rest e is
+    by false true c is = ask_message rest e is
+    by false false true is = reply_message rest e is
+    by false false false is = absurd (cc)
+
+-- what a line asks for is a message
+pub is_message : (line : List ℕ) (e : Event) → Some e ≡ event_of line → IsMessage e
+is_message line e is = by (record_in line) is
+  where
+    by : (o : Option (List ℕ)) → Some e ≡ event_with o (words_of line) → IsMessage e
+    by (Some said) is = point_message said e is
+    by None is = words_message (words_of line) e is

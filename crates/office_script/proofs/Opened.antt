@@ -1,0 +1,76 @@
+-- The lines that declare devices.
+use Rattle.std.proofs.Common.{◌≡◌, ◌+◌, ℕ, List, [], ◌∷◌, true, false, length, refl, ap, ◌∙◌, Option, Some, None, arith}
+use Rattle.std.specs.Str.Lines.{lines}
+use Rattle.point_list.specs.declared.site.Site.{Site}
+use Rattle.point_list.specs.declared.site.Line.{Line}
+use Rattle.point_list.specs.declared.site.Device.{Device}
+use Rattle.point_list.specs.Sites.{all_differ, is_sound}
+use Rattle.office_core.specs.declared.event.Event.{Event}
+use Rattle.office_script.specs.declared.device.Declared.{Declared}
+use Rattle.office_script.specs.declared.replay.Replayed.TheVariants.{FaultLine}
+use Rattle.office_script.specs.Commands.{event_of}
+use Rattle.office_script.specs.Devices.{device_of, with_device, is_site}
+use Rattle.office_script.specs.Printing.{fault_line}
+use Rattle.office_script.specs.Scripts.{Step, steps_in, steps_of, step_of, Declares, Does, Skipped, Wrong, is_skipped, does, declared_in, declared_by, opening, opening_ends, begun, ends}
+
+-- a text's first line is its first step
+pub first_step : (text line rest : List ℕ) → lines text ≡ line ∷ lines rest → steps_of text ≡ step_of line ∷ steps_of rest
+first_step text line rest e = ap steps_in e
+
+-- what is printed, and how it ends, from there on
+abbrev pub AreSame : Site → ℕ → List Step → Site → ℕ → List Step → Type 0
+AreSame site number steps later next rest = (opening site number steps ≡ opening later next rest) × (opening_ends site number steps ≡ opening_ends later next rest)
+
+-- a skipped line counts as a line
+pub skipped : (site : Site) (number : ℕ) (text line rest : List ℕ) → lines text ≡ line ∷ lines rest → is_skipped line ≡ true
+    → AreSame site number (steps_of text) site (number + 1) (steps_of rest)
+skipped site number text line rest e h = (rw (e, h) refl, rw (e, h) refl)
+
+-- what a line that isn't skipped is for
+read : (line : List ℕ) → is_skipped line ≡ false → step_of line ≡ does (event_of line) (device_of line)
+read line h = rw h refl
+
+-- a step that declares a device is that device's
+declares : (step : Step) (said : Declared) → Some said ≡ declared_in step → step ≡ Declares said
+declares Skipped said e = absurd (cc)
+declares Wrong said e = absurd (cc)
+declares (Declares other) said e = let same : other ≡ said = cc in ap Declares same
+declares (Does seen) said e = absurd (cc)
+
+-- a text's first line that declares a device
+declaring_step : (text line rest : List ℕ) (said : Declared) → lines text ≡ line ∷ lines rest → Some said ≡ declared_by line → steps_of text ≡ Declares said ∷ steps_of rest
+declaring_step text line rest said e d = first_step text line rest e ∙ ap (λ step. step ∷ steps_of rest) (declares (step_of line) said d)
+
+-- a device more
+pub declared : (site : Site) (number : ℕ) (text line rest : List ℕ) (said : Declared) → lines text ≡ line ∷ lines rest → Some said ≡ declared_by line → is_site (with_device site said) ≡ true
+    → AreSame site number (steps_of text) (with_device site said) (number + 1) (steps_of rest)
+declared site number text line rest said e d s = let steps = declaring_step text line rest said e d in (rw (steps, s) refl, rw (steps, s) refl)
+
+-- a device that makes no site
+pub broken : (site : Site) (number : ℕ) (text line rest : List ℕ) (said : Declared) → lines text ≡ line ∷ lines rest → Some said ≡ declared_by line → is_site (with_device site said) ≡ false
+    → (opening site number (steps_of text) ≡ fault_line number) × (opening_ends site number (steps_of text) ≡ FaultLine number)
+broken site number text line rest said e d s = let steps = declaring_step text line rest said e d in (rw (steps, s) refl, rw (steps, s) refl)
+
+begun_by : (site : Site) (number : ℕ) (o : Option Event) (p : Option Declared) (more : List Step) → None ≡ declared_in (does o p)
+    → (opening site number (does o p ∷ more) ≡ begun site number (does o p ∷ more)) × (opening_ends site number (does o p ∷ more) ≡ ends number (does o p ∷ more))
+begun_by site number (Some seen) p more none = (refl, refl)
+begun_by site number None None more none = (refl, refl)
+begun_by site number None (Some said) more none = absurd (cc)
+
+-- a line that declares no device begins the rest
+pub ready : (site : Site) (number : ℕ) (text line rest : List ℕ) → lines text ≡ line ∷ lines rest → is_skipped line ≡ false → None ≡ declared_by line
+    → (opening site number (steps_of text) ≡ begun site number (steps_of text)) × (opening_ends site number (steps_of text) ≡ ends number (steps_of text))
+ready site number text line rest e h d =
+    let both = begun_by site number (event_of line) (device_of line) (steps_of rest) (d ∙ ap declared_in (read line h)) in
+    (rw (e, h) both.0, rw (e, h) both.1)
+
+-- and so does the end
+pub ready_at_end : (site : Site) (number : ℕ) (text : List ℕ) → length text ≡ 0
+    → (opening site number (steps_of text) ≡ begun site number (steps_of text)) × (opening_ends site number (steps_of text) ≡ ends number (steps_of text))
+ready_at_end site number [] none = (refl, refl)
+ready_at_end site number (x ∷ xs) none = absurd (omega arith)
+
+-- no lines and no devices make a site
+pub nothing_sound : (lines : List Line) (devices : List Device) → lines ≡ [] → devices ≡ [] → is_sound lines devices ≡ true
+unfolding all_differ
+nothing_sound lines devices e f = rw (e, f) refl

@@ -1,0 +1,87 @@
+-- What a line asks of the office.
+use Rattle.std.specs.Prelude.{ℕ, List, [], ◌∷◌, ◌++◌, ◌&&◌, Option, Some, None, if◌then◌else◌, length, ◌==◌, codes, drop, take}
+use Rattle.std.specs.Char.{is_ascii}
+use Rattle.std.specs.List.{list_all}
+use Rattle.std.specs.Str.{bytes_eq}
+use Rattle.mb_mbap.specs.declared.frame.Frame.{Frame}
+use Rattle.sunspec.specs.Digits.{number_within}
+use Rattle.read_planner.specs.declared.Read.{Read}
+use Rattle.office_core.specs.declared.event.Event.{Event}
+use Rattle.office_core.specs.declared.event.Event.TheVariants.{Load, Open, Ask, Arrive}
+use Rattle.office_script.specs.Words.{words_of, word_at, is_text, bytes_of}
+use Rattle.office_script.specs.Frames.{frame_of}
+
+abbrev pub byte_limit : ℕ
+byte_limit = 255
+
+abbrev pub word_limit : ℕ
+word_limit = 65535
+
+abbrev pub number_limit : ℕ
+number_limit = 4294967295
+
+-- the header of a point list, and its end of line
+abbrev pub list_header : List ℕ
+list_header = codes "name,device,table,address,type,length,scale,role,roll\n"
+
+-- the list of the header and one record
+abbrev pub list_with : List ℕ → List ℕ
+list_with said = list_header ++ said
+
+-- `point RECORD`: the record is all that follows the space
+abbrev pub point_of : List ℕ → Option Event
+point_of said = if list_all is_ascii said then Some (Load (list_with said)) else None
+
+-- `open LINE`
+abbrev pub open_of : List (List ℕ) → Option Event
+open_of words = if length words == 1 && is_text (word_at words 0) then Some (Open (word_at words 0)) else None
+
+-- the read that three numbers are
+abbrev pub read_of : Option ℕ → Option ℕ → Option ℕ → Option Read
+read_of (Some function) (Some start) (Some quantity) = Some (record { function = function; span = record { start = start; quantity = quantity } })
+read_of _ _ _ = None
+
+abbrev pub asking : Option ℕ → List ℕ → Option ℕ → Option Read → Option Event
+asking (Some conn) device (Some slot) (Some read) = if is_text device then Some (Ask conn device slot read) else None
+asking _ device _ _ = None
+
+-- `ask CONNECTION DEVICE SLOT FUNCTION START QUANTITY`
+abbrev pub ask_of : List (List ℕ) → Option Event
+ask_of words =
+    if length words == 6
+    then asking (number_within number_limit (word_at words 0)) (word_at words 1) (number_within number_limit (word_at words 2))
+    (read_of (number_within byte_limit (word_at words 3)) (number_within word_limit (word_at words 4)) (number_within word_limit (word_at words 5)))
+    else None
+
+abbrev pub frame_in : Option (List ℕ) → Option Frame
+frame_in None = None
+frame_in (Some bytes) = frame_of bytes
+
+abbrev pub arriving : Option ℕ → Option Frame → Option Event
+arriving (Some conn) (Some frame) = Some (Arrive conn frame)
+arriving _ _ = None
+
+-- `reply CONNECTION` and the bytes of one whole frame
+abbrev pub reply_of : List (List ℕ) → Option Event
+reply_of [] = None
+reply_of (conn ∷ bytes) = arriving (number_within number_limit conn) (frame_in (bytes_of bytes))
+
+-- the first word names the command
+abbrev pub event_of_words : List (List ℕ) → Option Event
+event_of_words [] = None
+event_of_words (name ∷ rest) =
+    if bytes_eq name (codes "open") then open_of rest else
+    if bytes_eq name (codes "ask") then ask_of rest else
+    if bytes_eq name (codes "reply") then reply_of rest else None
+
+-- what follows `point` and its space
+abbrev pub record_in : List ℕ → Option (List ℕ)
+record_in line = if bytes_eq (take 6 line) (codes "point ") then Some (drop 6 line) else None
+
+abbrev pub event_with : Option (List ℕ) → List (List ℕ) → Option Event
+event_with (Some said) words = point_of said
+event_with None words = event_of_words words
+
+-- the event that a line asks for
+abbrev pub event_of : List ℕ → Option Event
+event_of line = event_with (record_in line) (words_of line)

@@ -1,0 +1,9 @@
+pub mod Words
+pub mod Frames
+pub mod Commands
+pub mod Devices
+pub mod Printing
+pub mod Scripts
+pub mod Happened
+pub mod Ends
+pub mod Playing

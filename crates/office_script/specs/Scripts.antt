@@ -1,0 +1,129 @@
+-- What a script means: what is printed for its lines, and how it ends.
+use Rattle.std.specs.Prelude.{ℕ, ◌+◌, List, [], ◌∷◌, ◌++◌, Bool, false, ◌||◌, Option, Some, None, if◌then◌else◌, length, ◌==◌, slice_index, Result, Ok, Err}
+use Rattle.std.specs.List.{list_any}
+use Rattle.std.specs.Str.Lines.{lines}
+use Rattle.point_list.specs.Columns.{is_device}
+use Rattle.point_list.specs.Lists.{records_of}
+use Rattle.point_list.specs.ListMeaning.{list_meaning}
+use Rattle.point_list.specs.declared.error.ListError.{ListError}
+use Rattle.point_list.specs.declared.point.ListRow.{ListRow}
+use Rattle.point_list.specs.declared.point.Role.TheVariants.{Setting}
+use Rattle.point_list.specs.declared.site.Site.{Site}
+use Rattle.office_core.specs.declared.event.Event.{Event}
+use Rattle.office_core.specs.declared.event.Event.TheVariants as event
+use Rattle.office_core.specs.Sites.{no_site}
+use Rattle.office_core.specs.Loads.{same_role}
+use Rattle.office_core.specs.History.{History, Restart, site_of, tables}
+use Rattle.office_core.specs.Answers.{answer_of}
+use Rattle.office_core.specs.Messages.{happening_of}
+use Rattle.office_script.specs.declared.device.Declared.{Declared}
+use Rattle.office_script.specs.declared.replay.Replayed.{Replayed}
+use Rattle.office_script.specs.declared.replay.Replayed.TheVariants.{Done, FaultLine}
+use Rattle.office_script.specs.Commands.{event_of}
+use Rattle.office_script.specs.Devices.{device_of, with_device, is_site}
+use Rattle.office_script.specs.Printing.{answer_line, setting_line, fault_line, report_of}
+
+-- ---- lines
+
+-- what a line is for
+pub data Step : Type 0 where
+  Skipped : Step
+  Wrong : Step
+  Declares : (said : Declared) → Step
+  Does : (seen : Event) → Step
+
+-- an empty line, or a comment
+abbrev pub is_skipped : List ℕ → Bool
+is_skipped line = length line == 0 || slice_index line 0 == 35
+
+abbrev pub does : Option Event → Option Declared → Step
+does (Some seen) said = Does seen
+does None (Some said) = Declares said
+does None None = Wrong
+
+abbrev pub step_of : List ℕ → Step
+step_of line = if is_skipped line then Skipped else does (event_of line) (device_of line)
+
+abbrev pub declared_in : Step → Option Declared
+declared_in Skipped = None
+declared_in Wrong = None
+declared_in (Declares said) = Some said
+declared_in (Does seen) = None
+
+-- the device that a line declares
+abbrev pub declared_by : List ℕ → Option Declared
+declared_by line = declared_in (step_of line)
+
+abbrev pub steps_in : List (List ℕ) → List Step
+steps_in [] = []
+steps_in (line ∷ more) = step_of line ∷ steps_in more
+
+-- the lines of a text, each ended by a line feed or a carriage return and a line feed, the last perhaps by nothing
+abbrev pub steps_of : List ℕ → List Step
+steps_of text = steps_in (lines text)
+
+-- ---- what is printed
+
+abbrev pub has_setting : Result (List ListRow) ListError → Bool
+has_setting (Ok rows) = list_any (λ (said : ListRow). same_role said.point.role Setting) rows
+has_setting (Err e) = false
+
+-- a list of the site with a point that can be set, which isn't taken yet
+abbrev pub lists_setting : Site → Event → Bool
+lists_setting site (event.Load list) = has_setting (list_meaning (is_device site) (records_of list))
+lists_setting site _ = false
+
+-- what an event prints after what happened before
+abbrev pub printed_for : History → Event → List ℕ
+printed_for before seen = if lists_setting (site_of before) seen then setting_line else answer_line (answer_of before (happening_of before seen))
+
+-- what happened by then
+abbrev pub then_before : History → Event → History
+then_before before seen = if lists_setting (site_of before) seen then before else happening_of before seen ∷ before
+
+-- what is printed from the line of this number on: an answer for each event, and at the end the report, but at a line of
+-- another form its number and nothing more
+abbrev pub printed : History → ℕ → List Step → List ℕ
+printed before number [] = report_of (tables before)
+printed before number (Skipped ∷ more) = printed before (number + 1) more
+printed before number (Wrong ∷ more) = fault_line number
+printed before number (Declares said ∷ more) = fault_line number
+printed before number (Does seen ∷ more) = printed_for before seen ++ printed (then_before before seen) (number + 1) more
+
+-- and how it ends
+abbrev pub ends : ℕ → List Step → Replayed
+ends number [] = Done
+ends number (Skipped ∷ more) = ends (number + 1) more
+ends number (Wrong ∷ more) = FaultLine number
+ends number (Declares said ∷ more) = FaultLine number
+ends number (Does seen ∷ more) = ends (number + 1) more
+
+-- ---- the devices, which are declared before all else
+
+-- an office of this site begins, and goes on so
+abbrev pub begun : Site → ℕ → List Step → List ℕ
+begun site number steps = printed (Restart site ∷ []) number steps
+
+abbrev pub opening : Site → ℕ → List Step → List ℕ
+opening site number [] = begun site number []
+opening site number (Skipped ∷ more) = opening site (number + 1) more
+opening site number (Wrong ∷ more) = fault_line number
+opening site number (Declares said ∷ more) = if is_site (with_device site said) then opening (with_device site said) (number + 1) more else fault_line number
+opening site number (Does seen ∷ more) = begun site number (Does seen ∷ more)
+
+abbrev pub opening_ends : Site → ℕ → List Step → Replayed
+opening_ends site number [] = Done
+opening_ends site number (Skipped ∷ more) = opening_ends site (number + 1) more
+opening_ends site number (Wrong ∷ more) = FaultLine number
+opening_ends site number (Declares said ∷ more) = if is_site (with_device site said) then opening_ends (with_device site said) (number + 1) more else FaultLine number
+opening_ends site number (Does seen ∷ more) = ends number (Does seen ∷ more)
+
+-- ---- the whole
+
+-- the output of a script
+abbrev pub output_of : List ℕ → List ℕ
+output_of script = opening no_site 1 (steps_of script)
+
+-- and how it ends
+abbrev pub outcome_of : List ℕ → Replayed
+outcome_of script = opening_ends no_site 1 (steps_of script)

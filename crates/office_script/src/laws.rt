@@ -1,0 +1,19 @@
+//! Laws of the definitions alone.
+
+ghost use Rattle.std.specs.Prelude.{◌≡◌, ◌++◌, ℕ, List};
+ghost use Rattle.office_core.specs.History.{tables};
+ghost use Rattle.office_core.specs.Legal.{Legal};
+ghost use Rattle.office_script.specs.Happened.{history_of};
+ghost use Rattle.office_script.specs.Printing.{report_of};
+ghost use Rattle.office_script.specs.Scripts.{outcome_of, output_of};
+
+use crate::replay::Replayed;
+
+/// Whatever a script says, what happens in it makes a legal history, so that the laws of
+/// `office_core` hold of it; and a script that ends with its report ends with the tables of that
+/// history.
+pub fn legal_scripts()
+    ensures legal { (script : List ℕ) → Legal (history_of script) }
+    ensures report { (script : List ℕ) → outcome_of script ≡ Replayed.Done
+        → (answers : List ℕ) × (output_of script ≡ answers ++ report_of (tables (history_of script))) }
+{}

@@ -1,0 +1,137 @@
+//! Answers as lines of text.
+ghost use Rattle.std.specs.Prelude.{◌≡◌, ◌++◌, OnOk, codes, decimal, flat_map};
+ghost use Rattle.mb_mbap.specs.Stream.{spelled};
+ghost use Rattle.point_list.specs.FaultTexts.{fault_text};
+ghost use Rattle.office_script.specs.Printing.{answer_line, arrival_line, fault_line, line_end, load_fault_text, numbered_line, outcome_line, refusal_line, refusal_name, setting_line, spaced_byte};
+
+use itoa::Buffer;
+use mb_mbap::Frame;
+use office_core::{Arrival, EventAnswer, LoadFault, OfficeError, Outcome};
+use point_list::ListFault;
+use std::alloc::{AllocError, Global};
+
+pub(crate) fn push_number(out: &mut Vec<u8>, number: u32) -> Result<(), AllocError>
+    ensures { OnOk result (out.new.items ≡ out.old.items ++ decimal number) }
+{
+    let mut buffer = Buffer::new();
+    out.extend_from_slice(buffer.format(number).as_bytes())
+}
+
+/// Words and a number as a line.
+fn push_numbered(out: &mut Vec<u8>, words: &[u8], number: u32) -> Result<(), AllocError>
+    ensures { OnOk result (out.new.items ≡ out.old.items ++ numbered_line words.now number) }
+{
+    out.extend_from_slice(words)?;
+    push_number(out, number)?;
+    Ok(out.push(b'\n')?)
+}
+
+fn push_bytes(alloc: Global, out: &mut Vec<u8>, bytes: &[u8]) -> Result<(), AllocError>
+    ensures { OnOk result (out.new.items ≡ out.old.items ++ flat_map spaced_byte bytes.now) }
+{
+    for byte in bytes {
+        let digits = hex::encode_upper(alloc, [*byte])?;
+        out.push(b' ')?;
+        out.extend_from_slice(digits.as_bytes())?;
+    }
+    Ok(())
+}
+
+fn push_query(alloc: Global, out: &mut Vec<u8>, frame: &Frame) -> Result<(), AllocError>
+    ensures { OnOk result (out.new.items ≡ out.old.items ++ (codes "query" ++ flat_map spaced_byte (spelled frame.now) ++ line_end)) }
+{
+    out.extend_from_slice(b"query")?;
+    push_bytes(alloc, out, frame.encode().as_bytes())?;
+    Ok(out.push(b'\n')?)
+}
+
+fn push_refusal(out: &mut Vec<u8>, why: &[u8]) -> Result<(), AllocError>
+    ensures { OnOk result (out.new.items ≡ out.old.items ++ refusal_line why.now) }
+{
+    out.extend_from_slice(b"refused ")?;
+    out.extend_from_slice(why)?;
+    Ok(out.push(b'\n')?)
+}
+
+fn refusal_name(error: OfficeError) -> &'static [u8]
+    ensures { result.now ≡ refusal_name error }
+{
+    match error {
+        OfficeError::NoConnection => b"NoConnection",
+        OfficeError::WrongLine => b"WrongLine",
+        OfficeError::NoRead => b"NoRead",
+        OfficeError::Exhausted => b"Exhausted",
+        OfficeError::SiteDiffers => b"SiteDiffers",
+        OfficeError::NoQuery => b"NoQuery",
+        OfficeError::WrongUnit => b"WrongUnit",
+        OfficeError::Repeat => b"Repeat",
+        OfficeError::WrongReply => b"WrongReply",
+        OfficeError::Store(_) => b"Store",
+    }
+}
+
+fn push_list_fault(alloc: Global, out: &mut Vec<u8>, fault: ListFault) -> Result<(), AllocError>
+    ensures { OnOk result (out.new.items ≡ out.old.items ++ refusal_line (fault_text fault)) }
+{
+    let text = fault.to_string(alloc)?;
+    push_refusal(out, text.as_bytes())
+}
+
+fn push_load_fault(alloc: Global, out: &mut Vec<u8>, fault: LoadFault) -> Result<(), AllocError>
+    ensures { OnOk result (out.new.items ≡ out.old.items ++ refusal_line (load_fault_text fault)) }
+{
+    match fault {
+        LoadFault::List(fault) => push_list_fault(alloc, out, fault),
+        LoadFault::PointDiffers => push_refusal(out, b"point differs"),
+    }
+}
+
+fn push_outcome(alloc: Global, out: &mut Vec<u8>, outcome: Outcome) -> Result<(), AllocError>
+    ensures { OnOk result (out.new.items ≡ out.old.items ++ outcome_line outcome) }
+{
+    match outcome {
+        Outcome::Loaded(count) => push_numbered(out, b"loaded ", count),
+        Outcome::RefusedFor(reason) => push_load_fault(alloc, out, reason.fault),
+    }
+}
+
+fn push_arrival(out: &mut Vec<u8>, arrival: Arrival) -> Result<(), AllocError>
+    ensures { OnOk result (out.new.items ≡ out.old.items ++ arrival_line arrival) }
+{
+    match arrival {
+        Arrival::Recorded(count) => push_numbered(out, b"recorded ", count),
+        Arrival::Excepted(code) => push_numbered(out, b"excepted ", u32::from(code)),
+    }
+}
+
+/// Writes the line of an answer.
+pub(crate) fn push_answer(
+    alloc: Global,
+    out: &mut Vec<u8>,
+    answer: &EventAnswer,
+) -> Result<(), AllocError>
+    ensures { OnOk result (out.new.items ≡ out.old.items ++ answer_line answer.now) }
+{
+    match answer {
+        EventAnswer::Judged(outcome) => push_outcome(alloc, out, *outcome),
+        EventAnswer::Opened(conn) => push_numbered(out, b"connection ", conn.number()),
+        EventAnswer::Query(frame) => push_query(alloc, out, frame),
+        EventAnswer::Arrived(arrival) => push_arrival(out, *arrival),
+        EventAnswer::Restarted => out.extend_from_slice(b"restarted\n"),
+        EventAnswer::Refused(error) => push_refusal(out, refusal_name(*error)),
+    }
+}
+
+/// Writes the line of a list with a point that can be set.
+pub(crate) fn push_setting(alloc: Global, out: &mut Vec<u8>) -> Result<(), AllocError>
+    ensures { OnOk result (out.new.items ≡ out.old.items ++ setting_line) }
+{
+    push_list_fault(alloc, out, ListFault::BadRole)
+}
+
+/// Writes the line that ends a script at a line of another form.
+pub(crate) fn push_fault(out: &mut Vec<u8>, number: u32) -> Result<(), AllocError>
+    ensures { OnOk result (out.new.items ≡ out.old.items ++ fault_line number) }
+{
+    push_numbered(out, b"fault line ", number)
+}

@@ -1,0 +1,170 @@
+//! The report at a script's end: all readings, and the totals of counters.
+ghost use Rattle.std.specs.Prelude.{All, ◌≡◌, ◌++◌, ◌∷◌, [], OnOk, codes, flat_map, pos, unwrap_or};
+ghost use Rattle.sunspec.specs.PointType.{IsSized};
+ghost use Rattle.sunspec.specs.Value.{AreRegistersOf};
+ghost use Rattle.sunspec.specs.Text.{scaled, shown};
+ghost use Rattle.poll_book.specs.Tables.{readings_between};
+ghost use Rattle.poll_book.specs.Changes.{as_row, as_rows};
+ghost use Rattle.office_core.specs.Fitting.{AreOf, HasForm, IsFitting};
+ghost use Rattle.office_script.specs.Printing.{line_end, reading_line, reading_lines, report_of, total_line};
+
+use crate::printing::push_number;
+use point_list::{Point, Role};
+use poll_book::{Keeper, MemKeeper, Neighbours, PointRow, ReadingRow};
+use std::alloc::{AllocError, Global};
+use sunspec::{scaled_text, shown_text};
+
+/// Writes what registers of a point show, or a dash where it is not implemented.
+fn push_text(
+    alloc: Global,
+    out: &mut Vec<u8>,
+    point: &Point,
+    words: &[u16],
+) -> Result<(), AllocError>
+    requires sized { IsSized point.now.kind }
+    requires registers { AreRegistersOf point.now.kind words.now }
+    ensures { OnOk result (out.new.items ≡ out.old.items ++ unwrap_or (shown point.now.kind point.now.scale words.now) (45 ∷ [])) }
+{
+    match shown_text(alloc, &point.kind, words, i32::from(point.scale)) {
+        Ok(Some(text)) => out.extend_from_slice(text.as_bytes()),
+        Ok(None) => Ok(out.push(b'-')?),
+        Err(_) => Err(AllocError),
+    }
+}
+
+fn push_reading(
+    alloc: Global,
+    out: &mut Vec<u8>,
+    known: &PointRow,
+    row: &ReadingRow,
+) -> Result<(), AllocError>
+    requires sized { IsSized known.now.point.kind }
+    requires registers { AreRegistersOf known.now.point.kind row.now.words }
+    ensures { OnOk result (out.new.items ≡ out.old.items ++ reading_line known.now (as_row row.now)) }
+{
+    out.extend_from_slice(b"reading ")?;
+    out.extend_from_slice(known.point.name.as_bytes())?;
+    out.push(b' ')?;
+    push_number(out, row.slot)?;
+    out.push(b' ')?;
+    push_text(alloc, out, &known.point, row.words.as_slice())?;
+    Ok(out.push(b'\n')?)
+}
+
+fn push_rows(
+    alloc: Global,
+    out: &mut Vec<u8>,
+    known: &PointRow,
+    rows: &[ReadingRow],
+) -> Result<(), AllocError>
+    requires sized { IsSized known.now.point.kind }
+    requires registers { AreOf known.now.point (as_rows rows.now) }
+    ensures { OnOk result (out.new.items ≡ out.old.items ++ flat_map (reading_line known.now) (as_rows rows.now)) }
+{
+    for row in rows {
+        push_reading(alloc, out, known, row)?;
+    }
+    Ok(())
+}
+
+/// Writes all readings of a point, by slot.
+fn push_readings(
+    alloc: Global,
+    out: &mut Vec<u8>,
+    keeper: &mut MemKeeper,
+    known: &PointRow,
+) -> Result<(), AllocError>
+    requires { HasForm known.now.point × AreOf known.now.point (readings_between known.now.number 0 4294967295 keeper.old.readings) }
+    ensures text { OnOk result (out.new.items ≡ out.old.items ++ reading_lines keeper.old.readings known.now) }
+    ensures same { keeper.new ≡ keeper.old }
+{
+    let Ok(rows) = keeper.readings(alloc, known.number, 0, u32::MAX) else {
+        return Err(AllocError);
+    };
+    push_rows(alloc, out, known, &rows)
+}
+
+/// Writes the line of a total.
+fn push_sum(alloc: Global, out: &mut Vec<u8>, point: &Point, total: u128) -> Result<(), AllocError>
+    ensures { OnOk result (out.new.items ≡ out.old.items
+        ++ (codes "total " ++ point.now.name ++ 32 ∷ scaled (pos total) point.now.scale ++ line_end)) }
+{
+    // A total of 2^127 takes 2^63 readings, more than memory has room for.
+    let Ok(number) = i128::try_from(total) else {
+        return Err(AllocError);
+    };
+    let Ok(text) = scaled_text(alloc, number, i32::from(point.scale)) else {
+        return Err(AllocError);
+    };
+    out.extend_from_slice(b"total ")?;
+    out.extend_from_slice(point.name.as_bytes())?;
+    out.push(b' ')?;
+    out.extend_from_slice(text.as_bytes())?;
+    Ok(out.push(b'\n')?)
+}
+
+/// Writes how far a counter went; nothing for another point.
+fn push_total(
+    alloc: Global,
+    out: &mut Vec<u8>,
+    keeper: &mut MemKeeper,
+    known: &PointRow,
+) -> Result<(), AllocError>
+    ensures text { OnOk result (out.new.items ≡ out.old.items ++ total_line keeper.old.readings known.now) }
+    ensures same { keeper.new ≡ keeper.old }
+{
+    if known.point.role != Role::Counter {
+        return Ok(());
+    }
+    let Ok(total) = keeper.total(known) else {
+        return Err(AllocError);
+    };
+    push_sum(alloc, out, &known.point, total)
+}
+
+fn push_all_readings(
+    alloc: Global,
+    out: &mut Vec<u8>,
+    keeper: &mut MemKeeper,
+    points: &[PointRow],
+) -> Result<(), AllocError>
+    requires { All (λ known. HasForm known.point × AreOf known.point (readings_between known.number 0 4294967295 keeper.old.readings)) points.now }
+    ensures text { OnOk result (out.new.items ≡ out.old.items ++ flat_map (reading_lines keeper.old.readings) points.now) }
+    ensures same { keeper.new ≡ keeper.old }
+{
+    for known in points {
+        push_readings(alloc, out, keeper, known)?;
+    }
+    Ok(())
+}
+
+fn push_all_totals(
+    alloc: Global,
+    out: &mut Vec<u8>,
+    keeper: &mut MemKeeper,
+    points: &[PointRow],
+) -> Result<(), AllocError>
+    ensures text { OnOk result (out.new.items ≡ out.old.items ++ flat_map (total_line keeper.old.readings) points.now) }
+    ensures same { keeper.new ≡ keeper.old }
+{
+    for known in points {
+        push_total(alloc, out, keeper, known)?;
+    }
+    Ok(())
+}
+
+/// Writes the readings of all points, and then the totals of the counters.
+pub(crate) fn push_report(
+    alloc: Global,
+    out: &mut Vec<u8>,
+    keeper: &mut MemKeeper,
+) -> Result<(), AllocError>
+    requires { IsFitting keeper.old }
+    ensures { OnOk result (out.new.items ≡ out.old.items ++ report_of keeper.old) }
+{
+    let Ok(points) = keeper.points(alloc) else {
+        return Err(AllocError);
+    };
+    push_all_readings(alloc, out, keeper, &points)?;
+    push_all_totals(alloc, out, keeper, &points)
+}

@@ -1,0 +1,245 @@
+//! Lines of another form, and lines that are skipped.
+use crate::playing::{assert_ends, assert_prints};
+use office_script::Replayed;
+use std::alloc::{AllocError, Global};
+use std::process::Abort;
+use std::test::Fail;
+
+/// Lines of another form behind an open connection.
+const WRONG: &[&str] = &[
+    " ",
+    "  open roof",
+    "open  roof",
+    "open roof ",
+    " open roof",
+    "open\troof",
+    "\topen roof",
+    "open",
+    "open ",
+    "open roof roof",
+    "open ro\u{F6}f",
+    "opens roof",
+    "Open roof",
+    "restart",
+    "order k e 1",
+    "send 1 1",
+    "close 1",
+    "//",
+    " # c",
+    "point",
+    "pointe,m1,holding,107,uint16,,,gauge,",
+    "point\te,m1,holding,107,uint16,,,gauge,",
+    "point \u{E9},m1,holding,107,uint16,,,gauge,",
+    "device m3 roof 20",
+    "device m1 roof 17",
+    "ask",
+    "ask 1 m1 1 3 107",
+    "ask 1 m1 1 3 107 1 1",
+    "ask 1 m1 1 3 107 1 ",
+    "ask 1 m1 1 3 107  1",
+    "ask 1  1 3 107 1",
+    "ask 4294967296 m1 1 3 107 1",
+    "ask 1 m1 4294967296 3 107 1",
+    "ask 1 m1 1 256 107 1",
+    "ask 1 m1 1 3 65536 1",
+    "ask 1 m1 1 3 107 65536",
+    "ask 1 m1 1 3 107 18446744073709551617",
+    "ask +1 m1 1 3 107 1",
+    "ask 1 m1 -1 3 107 1",
+    "ask 1 m1 1 3 107 +1",
+    "ask 1 m1 1 3 107 1.0",
+    "ask 1 m1 1 3 0x6B 1",
+    "ask 1\r m1 1 3 107 1",
+    "ask 1 m\u{7FF} 1 3 107 1",
+    "ask x m1 1 3 107 1",
+    "reply",
+    "reply ",
+    "reply 1",
+    "reply 1 ",
+    "reply -1 00 00 00 00 00 05 11 03 02 00 01",
+    "reply 4294967296 00 00 00 00 00 05 11 03 02 00 01",
+    "reply 1 00 00 00 00 00 05 11 03 02 00 1",
+    "reply 1 00 00 00 00 00 05 11 03 02 00 001",
+    "reply 1 00 00 00 00 00 05 11 03 02 00 0G",
+    "reply 1 00 00 00 00 00 05 11 03 02 00 g0",
+    "reply 1 00 00 00 00 00 05 11 03 02 00 +1",
+    "reply 1 00 00 00 00 00 05 11 03 02 0001",
+    "reply 1 00 00 00 00 00 05 11 03 02 00  01",
+    "reply 1 00 00 00 00 00 05 11 03 02 00 01 ",
+    "reply 1 00 00 00 00 00 05 11 03 02 00",
+    "reply 1 00 00 00 00 00 05 11 03 02 00 01 00",
+    "reply 1 00 00 00 01 00 05 11 03 02 00 01",
+    "reply 1 00 00 01 00 00 05 11 03 02 00 01",
+    "reply 1 00 00 00 00 01 05 11 03 02 00 01",
+    "reply 1 00 00 00 00 00 00",
+    "reply 1 00 00 00 00 00 01 11",
+    // A wrong form is told before any refusal.
+    "reply 9 00",
+];
+
+fn assert_wrong(rt: &impl Abort, alloc: Global, line: &str) -> Result<(), AllocError> {
+    let script = format!(in alloc;
+        "device m1 roof 17\npoint a,m1,holding,107,uint16,,,gauge,\nopen roof\nask 1 m1 1 3 107 1\n{line}\nopen roof\n"
+    )?;
+    let wanted =
+        "loaded 1\nconnection 1\nquery 00 00 00 00 00 06 11 03 00 6B 00 01\nfault line 5\n";
+    assert_ends(rt, alloc, script.as_str(), wanted, Replayed::FaultLine(5))
+}
+
+#[test]
+fn lines_of_another_form(rt: HostRuntime) -> Result<(), Fail> {
+    for line in WRONG {
+        if assert_wrong(&rt, rt.alloc(), line).is_err() {
+            assert_wrong(&rt, rt.alloc(), line)?;
+        }
+    }
+    Ok(())
+}
+
+/// Lines of another form behind the line of one device.
+const WRONG_DEVICES: &[&str] = &[
+    "device",
+    "device m2 roof",
+    "device m2 roof 18 8",
+    "device m2 roof 18 ",
+    "device m2  18",
+    "device  roof 18",
+    "device m2 roof 256",
+    "device m2 roof -1",
+    "device m2 roof x",
+    "device m2 roof ",
+    "device m\u{F6}2 roof 18",
+    "device m2 r\u{F6}of 18",
+    "device m2 roof 18\r\r",
+    "device m1 roof 18",
+    "device m1 cellar 18",
+    "device m2 roof 17",
+    "device m2 roof 0017",
+    "Device m2 roof 18",
+    "restart",
+];
+
+fn assert_wrong_device(rt: &impl Abort, alloc: Global, line: &str) -> Result<(), AllocError> {
+    let script = format!(in alloc; "# c\ndevice m1 roof 17\n\n{line}\nopen roof\n")?;
+    assert_ends(
+        rt,
+        alloc,
+        script.as_str(),
+        "fault line 4\n",
+        Replayed::FaultLine(4),
+    )
+}
+
+#[test]
+fn devices_of_another_form(rt: HostRuntime) -> Result<(), Fail> {
+    for line in WRONG_DEVICES {
+        if assert_wrong_device(&rt, rt.alloc(), line).is_err() {
+            assert_wrong_device(&rt, rt.alloc(), line)?;
+        }
+    }
+    Ok(())
+}
+
+/// Scripts that end with the report, and what they print.
+const FAULTLESS: &[(&str, &str)] = &[
+    ("", ""),
+    ("\n", ""),
+    ("\r\n", ""),
+    ("\r\n\n# c\n#\n#\r\n#", ""),
+    ("# \u{E9}\u{7FF}\u{FFFF}\n", ""),
+    ("device m1 roof 17", ""),
+    ("device m1 roof 17\r\nopen roof\r\n", "connection 1\n"),
+    (
+        "\n# c\r\n\r\ndevice m1 roof 17\n# c\n\ndevice m2 roof 0\nopen roof",
+        "connection 1\n",
+    ),
+    (
+        "device m1 roof 000255\ndevice m2 cellar 255\nopen cellar\n",
+        "connection 1\n",
+    ),
+    (
+        "device roof m1 0\nopen m1\nopen roof\n",
+        "connection 1\nrefused WrongLine\n",
+    ),
+    ("device Az09_-. .-_90zA 0\nopen .-_90zA\n", "connection 1\n"),
+    // Any word is a name, and points can have devices of names of up to 64 characters.
+    (
+        "device PM/5560,a ro\rof 17\npoint a,\"PM/5560,a\",holding,107,uint16,,,gauge,\nopen ro\rof\nask 1 PM/5560,a 1 3 107 1\n",
+        "loaded 1\nconnection 1\nquery 00 00 00 00 00 06 11 03 00 6B 00 01\n",
+    ),
+    (
+        "device a234567890123456789012345678901234567890123456789012345678901234 b2345678901234567890123456789012345678901234567890123456789012345 9\npoint a,a234567890123456789012345678901234567890123456789012345678901234,holding,107,uint16,,,gauge,\nopen b2345678901234567890123456789012345678901234567890123456789012345\n",
+        "loaded 1\nconnection 1\n",
+    ),
+    (
+        "device a2345678901234567890123456789012345678901234567890123456789012345 roof 9\npoint a,a2345678901234567890123456789012345678901234567890123456789012345,holding,107,uint16,,,gauge,\nopen roof\nask 1 a2345678901234567890123456789012345678901234567890123456789012345 1 3 107 1\n",
+        "refused unknown device\nconnection 1\nrefused NoRead\n",
+    ),
+    ("open roof\n", "refused WrongLine\n"),
+    // A carriage return that isn't before a line feed belongs to the line.
+    (
+        "device m1 roof 1\nopen roof\r\r\nopen roof\r",
+        "refused WrongLine\nrefused WrongLine\n",
+    ),
+    ("device m1 roof 1\nopen r\roof\n#\r", "refused WrongLine\n"),
+    // Any word is a name where one is looked up.
+    (
+        "device m1 roof 1\nopen ?\nopen #\nask 1 \u{7F} 1 3 1 1\n",
+        "refused WrongLine\nrefused WrongLine\nrefused NoConnection\n",
+    ),
+    // A comment that isn't at the start of its line is none.
+    ("ask 1 # 1 3 107 1\n", "refused NoConnection\n"),
+];
+
+#[test]
+fn skipped_lines_and_ends_of_lines(rt: HostRuntime) -> Result<(), Fail> {
+    for (script, wanted) in FAULTLESS {
+        assert_prints(&rt, rt.alloc(), script, wanted)?;
+    }
+    Ok(())
+}
+
+/// Scripts that end at a line, what they print, and the line's number.
+const FAULTY: &[(&str, &str, u32)] = &[
+    (
+        "device m1 roof 17\nopen attic\nreply 1 00\n",
+        "refused WrongLine\nfault line 3\n",
+        3,
+    ),
+    ("x", "fault line 1\n", 1),
+    ("\r", "fault line 1\n", 1),
+    ("\r\r\n", "fault line 1\n", 1),
+    ("\u{FEFF}device m1 roof 17\n", "fault line 1\n", 1),
+    ("\n\r\n# c\n\nx\n", "fault line 5\n", 5),
+    (
+        "device m1 roof 17\r\n\r\n# c\r\nopen roof\r\n\r\nx\r\n",
+        "connection 1\nfault line 6\n",
+        6,
+    ),
+    // A device stands before all other lines but skipped ones.
+    (
+        "device m1 roof 17\nopen attic\n\ndevice m2 roof 18\n",
+        "refused WrongLine\nfault line 4\n",
+        4,
+    ),
+    // A point that was refused is a line of its form.
+    (
+        "device m1 roof 17\npoint a\nrestart\n",
+        "refused bad csv\nfault line 3\n",
+        3,
+    ),
+];
+
+#[test]
+fn numbers_of_faulty_lines(rt: HostRuntime) -> Result<(), Fail> {
+    for (script, wanted, number) in FAULTY {
+        assert_ends(
+            &rt,
+            rt.alloc(),
+            script,
+            wanted,
+            Replayed::FaultLine(*number),
+        )?;
+    }
+    Ok(())
+}

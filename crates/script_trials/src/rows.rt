@@ -1,0 +1,243 @@
+//! What whole scripts print of readings.
+use crate::playing::{COUNTER, COUNTER_TEXT, assert_prints};
+use std::test::Fail;
+
+#[test]
+fn a_counter_rolls_over(rt: HostRuntime) -> Result<(), Fail> {
+    Ok(assert_prints(&rt, rt.alloc(), COUNTER, COUNTER_TEXT)?)
+}
+
+const GAUGES: &str = "device m1 roof 17
+point a,m1,holding,107,uint16,,,gauge,
+point b,m1,holding,108,uint16,,,gauge,
+point c,m1,holding,109,uint16,,,gauge,
+open roof
+ask 1 m1 5 3 107 3
+reply 1 00 00 00 00 00 09 11 03 06 02 2B 00 00 00 64
+reply 1 00 00 00 00 00 09 11 03 06 02 2B 00 00 00 64
+reply 1 00 00 00 00 00 09 11 03 06 00 01 00 02 00 03
+";
+
+const GAUGES_TEXT: &str = "loaded 1
+loaded 1
+loaded 1
+connection 1
+query 00 00 00 00 00 06 11 03 00 6B 00 03
+recorded 3
+refused Repeat
+refused Repeat
+reading a 5 555
+reading b 5 0
+reading c 5 100
+";
+
+/// A second reply changes nothing, whatever it says.
+#[test]
+fn a_reply_records_once(rt: HostRuntime) -> Result<(), Fail> {
+    Ok(assert_prints(&rt, rt.alloc(), GAUGES, GAUGES_TEXT)?)
+}
+
+const ASKED_TWICE: &str = "device m1 roof 17
+point a,m1,holding,107,uint16,,,gauge,
+point b,m1,holding,108,uint16,,,gauge,
+open roof
+ask 1 m1 5 3 107 2
+reply 1 00 00 00 00 00 07 11 03 04 02 2B 00 00
+ask 1 m1 5 3 107 2
+reply 1 00 01 00 00 00 07 11 03 04 00 01 00 02
+";
+
+const ASKED_TWICE_TEXT: &str = "loaded 1
+loaded 1
+connection 1
+query 00 00 00 00 00 06 11 03 00 6B 00 02
+recorded 2
+query 00 01 00 00 00 06 11 03 00 6B 00 02
+recorded 0
+reading a 5 555
+reading b 5 0
+";
+
+/// Of a slot that is asked for anew, the first readings stay.
+#[test]
+fn a_slot_keeps_its_readings(rt: HostRuntime) -> Result<(), Fail> {
+    Ok(assert_prints(&rt, rt.alloc(), ASKED_TWICE, ASKED_TWICE_TEXT)?)
+}
+
+const EXCEPTION: &str = "device m1 roof 17
+point a,m1,holding,107,uint16,,,gauge,
+point b,m1,holding,108,uint16,,,gauge,
+point c,m1,holding,109,uint16,,,gauge,
+open roof
+ask 1 m1 5 3 107 3
+reply 1 00 00 00 00 00 03 11 83 02
+reply 1 00 00 00 00 00 09 11 03 06 02 2B 00 00 00 64
+ask 1 m1 5 3 107 3
+reply 1 00 01 00 00 00 09 11 03 06 02 2B 00 00 00 64
+";
+
+const EXCEPTION_TEXT: &str = "loaded 1
+loaded 1
+loaded 1
+connection 1
+query 00 00 00 00 00 06 11 03 00 6B 00 03
+excepted 2
+refused Repeat
+query 00 01 00 00 00 06 11 03 00 6B 00 03
+recorded 3
+reading a 5 555
+reading b 5 0
+reading c 5 100
+";
+
+#[test]
+fn an_exception_settles_its_query(rt: HostRuntime) -> Result<(), Fail> {
+    Ok(assert_prints(&rt, rt.alloc(), EXCEPTION, EXCEPTION_TEXT)?)
+}
+
+const LATER_POINT: &str = "device m1 roof 17
+point a,m1,holding,107,uint16,,,gauge,
+point c,m1,holding,109,uint16,,,gauge,
+open roof
+ask 1 m1 5 3 107 3
+point b,m1,holding,108,uint16,,,gauge,
+reply 1 00 00 00 00 00 09 11 03 06 02 2B 00 00 00 64
+";
+
+const LATER_POINT_TEXT: &str = "loaded 1
+loaded 1
+connection 1
+query 00 00 00 00 00 06 11 03 00 6B 00 03
+loaded 1
+recorded 2
+reading a 5 555
+reading c 5 100
+";
+
+/// A reply is for the points that were known when it was asked for.
+#[test]
+fn a_later_point_waits(rt: HostRuntime) -> Result<(), Fail> {
+    Ok(assert_prints(&rt, rt.alloc(), LATER_POINT, LATER_POINT_TEXT)?)
+}
+
+/// The number of a point is its place among those that were loaded, and the report goes by it.
+const ORDERED: &str = "device m2 cellar 1
+device m1 roof 17
+point z,m1,holding,1,uint16,,,counter,
+point a,m2,input,9,uint16,,,gauge,
+open cellar
+open roof
+ask 1 m2 4294967295 4 9 1
+ask 2 m1 7 3 1 1
+ask 2 m1 0 3 1 1
+reply 2 00 01 00 00 00 05 11 03 02 00 05
+reply 2 00 00 00 00 00 05 11 03 02 00 07
+reply 1 00 00 00 00 00 05 01 04 02 00 09
+";
+
+const ORDERED_TEXT: &str = "loaded 1
+loaded 1
+connection 1
+connection 2
+query 00 00 00 00 00 06 01 04 00 09 00 01
+query 00 00 00 00 00 06 11 03 00 01 00 01
+query 00 01 00 00 00 06 11 03 00 01 00 01
+recorded 1
+recorded 1
+recorded 1
+reading z 0 5
+reading z 7 7
+reading a 4294967295 9
+total z 2
+";
+
+#[test]
+fn two_lines(rt: HostRuntime) -> Result<(), Fail> {
+    Ok(assert_prints(&rt, rt.alloc(), ORDERED, ORDERED_TEXT)?)
+}
+
+const SHOWN: &str = "device m1 roof 17
+point t,m1,holding,0,int16,,,gauge,
+point ip,m1,holding,1,ipaddr,,,gauge,
+point s,m1,holding,3,string,2,,gauge,
+point v,m1,holding,5,uint16,,-2,gauge,
+point n,m1,holding,6,int16,,-2,gauge,
+point k,m1,holding,7,uint16,,3,gauge,
+point none,m1,holding,8,string,1,,gauge,
+point odd,m1,holding,9,string,2,,gauge,
+point empty,m1,holding,11,string,1,,gauge,
+open roof
+ask 1 m1 1 3 0 12
+reply 1 00 00 00 00 00 1B 11 03 18 80 00 C0 A8 01 05 41 62 00 43 09 29 FF FF 00 07 00 00 41 0A 7E 7F 00 41
+";
+
+const SHOWN_TEXT: &str = "loaded 1
+loaded 1
+loaded 1
+loaded 1
+loaded 1
+loaded 1
+loaded 1
+loaded 1
+loaded 1
+connection 1
+query 00 00 00 00 00 06 11 03 00 00 00 0C
+recorded 9
+reading t 1 -
+reading ip 1 192.168.1.5
+reading s 1 Ab
+reading v 1 23.45
+reading n 1 -0.01
+reading k 1 7000
+reading none 1 -
+reading odd 1 A?~?
+reading empty 1 \n";
+
+/// A text whose first byte is zero is empty, and its line ends with the space.
+#[test]
+fn texts_of_readings(rt: HostRuntime) -> Result<(), Fail> {
+    Ok(assert_prints(&rt, rt.alloc(), SHOWN, SHOWN_TEXT)?)
+}
+
+const FUNCTIONS: &str = "device m1 roof 17
+point on,m1,coil,3,bit,,,gauge,
+point off,m1,coil,5,bit,,,gauge,
+point in,m1,discrete,12,bit,1,0,gauge,
+point held,m1,holding,107,uint32,2,,gauge,
+point fed,m1,input,107,uint32,,,gauge,
+open roof
+ask 1 m1 1 1 2 10
+ask 1 m1 1 2 4 9
+ask 1 m1 1 3 107 2
+ask 1 m1 1 4 107 2
+reply 1 00 00 00 00 00 05 11 01 02 02 02
+reply 1 00 01 00 00 00 05 11 02 02 00 01
+reply 1 00 02 00 00 00 07 11 03 04 00 01 00 00
+reply 1 00 03 00 00 00 07 11 04 04 ff ff ff fE
+";
+
+const FUNCTIONS_TEXT: &str = "loaded 1
+loaded 1
+loaded 1
+loaded 1
+loaded 1
+connection 1
+query 00 00 00 00 00 06 11 01 00 02 00 0A
+query 00 01 00 00 00 06 11 02 00 04 00 09
+query 00 02 00 00 00 06 11 03 00 6B 00 02
+query 00 03 00 00 00 06 11 04 00 6B 00 02
+recorded 2
+recorded 1
+recorded 1
+recorded 1
+reading on 1 1
+reading off 1 0
+reading in 1 1
+reading held 1 65536
+reading fed 1 4294967294
+";
+
+#[test]
+fn all_four_functions(rt: HostRuntime) -> Result<(), Fail> {
+    Ok(assert_prints(&rt, rt.alloc(), FUNCTIONS, FUNCTIONS_TEXT)?)
+}
