@@ -1,5 +1,4 @@
 pub mod Label
-pub mod LabelFields
 pub mod Name
 pub mod Sites
 pub mod SiteFile

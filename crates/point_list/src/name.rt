@@ -1,17 +1,13 @@
-ghost use Rattle.std.specs.Prelude.{◌≡◌, if◌then◌else◌, Some, None, nat_eq, refl, true};
+ghost use Rattle.std.specs.Prelude.{◌≡◌, if◌then◌else◌, Some, None, true};
 ghost use Rattle.std.specs.List.{list_all};
-ghost use Rattle.std.specs.Cmp.{partial_equiv_from_equiv};
-ghost use Rattle.std.specs.Cmp.Lexicographic.{pointwise, nat_list_eq_equiv, slice_cmp, nat_list_cmp_total, texts_po, texts_ties};
-ghost use Rattle.std.specs.Ordering.{nat_cmp};
 ghost use Rattle.point_list.specs.Name.{is_name, is_name_byte};
 
 use crate::label::Label;
-use std::cmp::Ordering;
 use std::fmt;
 use std::marker::Model;
 
-/// A name: 1 to 64 of `A-Z a-z 0-9 _ - .`, in a fixed array. Contracts see its bytes.
-#[derive(Clone, Copy)]
+/// A name: 1 to 64 of `A-Z a-z 0-9 _ - .`, in the value itself. Contracts see its bytes.
+#[derive(Clone, Copy, PartialEq, Eq, PartialOrd, Ord)]
 pub struct Name {
     label: Label,
 }
@@ -89,44 +85,5 @@ impl fmt::Display for Name {
 
     fn fmt<W: fmt::Write>(&self, f: &mut fmt::Formatter<W>) -> fmt::Result {
         fmt::Display::fmt(&self.label, f)
-    }
-}
-
-impl PartialEq for Name {
-    ghost eq = { pointwise nat_eq };
-
-    ghost laws = { partial_equiv_from_equiv nat_list_eq_equiv };
-
-    fn eq(&self, other: &Name) -> bool {
-        self.label == other.label
-    }
-}
-
-impl Eq for Name {
-    ghost laws = { nat_list_eq_equiv };
-}
-
-/// Names are ordered by their bytes.
-impl PartialOrd for Name {
-    ghost partial_cmp = { λ a b. Some (slice_cmp nat_cmp a b) };
-
-    ghost laws = { texts_po };
-
-    fn partial_cmp(&self, other: &Name) -> Option<Ordering> {
-        Some(self.cmp(other))
-    }
-}
-
-impl Ord for Name {
-    ghost cmp = { slice_cmp nat_cmp };
-
-    ghost total = { nat_list_cmp_total };
-
-    ghost matches_partial_cmp = { λ a b. refl };
-
-    ghost matches_eq = { texts_ties };
-
-    fn cmp(&self, other: &Name) -> Ordering {
-        self.label.cmp(&other.label)
     }
 }
