@@ -2,3 +2,4 @@
 mod device;
 mod image;
 mod schedule;
+mod texts;
