@@ -7,3 +7,5 @@ mod device;
 mod image;
 #[cfg(test)]
 mod schedule;
+#[cfg(test)]
+mod texts;

@@ -1,11 +1,13 @@
 -- Texts of digits, front by front.
-use Rattle.std.proofs.Common.{◌≡◌, ◌≢◌, ◌≤◌, ◌<◌, ◌+◌, ◌-◌, ◌*◌, ◌^◌, ℕ, zero, suc, true, List, [], ◌∷◌, length, take, get_or, arith}
+use Rattle.std.proofs.Common.{◌≡◌, ◌≢◌, ◌≤◌, ◌<◌, ◌+◌, ◌-◌, ◌*◌, ◌^◌, ℕ, zero, suc, true, Result, Ok, Err, List, [], ◌∷◌, length, take, get_or, arith}
 use Rattle.std.proofs.lemmas.Bool.{and_parts}
 use Rattle.std.proofs.lemmas.Bool.Decides.{nat_tests}
 use Rattle.std.proofs.lemmas.Int.Digits.{digits_value_more}
 use Rattle.std.proofs.lemmas.Str.Parse.{digits_value-take-le, digits_value_short, numerals_by_value, tells_digits}
 use Rattle.std.specs.Char.{is_ascii_digit, digit_value}
 use Rattle.std.specs.List.{list_all}
+use Rattle.std.specs.Option.{IfSome}
+use Rattle.std.specs.Result.{OkIff, result_ok}
 use Rattle.std.specs.Str.Parse.{digits_value, AllDigits}
 
 value_below : (c : ℕ) → is_ascii_digit c ≡ true → (digit_value c ≡ c - 48) × (digit_value c < 10) × (48 ≤ c) × (c ≤ 57)
@@ -40,3 +42,8 @@ value_some text h some first =
     let below = digits_value-take-le 10 text 1 (omega arith) in
     let not_zero : 48 < get_or text 0 0 = grind (arith, nat_tests, first) in
     omega (arith, step, is_value.0, below)
+
+-- a number over 0 that fits is over 0 where it was put
+pub above_zero : {E : Type 0} (r : Result ℕ E) (P : Type 0) (n : ℕ) → OkIff r P n → 0 < n → IfSome (result_ok r) (λ m. 0 < m)
+above_zero (Ok m) P n (fits, is) above = omega arith
+above_zero (Err e) P n h above = tt

@@ -6,5 +6,5 @@ pub mod Standing
 pub mod Left
 pub mod Once
 pub mod Digits
-pub mod Each
+pub mod Failing
 pub mod Differ

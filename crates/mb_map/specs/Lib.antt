@@ -3,4 +3,4 @@ pub mod Device
 pub mod Schedule
 pub mod Queue
 pub mod Image
-pub mod Texts
+pub use Rattle.toml_members.specs.Members

@@ -1,10 +1,11 @@
 ghost use Rattle.std.specs.Char.{is_ascii_digit};
 ghost use Rattle.std.specs.List.{list_all};
 ghost use Rattle.std.specs.Str.Parse.{digits_value};
-ghost use Rattle.std.specs.Prelude.{length, true, ◌≡◌, ◌≢◌, ◌≤◌, ◌<◌, option_map, All, IfOk, IfErr, IfSome, IsTrue, Some, None, []};
-ghost use Rattle.toml.specs.Data.{Members, get_member};
+ghost use Rattle.std.specs.Prelude.{length, true, ◌≡◌, ◌≢◌, ◌≤◌, ◌<◌, All, IfOk, IfErr, IfSome, IsTrue, Some, None, []};
+ghost use Rattle.toml.specs.Data.{Members};
 ghost use Rattle.toml.specs.View.{items_view, table_view, view};
-ghost use Rattle.mb_map.specs.Image.{Gives, IsDocument, cells_at, device_in, each, entries_at, frames_of, image_of, number_at, number_in, optional_at, step_in, step_of};
+ghost use Rattle.toml_members.specs.Members.{IsDocument, each, number_in};
+ghost use Rattle.mb_map.specs.Image.{Gives, cells_at, device_in, frames_of, image_of, step_in, step_of};
 ghost use Rattle.mb_map.specs.Queue.{is_sound};
 ghost use Rattle.mb_map.specs.Schedule.{StandsFor};
 
@@ -16,62 +17,7 @@ use crate::sim::Sim;
 use crate::step::Step;
 use std::alloc::Global;
 use toml::Value;
-
-// The member at a key.
-fn member<'a>(table: &'a toml::Table, key: &str) -> Option<&'a Value>
-    ensures { option_map (λ v. view v.now) result ≡ get_member key.now (table_view table.now) }
-{
-    table.get(key)
-}
-
-// A value as a whole number up to a limit.
-fn number_in(value: &Value, limit: u32) -> Result<u32, MapError>
-    ensures gives { Gives (λ n. n) result (number_in limit (view value.now)) }
-    ensures within { IfOk result (λ n. n ≤ limit) }
-{
-    match value.as_integer() {
-        Some(n) => match u32::try_from(n) {
-            Ok(n) if n <= limit => Ok(n),
-            _ => Err(MapError::BadImage),
-        },
-        None => Err(MapError::BadImage),
-    }
-}
-
-#[tactic(auto, unfolding(crate::specs::Image::number_at))]
-fn number_at(table: &toml::Table, key: &str, limit: u32) -> Result<u32, MapError>
-    ensures gives { Gives (λ n. n) result (number_at key.now limit (table_view table.now)) }
-    ensures within { IfOk result (λ n. n ≤ limit) }
-{
-    match member(table, key) {
-        Some(value) => number_in(value, limit),
-        None => Err(MapError::BadImage),
-    }
-}
-
-// The number of a member, or 0 where it is missing.
-#[tactic(auto, unfolding(crate::specs::Image::optional_at))]
-fn optional_at(table: &toml::Table, key: &str, limit: u32) -> Result<u32, MapError>
-    ensures gives { Gives (λ n. n) result (optional_at key.now limit (table_view table.now)) }
-    ensures within { IfOk result (λ n. n ≤ limit) }
-{
-    match member(table, key) {
-        Some(value) => number_in(value, limit),
-        None => Ok(0),
-    }
-}
-
-// The entries of a list, or none where it is missing.
-#[tactic(auto, unfolding(crate::specs::Image::entries_at))]
-fn entries_at<'a>(table: &'a toml::Table, key: &str) -> Result<&'a [Value], MapError>
-    ensures { Gives (λ s. items_view s.now) result (entries_at key.now (table_view table.now)) }
-{
-    match member(table, key) {
-        Some(Value::Array(entries)) => Ok(entries.as_slice()),
-        Some(_) => Err(MapError::BadImage),
-        None => Ok(&[]),
-    }
-}
+use toml_members::{number_at, number_in, optional_at, optional_entries_at};
 
 fn numbers_in(alloc: Global, entries: &[Value], greatest: u16) -> Result<Vec<u16>, MapError>
     ensures gives { Gives (λ v. v.items) result (each (number_in greatest) (items_view entries.now)) }
@@ -79,13 +25,8 @@ fn numbers_in(alloc: Global, entries: &[Value], greatest: u16) -> Result<Vec<u16
 {
     let mut numbers = Vec::new(alloc);
     for entry in entries {
-        let number = match number_in(entry, u32::from(greatest)) {
-            Ok(number) => number,
-            Err(e) => return Err(e),
-        };
-        if numbers.push(number as u16).is_err() {
-            return Err(MapError::Memory);
-        }
+        let number = number_in(entry, u32::from(greatest)).ok_or(MapError::BadImage)?;
+        numbers.push(number as u16).map_err(|_| MapError::Memory)?;
     }
     Ok(numbers)
 }
@@ -117,10 +58,7 @@ fn frames_of(text: &[u8]) -> Option<u8>
     if text.is_empty() || text.len() > 3 || text[0] == b'0' || !is_digits(text) {
         return None;
     }
-    match u8::try_from(value_of(text)) {
-        Ok(frames) => Some(frames),
-        Err(_) => None,
-    }
+    u8::try_from(value_of(text)).ok()
 }
 
 #[tactic(auto, unfolding(crate::specs::Image::step_of))]
@@ -137,13 +75,8 @@ fn step_of(text: &str) -> Option<Step>
     if text == "twice" {
         return Some(Step::Twice);
     }
-    match text.as_bytes().strip_prefix(b"hold ".as_slice()) {
-        Some(digits) => match frames_of(digits) {
-            Some(frames) => Some(Step::Hold(frames)),
-            None => None,
-        },
-        None => None,
-    }
+    let digits = text.as_bytes().strip_prefix(b"hold ".as_slice())?;
+    Some(Step::Hold(frames_of(digits)?))
 }
 
 #[tactic(auto, unfolding(crate::specs::Image::step_in))]
@@ -151,13 +84,8 @@ fn step_in(entry: &Value) -> Result<Step, MapError>
     ensures gives { Gives (λ s. s) result (step_in (view entry.now)) }
     ensures sound { IfOk result (λ step. IsTrue (is_sound step)) }
 {
-    match entry.as_str() {
-        Some(text) => match step_of(text) {
-            Some(step) => Ok(step),
-            None => Err(MapError::BadImage),
-        },
-        None => Err(MapError::BadImage),
-    }
+    let text = entry.as_str().ok_or(MapError::BadImage)?;
+    step_of(text).ok_or(MapError::BadImage)
 }
 
 fn script_in(alloc: Global, entries: &[Value]) -> Result<Vec<Step>, MapError>
@@ -166,13 +94,8 @@ fn script_in(alloc: Global, entries: &[Value]) -> Result<Vec<Step>, MapError>
 {
     let mut script = Vec::new(alloc);
     for entry in entries {
-        let step = match step_in(entry) {
-            Ok(step) => step,
-            Err(e) => return Err(e),
-        };
-        if script.push(step).is_err() {
-            return Err(MapError::Memory);
-        }
+        let step = step_in(entry)?;
+        script.push(step).map_err(|_| MapError::Memory)?;
     }
     Ok(script)
 }
@@ -189,9 +112,9 @@ fn cells_at(
     ensures gives { Gives (λ c. c) result (cells_at key.now start_key.now greatest (table_view table.now)) }
     ensures small { IfOk result (λ c. All (λ x. x.1 ≤ greatest) c) }
 {
-    let entries = entries_at(table, key)?;
+    let entries = optional_entries_at(table, key).ok_or(MapError::BadImage)?;
     let numbers = numbers_in(alloc, entries, greatest)?;
-    let start = optional_at(table, start_key, 65536)?;
+    let start = optional_at(table, start_key, 65536).ok_or(MapError::BadImage)?;
     if start as usize + numbers.len() > 65536 {
         return Err(MapError::BadImage);
     }
@@ -202,10 +125,8 @@ fn cells_at(
 fn device_in(alloc: Global, unit: &Value) -> Result<(u8, Mapping), MapError>
     ensures { Gives (λ d. d) result (device_in (view unit.now)) }
 {
-    let Some(table) = unit.as_table() else {
-        return Err(MapError::BadImage);
-    };
-    let id = number_at(table, "id", 255)?;
+    let table = unit.as_table().ok_or(MapError::BadImage)?;
+    let id = number_at(table, "id", 255).ok_or(MapError::BadImage)?;
     let coils = cells_at(alloc, table, "coils", "coils_start", 1)?;
     let discrete = cells_at(alloc, table, "discrete", "discrete_start", 1)?;
     let input = cells_at(alloc, table, "input", "input_start", u16::MAX)?;
@@ -224,13 +145,8 @@ fn devices_in(alloc: Global, units: &[Value]) -> Result<Vec<(u8, Mapping)>, MapE
 {
     let mut devices = Vec::new(alloc);
     for unit in units {
-        let device = match device_in(alloc, unit) {
-            Ok(device) => device,
-            Err(e) => return Err(e),
-        };
-        if devices.push(device).is_err() {
-            return Err(MapError::Memory);
-        }
+        let device = device_in(alloc, unit)?;
+        devices.push(device).map_err(|_| MapError::Memory)?;
     }
     Ok(devices)
 }
@@ -241,9 +157,9 @@ fn sim_in(alloc: Global, document: &toml::Table) -> Result<Sim, MapError>
     ensures gives { Gives (λ s. s) result (image_of (table_view document.now)) }
     ensures stands { IfOk result (λ sim. StandsFor sim.devices sim.script [] [] sim) }
 {
-    let units = entries_at(document, "unit")?;
+    let units = optional_entries_at(document, "unit").ok_or(MapError::BadImage)?;
     let devices = devices_in(alloc, units)?;
-    let steps = entries_at(document, "script")?;
+    let steps = optional_entries_at(document, "script").ok_or(MapError::BadImage)?;
     let script = script_in(alloc, steps)?;
     if !ids_differ(devices.as_slice()) {
         return Err(MapError::BadImage);

@@ -1,6 +1,7 @@
 //! Counted readers and writers over fakes that fail when told to.
 ghost use Rattle.std.specs.Prelude.{Some};
 
+use crate::asserting::assert_told;
 use mb_mbap::Counted;
 use std::io::{self, ErrorKind, Read, Write};
 
@@ -77,7 +78,7 @@ fn reads_are_counted(rt: HostRuntime) {
             calls.saturating_sub(3),
             8u64.saturating_sub(calls),
         );
-        assert_eq!(rt; counted_reads(calls), expected, "{calls} calls");
+        assert_told(&rt, &calls, &counted_reads(calls), &expected);
     }
 }
 
@@ -107,9 +108,10 @@ fn whole_reads(times: u64) -> (bool, u64, u64) {
 
 #[test]
 fn whole_reads_are_counted(rt: HostRuntime) {
-    assert_eq!(rt; whole_reads(1), (true, 0, 0));
     // An end inside a whole read is a failure, and no end.
-    assert_eq!(rt; whole_reads(2), (false, 1, 0));
+    for (times, expected) in [(1u64, (true, 0, 0)), (2, (false, 1, 0))] {
+        assert_told(&rt, &times, &whole_reads(times), &expected);
+    }
 }
 
 fn written(writer: &mut Counted<TakesOne>, bytes: &[u8]) -> bool {

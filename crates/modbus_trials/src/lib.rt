@@ -4,6 +4,8 @@
 #![tactic(auto)]
 
 #[cfg(test)]
+mod asserting;
+#[cfg(test)]
 mod counting;
 #[cfg(test)]
 mod examples;
@@ -13,3 +15,5 @@ mod limits;
 mod sources;
 #[cfg(test)]
 mod streams;
+#[cfg(test)]
+mod texts;

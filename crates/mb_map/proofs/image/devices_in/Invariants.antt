@@ -1,7 +1,8 @@
 use Rattle.std.proofs.Common.{◌≡◌, drop}
 use Rattle.toml.specs.View.{items_view}
-use Rattle.mb_map.specs.Image.{device_in, each}
-use Rattle.mb_map.proofs.Each.{with_front}
+use Rattle.toml_members.specs.Members.{each}
+use Rattle.mb_map.specs.Image.{device_in}
+use Rattle.toml_members.proofs.Each.{with_front}
 use Rattle.mb_map.proofs.image.devices_in.Given as goal
 
 abbrev pub invariant-loop-unit : goal.invariant-loop-unit

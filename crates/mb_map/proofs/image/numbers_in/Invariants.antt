@@ -1,7 +1,7 @@
 use Rattle.std.proofs.Common.{◌≡◌, ◌≤◌, All, drop}
 use Rattle.toml.specs.View.{items_view}
-use Rattle.mb_map.specs.Image.{each, number_in}
-use Rattle.mb_map.proofs.Each.{with_front}
+use Rattle.toml_members.specs.Members.{each, number_in}
+use Rattle.toml_members.proofs.Each.{with_front}
 use Rattle.mb_map.proofs.image.numbers_in.Given as goal
 
 abbrev pub invariant-loop-entry : goal.invariant-loop-entry

@@ -2,8 +2,9 @@ use Rattle.std.proofs.Common.{◌≡◌, true, drop}
 use Rattle.toml.specs.View.{items_view}
 use Rattle.std.specs.List.{list_all}
 use Rattle.mb_map.specs.Queue.{is_sound}
-use Rattle.mb_map.specs.Image.{each, step_in}
-use Rattle.mb_map.proofs.Each.{with_front}
+use Rattle.toml_members.specs.Members.{each}
+use Rattle.mb_map.specs.Image.{step_in}
+use Rattle.toml_members.proofs.Each.{with_front}
 use Rattle.mb_map.proofs.image.script_in.Given as goal
 
 abbrev pub invariant-loop-entry : goal.invariant-loop-entry

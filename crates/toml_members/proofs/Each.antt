@@ -5,9 +5,7 @@ use Rattle.toml.specs.Data.{Data}
 use Rattle.toml.specs.View.{view, items_view}
 use Rattle.toml.specs.declared.value.Value.{Value}
 use Rattle.toml.proofs.Views.{items_view-drop}
-use Rattle.mb_map.specs.declared.error.MapError.{MapError}
-use Rattle.mb_map.specs.declared.error.MapError.TheVariants.{BadImage, Memory, TooLarge}
-use Rattle.mb_map.specs.Image.{◌>>=◌, Fails, each}
+use Rattle.toml_members.specs.Members.{◌>>=◌, each}
 
 -- what is read of a rest, behind what was read before
 abbrev pub with_front : {A : Type 0} → List A → Option (List A) → Option (List A)
@@ -31,9 +29,3 @@ each_fails f front vs i v lt e h = rw (items_view-drop vs i v lt, ← e, h) refl
 pub each_ends : {A : Type 0} (f : Data → Option A) (front : List A) (vs : List Value) (i : ℕ) → length vs ≤ i → with_front front (each f (items_view (drop i vs))) ≡ Some front
 unfolding each
 each_ends f front vs i le = rw (drop_all i vs le, append-nil front) refl
-
--- what fails in a part fails in the whole
-pub fails_more : {A B : Type 0} (e : MapError) (o : Option A) (w : Option B) → Fails e o → (o ≡ None → w ≡ None) → Fails e w
-fails_more Memory o w h more = tt
-fails_more BadImage o w h more = more h
-fails_more TooLarge o w h more = h

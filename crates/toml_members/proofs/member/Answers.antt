@@ -1,5 +1,5 @@
 use Rattle.toml.proofs.Views.{table_get}
-use Rattle.mb_map.proofs.image.member.Goals as goal
+use Rattle.toml_members.proofs.member.Goals as goal
 
 pub returns : goal.returns
 returns c = table_get c.get.result c.args.key.now c.args.table.now.entries c.get.ensures.value
