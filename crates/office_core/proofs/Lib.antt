@@ -20,9 +20,6 @@ pub mod FirstArrivals
 pub mod BySlot
 pub mod Asking
 pub mod Opening
-pub mod GivenPlainly
-pub mod PutPlainly
-pub mod TotalPlainly
 pub mod Messages
 pub mod Forms
 pub mod Fitting

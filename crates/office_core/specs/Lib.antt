@@ -10,6 +10,5 @@ pub mod Standing
 pub mod Keeping
 pub mod Offices
 pub mod FirstArrivals
-pub mod Plain
 pub mod Fitting
 pub mod Messages

@@ -48,7 +48,7 @@ fn starts_in(read: &Read, address: u16) -> bool
 /// The point is of the device and of the table that is read, and lies whole in the read.
 // Each reply tries all points, most of which `starts_in` rejects.
 #[inline(always)]
-pub(crate) fn covers(device: &[u8], read: &Read, point: &Point) -> bool
+fn covers(device: &[u8], read: &Read, point: &Point) -> bool
     ensures { result ≡ cover.covers device.now read.now point.now }
 {
     if !starts_in(read, point.address) {
@@ -116,7 +116,7 @@ fn words_in(read: &Read, reply: &Reply, point: &Point) -> Registers
 }
 
 /// What a reply gives to the points that its query covers, of those the first ones that were known.
-pub(crate) fn covered(
+fn covered(
     alloc: Global,
     known: &[PointRow],
     device: &[u8],

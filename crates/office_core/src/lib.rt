@@ -10,7 +10,6 @@ mod event;
 pub mod laws;
 mod loads;
 mod office;
-pub mod plain;
 mod site;
 
 pub use error::OfficeError;

@@ -6,7 +6,6 @@ mod faults;
 mod histories;
 mod memory;
 mod model;
-mod plainly;
 mod refusals;
 mod refusing;
 mod rows;
