@@ -1,10 +1,13 @@
-//! What is shown of an error.
-use crate::UnitError;
+//! What is shown of errors.
+use crate::asserting::assert_told;
+use mb_mbap::FrameFault;
+use mb_pdu::UnitError;
 use std::alloc::{AllocError, Global};
+use std::fmt::Display;
 use std::test::Fail;
 
 /// The text of an error, made once more where memory was refused.
-fn text_of(alloc: Global, error: UnitError) -> Result<String, AllocError> {
+fn text_of<T: Display>(alloc: Global, error: &T) -> Result<String, AllocError> {
     match error.to_string(alloc) {
         Ok(text) => Ok(text),
         Err(_) => error.to_string(alloc),
@@ -12,7 +15,7 @@ fn text_of(alloc: Global, error: UnitError) -> Result<String, AllocError> {
 }
 
 #[test]
-fn texts_of_errors(rt: HostRuntime) -> Result<(), Fail> {
+fn texts_of_refused_units(rt: HostRuntime) -> Result<(), Fail> {
     use UnitError::*;
     let cases = [
         (Empty, "the unit is empty"),
@@ -25,7 +28,21 @@ fn texts_of_errors(rt: HostRuntime) -> Result<(), Fail> {
         (WrongReply, "this is no reply to the request"),
     ];
     for (error, text) in cases {
-        assert_eq!(rt; text_of(rt.alloc(), error)?.as_str(), text);
+        assert_told(&rt, &error, &text_of(rt.alloc(), &error)?.as_str(), &text);
+    }
+    Ok(())
+}
+
+#[test]
+fn texts_of_faulty_streams(rt: HostRuntime) -> Result<(), Fail> {
+    use FrameFault::*;
+    let cases = [
+        (NotModbus, "the protocol field isn't 0"),
+        (BadLength, "the length field is outside 2 to 254"),
+        (Failed, "an earlier header was bad"),
+    ];
+    for (fault, text) in cases {
+        assert_told(&rt, &fault, &text_of(rt.alloc(), &fault)?.as_str(), &text);
     }
     Ok(())
 }

@@ -1,19 +1,14 @@
-//! Tests of scripts: what whole ones print and how they end, on inputs worked out by hand. Nothing
-//! stands on this crate.
+//! Playing scripts to see what they print, and tests of whole ones: readings, totals, refused
+//! memory, readers and writers that fail. The inputs are worked out by hand.
 #![tactic(auto)]
 
 #[cfg(test)]
-mod forms;
+mod asserting;
 #[cfg(test)]
 mod memory;
-#[cfg(test)]
-mod playing;
-#[cfg(test)]
-mod refusals;
+pub mod playing;
 #[cfg(test)]
 mod rows;
-#[cfg(test)]
-mod sites;
 #[cfg(test)]
 mod streams;
 #[cfg(test)]

@@ -1,12 +1,11 @@
-//! Whole scripts: what is printed of them, and how they end.
-use office_script::{ReplayFault, Replayed, replay};
+//! Playing a script, and what is wrong with how it was played.
 use mb_mbap::Counted;
+use office_script::{ReplayFault, Replayed, replay};
 use std::alloc::{AllocError, Global};
-use std::process::Abort;
-use std::str;
+use std::{fmt, str};
 
 /// The readings of one counter, of which the second came last.
-pub(crate) const COUNTER: &str = "device m1 roof 17
+pub const COUNTER: &str = "device m1 roof 17
 point e,m1,holding,107,uint16,,,counter,
 open roof
 ask 1 m1 1 3 107 1
@@ -18,7 +17,7 @@ reply 1 00 01 00 00 00 05 11 03 02 01 F4
 reply 1 00 02 00 00 00 05 11 03 02 FA 00
 ";
 
-pub(crate) const COUNTER_TEXT: &str = "loaded 1
+pub const COUNTER_TEXT: &str = "loaded 1
 connection 1
 query 00 00 00 00 00 06 11 03 00 6B 00 01
 query 00 01 00 00 00 06 11 03 00 6B 00 01
@@ -34,14 +33,22 @@ total e 66572
 ";
 
 /// What was written of a script, and how it ended.
-#[derive(Drop)]
-pub(crate) struct Run {
-    pub(crate) text: Vec<u8>,
-    pub(crate) ended: Result<Replayed, ReplayFault>,
+#[derive(PartialEq, Drop)]
+pub struct Run {
+    pub text: Vec<u8>,
+    pub ended: Result<Replayed, ReplayFault>,
+}
+
+impl fmt::Debug for Run {
+    fn fmt<W: fmt::Write>(&self, f: &mut fmt::Formatter<W>) -> fmt::Result {
+        let text = shown(&self.text);
+        let ended = &self.ended;
+        write!(f, "{text}{ended:?}")
+    }
 }
 
 /// Plays a script. For so many bytes of output there is room from the first.
-pub(crate) fn played(alloc: Global, script: &[u8], room: usize) -> Result<Run, AllocError> {
+pub fn played(alloc: Global, script: &[u8], room: usize) -> Result<Run, AllocError> {
     let mut reader = Counted::new(script);
     let mut writer = Counted::new(Vec::with_capacity(alloc, room)?);
     let ended = replay(alloc, &mut reader, &mut writer);
@@ -52,7 +59,7 @@ pub(crate) fn played(alloc: Global, script: &[u8], room: usize) -> Result<Run, A
 }
 
 /// Plays a script, once more where memory was refused.
-fn played_out(alloc: Global, script: &[u8], room: usize) -> Result<Run, AllocError> {
+pub fn played_out(alloc: Global, script: &[u8], room: usize) -> Result<Run, AllocError> {
     match played(alloc, script, room) {
         Ok(run) if run.ended != Err(ReplayFault::Memory) => Ok(run),
         _ => played(alloc, script, room),
@@ -60,33 +67,29 @@ fn played_out(alloc: Global, script: &[u8], room: usize) -> Result<Run, AllocErr
 }
 
 /// Bytes as text, for an assertion to show.
-pub(crate) fn shown(bytes: &[u8]) -> &str {
+pub fn shown(bytes: &[u8]) -> &str {
     match str::from_utf8(bytes) {
         Ok(text) => text,
         Err(_) => "no text",
     }
 }
 
-/// Asserts what a script prints, and how it ends.
-pub(crate) fn assert_ends(
-    rt: &impl Abort,
+/// How a script was played where it didn't print this or didn't end so.
+pub fn other_than(
     alloc: Global,
     script: &str,
     wanted: &str,
     ended: Replayed,
-) -> Result<(), AllocError> {
+) -> Result<Option<Run>, AllocError> {
     let run = played_out(alloc, script.as_bytes(), wanted.len())?;
-    assert_eq!(rt; shown(&run.text), wanted, "{script}");
-    assert_eq!(rt; run.ended, Ok(ended), "{script}");
-    Ok(())
+    if run.text.as_slice() == wanted.as_bytes() && run.ended == Ok(ended) {
+        Ok(None)
+    } else {
+        Ok(Some(run))
+    }
 }
 
-/// Asserts what a script prints that ends with the report.
-pub(crate) fn assert_prints(
-    rt: &impl Abort,
-    alloc: Global,
-    script: &str,
-    wanted: &str,
-) -> Result<(), AllocError> {
-    assert_ends(rt, alloc, script, wanted, Replayed::Done)
+/// How a script was played where it didn't print this and end with its report.
+pub fn otherwise(alloc: Global, script: &str, wanted: &str) -> Result<Option<Run>, AllocError> {
+    other_than(alloc, script, wanted, Replayed::Done)
 }

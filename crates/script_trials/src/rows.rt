@@ -1,12 +1,8 @@
 //! What whole scripts print of readings.
-use crate::playing::{COUNTER, COUNTER_TEXT, assert_prints};
+use crate::playing::{COUNTER, COUNTER_TEXT, otherwise};
 use std::test::Fail;
 
-#[test]
-fn a_counter_rolls_over(rt: HostRuntime) -> Result<(), Fail> {
-    Ok(assert_prints(&rt, rt.alloc(), COUNTER, COUNTER_TEXT)?)
-}
-
+/// A second reply changes nothing, whatever it says.
 const GAUGES: &str = "device m1 roof 17
 point a,m1,holding,107,uint16,,,gauge,
 point b,m1,holding,108,uint16,,,gauge,
@@ -31,12 +27,7 @@ reading b 5 0
 reading c 5 100
 ";
 
-/// A second reply changes nothing, whatever it says.
-#[test]
-fn a_reply_records_once(rt: HostRuntime) -> Result<(), Fail> {
-    Ok(assert_prints(&rt, rt.alloc(), GAUGES, GAUGES_TEXT)?)
-}
-
+/// Of a slot that is asked for anew, the first readings stay.
 const ASKED_TWICE: &str = "device m1 roof 17
 point a,m1,holding,107,uint16,,,gauge,
 point b,m1,holding,108,uint16,,,gauge,
@@ -57,12 +48,6 @@ recorded 0
 reading a 5 555
 reading b 5 0
 ";
-
-/// Of a slot that is asked for anew, the first readings stay.
-#[test]
-fn a_slot_keeps_its_readings(rt: HostRuntime) -> Result<(), Fail> {
-    Ok(assert_prints(&rt, rt.alloc(), ASKED_TWICE, ASKED_TWICE_TEXT)?)
-}
 
 const EXCEPTION: &str = "device m1 roof 17
 point a,m1,holding,107,uint16,,,gauge,
@@ -90,11 +75,7 @@ reading b 5 0
 reading c 5 100
 ";
 
-#[test]
-fn an_exception_settles_its_query(rt: HostRuntime) -> Result<(), Fail> {
-    Ok(assert_prints(&rt, rt.alloc(), EXCEPTION, EXCEPTION_TEXT)?)
-}
-
+/// A reply is for the points that were known when it was asked for.
 const LATER_POINT: &str = "device m1 roof 17
 point a,m1,holding,107,uint16,,,gauge,
 point c,m1,holding,109,uint16,,,gauge,
@@ -113,12 +94,6 @@ recorded 2
 reading a 5 555
 reading c 5 100
 ";
-
-/// A reply is for the points that were known when it was asked for.
-#[test]
-fn a_later_point_waits(rt: HostRuntime) -> Result<(), Fail> {
-    Ok(assert_prints(&rt, rt.alloc(), LATER_POINT, LATER_POINT_TEXT)?)
-}
 
 /// The number of a point is its place among those that were loaded, and the report goes by it.
 const ORDERED: &str = "device m2 cellar 1
@@ -151,11 +126,7 @@ reading a 4294967295 9
 total z 2
 ";
 
-#[test]
-fn two_lines(rt: HostRuntime) -> Result<(), Fail> {
-    Ok(assert_prints(&rt, rt.alloc(), ORDERED, ORDERED_TEXT)?)
-}
-
+/// A text whose first byte is zero is empty, and its line ends with the space.
 const SHOWN: &str = "device m1 roof 17
 point t,m1,holding,0,int16,,,gauge,
 point ip,m1,holding,1,ipaddr,,,gauge,
@@ -192,12 +163,6 @@ reading k 1 7000
 reading none 1 -
 reading odd 1 A?~?
 reading empty 1 \n";
-
-/// A text whose first byte is zero is empty, and its line ends with the space.
-#[test]
-fn texts_of_readings(rt: HostRuntime) -> Result<(), Fail> {
-    Ok(assert_prints(&rt, rt.alloc(), SHOWN, SHOWN_TEXT)?)
-}
 
 const FUNCTIONS: &str = "device m1 roof 17
 point on,m1,coil,3,bit,,,gauge,
@@ -237,7 +202,23 @@ reading held 1 65536
 reading fed 1 4294967294
 ";
 
+/// Scripts by what they show, and what they print.
+const ROWS: &[(&str, &str, &str)] = &[
+    ("a counter rolls over", COUNTER, COUNTER_TEXT),
+    ("a reply records once", GAUGES, GAUGES_TEXT),
+    ("a slot keeps its readings", ASKED_TWICE, ASKED_TWICE_TEXT),
+    ("an exception settles its query", EXCEPTION, EXCEPTION_TEXT),
+    ("a later point waits", LATER_POINT, LATER_POINT_TEXT),
+    ("two lines", ORDERED, ORDERED_TEXT),
+    ("texts of readings", SHOWN, SHOWN_TEXT),
+    ("all four functions", FUNCTIONS, FUNCTIONS_TEXT),
+];
+
 #[test]
-fn all_four_functions(rt: HostRuntime) -> Result<(), Fail> {
-    Ok(assert_prints(&rt, rt.alloc(), FUNCTIONS, FUNCTIONS_TEXT)?)
+fn what_scripts_print(rt: HostRuntime) -> Result<(), Fail> {
+    for (case, script, wanted) in ROWS {
+        let other = otherwise(rt.alloc(), script, wanted)?;
+        assert!(rt; other.is_none(), "{case}: {other:?}");
+    }
+    Ok(())
 }

@@ -1,12 +1,12 @@
 //! Readers and writers that give and take little at a time, and that fail.
 ghost use Rattle.std.specs.Prelude.{Some};
 
+use crate::asserting::assert_told;
 use crate::playing::{COUNTER, COUNTER_TEXT, Run, shown};
-use office_script::{ReplayFault, Replayed, replay};
 use mb_mbap::Counted;
+use office_script::{ReplayFault, Replayed, replay};
 use std::alloc::{AllocError, Global};
 use std::io::{self, ErrorKind, Read, Write};
-use std::process::Abort;
 use std::test::Fail;
 
 /// A reader over memory of at most seven bytes a call, which fails once `left` calls are over.
@@ -91,20 +91,23 @@ fn read_out(alloc: Global, left: u32) -> Result<(Run, u64), AllocError> {
     }
 }
 
+/// How a script ended of which some reads failed, how many, and what was written.
+type Ended<'a> = (Result<Replayed, ReplayFault>, u64, &'a str);
+
 #[test]
 fn each_read_fails_once(rt: HostRuntime) -> Result<(), Fail> {
     // The last read finds the end.
     let calls = calls_for(COUNTER.len()).saturating_add(1);
-    for left in 0..calls {
+    for left in 0..=calls {
         let (run, failures) = read_out(rt.alloc(), left)?;
-        assert_eq!(rt; run.ended, Err(ReplayFault::Read), "{left} reads");
-        assert_eq!(rt; failures, 1, "{left} reads");
-        assert_eq!(rt; shown(&run.text), "", "{left} reads");
+        let told: Ended = (run.ended, failures, shown(&run.text));
+        let wanted: Ended = if left < calls {
+            (Err(ReplayFault::Read), 1, "")
+        } else {
+            (Ok(Replayed::Done), 0, COUNTER_TEXT)
+        };
+        assert_told(&rt, &left, &told, &wanted);
     }
-    let (run, failures) = read_out(rt.alloc(), calls)?;
-    assert_eq!(rt; run.ended, Ok(Replayed::Done));
-    assert_eq!(rt; failures, 0);
-    assert_eq!(rt; shown(&run.text), COUNTER_TEXT);
     Ok(())
 }
 
@@ -139,44 +142,44 @@ fn written_out(
     }
 }
 
-/// Asserts that a script's writing ended at a fault, behind so many bytes of its text.
-fn assert_cut(rt: &impl Abort, run: &Run, failures: u64, text: &str, taken: usize) {
-    assert_eq!(rt; run.ended, Err(ReplayFault::Write), "{taken} bytes");
-    assert_eq!(rt; failures, 1, "{taken} bytes");
-    assert_eq!(rt; run.text.len(), taken);
-    assert!(rt; text.as_bytes().starts_with(&run.text), "{taken} bytes");
+/// Whether a script's writing ended at a fault, behind so many bytes of its text.
+fn is_cut(run: &Run, failures: u64, text: &str, taken: usize) -> bool {
+    run.ended == Err(ReplayFault::Write)
+        && failures == 1
+        && run.text.len() == taken
+        && text.as_bytes().starts_with(&run.text)
+}
+
+/// Whether a script was written whole.
+fn is_whole(run: &Run, failures: u64, text: &str) -> bool {
+    run.ended == Ok(Replayed::Done) && failures == 0 && run.text.as_slice() == text.as_bytes()
 }
 
 #[test]
 fn each_write_fails_once(rt: HostRuntime) -> Result<(), Fail> {
     let all = COUNTER_TEXT.len();
     let calls = calls_for(all);
-    for left in 0..calls {
+    for left in 0..=calls {
         let (run, failures) = written_out(rt.alloc(), COUNTER, all, 7, left)?;
         let taken = left.saturating_mul(7) as usize;
-        assert_cut(&rt, &run, failures, COUNTER_TEXT, taken);
-    }
-    let (run, failures) = written_out(rt.alloc(), COUNTER, all, 7, calls)?;
-    assert_eq!(rt; run.ended, Ok(Replayed::Done));
-    assert_eq!(rt; failures, 0);
-    assert_eq!(rt; shown(&run.text), COUNTER_TEXT);
-    Ok(())
-}
-
-#[test]
-fn a_fault_line_is_not_written(rt: HostRuntime) -> Result<(), Fail> {
-    for script in ["x", "open attic\nx"] {
-        let (run, failures) = written_out(rt.alloc(), script, 0, 7, 0)?;
-        assert_cut(&rt, &run, failures, "", 0);
+        let is_right = if left < calls {
+            is_cut(&run, failures, COUNTER_TEXT, taken)
+        } else {
+            is_whole(&run, failures, COUNTER_TEXT)
+        };
+        assert!(rt; is_right, "{left} writes: {run:?}");
     }
     Ok(())
 }
 
-/// A writer that takes nothing is as one that fails.
+/// Neither a fault line nor an output can be written, and a writer that takes nothing is as one
+/// that fails.
 #[test]
-fn nothing_is_taken(rt: HostRuntime) -> Result<(), Fail> {
-    let (run, failures) = written_out(rt.alloc(), COUNTER, 0, 0, 5)?;
-    assert_cut(&rt, &run, failures, COUNTER_TEXT, 0);
+fn nothing_can_be_written(rt: HostRuntime) -> Result<(), Fail> {
+    for (script, size, left) in [("x", 7, 0), ("open attic\nx", 7, 0), (COUNTER, 0, 5)] {
+        let (run, failures) = written_out(rt.alloc(), script, 0, size, left)?;
+        assert!(rt; is_cut(&run, failures, "", 0), "{script}: {run:?}");
+    }
     Ok(())
 }
 
@@ -191,27 +194,28 @@ fn repeated(alloc: Global, text: &str, times: u32) -> Result<String, AllocError>
 
 const REFUSED: &str = "refused WrongLine\n";
 
-/// Asserts what is written of 8,000 refusals, 144,000 bytes: from 65,536 bytes on in whole lines,
-/// twice 3,641 of them and then the rest.
-fn assert_pieces(rt: &impl Abort, alloc: Global) -> Result<(), AllocError> {
+/// Whether 8,000 refusals, 144,000 bytes, are written from 65,536 bytes on in whole lines: twice
+/// 3,641 of them and then the rest.
+fn are_pieces(alloc: Global) -> Result<bool, AllocError> {
     let script = repeated(alloc, "open attic\n", 8000)?;
     let wanted = repeated(alloc, REFUSED, 8000)?;
     let size = wanted.len();
+    let mut are_cut = true;
     for (left, taken) in [(0, 0), (1, 65538), (2, 131_076)] {
         let (run, failures) = written_out(alloc, script.as_str(), size, size, left)?;
-        assert_cut(rt, &run, failures, wanted.as_str(), taken);
+        are_cut = are_cut && is_cut(&run, failures, wanted.as_str(), taken);
     }
-    let (run, _) = written_out(alloc, script.as_str(), size, size, 3)?;
-    assert_eq!(rt; run.ended, Ok(Replayed::Done));
-    assert!(rt; run.text.as_slice() == wanted.as_bytes());
-    Ok(())
+    let (run, failures) = written_out(alloc, script.as_str(), size, size, 3)?;
+    Ok(are_cut && is_whole(&run, failures, wanted.as_str()))
 }
 
 #[test]
 fn a_long_output_is_written_in_pieces(rt: HostRuntime) -> Result<(), Fail> {
-    if assert_pieces(&rt, rt.alloc()).is_err() {
-        assert_pieces(&rt, rt.alloc())?;
-    }
+    let are = match are_pieces(rt.alloc()) {
+        Ok(are) => are,
+        Err(_) => are_pieces(rt.alloc())?,
+    };
+    assert!(rt; are);
     Ok(())
 }
 
@@ -251,17 +255,17 @@ fn long_played_out(alloc: Global, left: usize) -> Result<Run, AllocError> {
 }
 
 #[test]
-fn a_script_of_the_greatest_length(rt: HostRuntime) -> Result<(), Fail> {
-    let run = long_played_out(rt.alloc(), 67_108_864)?;
-    assert_eq!(rt; run.ended, Ok(Replayed::FaultLine(2)));
-    assert_eq!(rt; shown(&run.text), "fault line 2\n");
-    Ok(())
-}
-
-#[test]
-fn a_script_of_a_byte_more(rt: HostRuntime) -> Result<(), Fail> {
-    let run = long_played_out(rt.alloc(), 67_108_865)?;
-    assert_eq!(rt; run.ended, Err(ReplayFault::Read));
-    assert_eq!(rt; shown(&run.text), "");
+fn scripts_of_the_greatest_length_and_a_byte_more(rt: HostRuntime) -> Result<(), Fail> {
+    let cases: [(usize, Ended); 2] = [
+        (
+            67_108_864,
+            (Ok(Replayed::FaultLine(2)), 0, "fault line 2\n"),
+        ),
+        (67_108_865, (Err(ReplayFault::Read), 0, "")),
+    ];
+    for (length, wanted) in cases {
+        let run = long_played_out(rt.alloc(), length)?;
+        assert_told(&rt, &length, &(run.ended, 0, shown(&run.text)), &wanted);
+    }
     Ok(())
 }

@@ -1,7 +1,6 @@
 //! What whole scripts print of counters.
-use crate::playing::assert_prints;
+use crate::playing::{Run, otherwise};
 use std::alloc::{AllocError, Global};
-use std::process::Abort;
 use std::test::Fail;
 
 /// A counter that was asked for in three slots.
@@ -22,33 +21,6 @@ const COUNTER: &str = "device m1 roof 17
 point e,m1,holding,107,uint16,,,counter,
 ";
 
-/// Asserts what is printed of a counter behind the queries.
-fn assert_counts(
-    rt: &impl Abort,
-    alloc: Global,
-    point: &str,
-    replies: &str,
-    wanted: &str,
-) -> Result<(), AllocError> {
-    let script = format!(in alloc; "{point}{ASKED}{replies}")?;
-    let wanted = format!(in alloc; "{ASKED_TEXT}{wanted}")?;
-    assert_prints(rt, alloc, script.as_str(), wanted.as_str())
-}
-
-/// Asserts it, once more where memory was refused to the test.
-fn assert_total(
-    rt: &impl Abort,
-    alloc: Global,
-    point: &str,
-    replies: &str,
-    wanted: &str,
-) -> Result<(), AllocError> {
-    match assert_counts(rt, alloc, point, replies, wanted) {
-        Ok(()) => Ok(()),
-        Err(_) => assert_counts(rt, alloc, point, replies, wanted),
-    }
-}
-
 /// 65000 in slot 1, 65500 or 64000 in slot 2, 500 in slot 3.
 const FIRST: &str = "reply 1 00 00 00 00 00 05 11 03 02 FD E8\n";
 
@@ -57,19 +29,6 @@ const BETWEEN: &str = "reply 1 00 01 00 00 00 05 11 03 02 FF DC\n";
 const BACK: &str = "reply 1 00 01 00 00 00 05 11 03 02 FA 00\n";
 
 const LAST: &str = "reply 1 00 02 00 00 00 05 11 03 02 01 F4\n";
-
-fn assert_rolls(
-    rt: &impl Abort,
-    alloc: Global,
-    replies: &[&str],
-    wanted: &str,
-) -> Result<(), AllocError> {
-    let mut text = String::with_capacity(alloc, 200)?;
-    for reply in replies {
-        text.push_str(reply)?;
-    }
-    assert_total(rt, alloc, COUNTER, text.as_str(), wanted)
-}
 
 const ROLLED: &str = "recorded 1
 recorded 1
@@ -95,42 +54,6 @@ reading e 2 64000
 reading e 3 500
 total e 66572
 ";
-
-/// Scripts of replies, each once more where memory was refused to the test.
-fn assert_rolled(
-    rt: &impl Abort,
-    alloc: Global,
-    replies: &[&str],
-    wanted: &str,
-) -> Result<(), AllocError> {
-    match assert_rolls(rt, alloc, replies, wanted) {
-        Ok(()) => Ok(()),
-        Err(_) => assert_rolls(rt, alloc, replies, wanted),
-    }
-}
-
-#[test]
-fn a_late_reply_between_two(rt: HostRuntime) -> Result<(), Fail> {
-    assert_rolled(&rt, rt.alloc(), &[FIRST, LAST], ROLLED)?;
-    assert_rolled(&rt, rt.alloc(), &[FIRST, LAST, BETWEEN], ROLLED_THROUGH)?;
-    assert_rolled(&rt, rt.alloc(), &[FIRST, LAST, BACK], ROLLED_TWICE)?;
-    Ok(())
-}
-
-#[test]
-fn six_orders_of_arrival(rt: HostRuntime) -> Result<(), Fail> {
-    for order in [
-        [FIRST, BACK, LAST],
-        [FIRST, LAST, BACK],
-        [BACK, FIRST, LAST],
-        [BACK, LAST, FIRST],
-        [LAST, FIRST, BACK],
-        [LAST, BACK, FIRST],
-    ] {
-        assert_rolled(&rt, rt.alloc(), &order, ROLLED_TWICE)?;
-    }
-    Ok(())
-}
 
 const ROLLED_AT_99: &str = "device m1 roof 17
 point e,m1,holding,107,uint16,,,counter,99
@@ -172,21 +95,6 @@ reading e 3 2.0
 total e 6546.6
 ";
 
-#[test]
-fn totals_of_few_and_of_uncounted(rt: HostRuntime) -> Result<(), Fail> {
-    assert_total(&rt, rt.alloc(), COUNTER, "", "total e 0\n")?;
-    assert_total(&rt, rt.alloc(), COUNTER, ONE, ONE_TEXT)?;
-    assert_total(
-        &rt,
-        rt.alloc(),
-        ROLLED_AT_99,
-        PAST_THE_ROLL,
-        PAST_THE_ROLL_TEXT,
-    )?;
-    assert_total(&rt, rt.alloc(), SCALED, PAST_THE_ROLL, SCALED_TEXT)?;
-    Ok(())
-}
-
 /// 100, 0 and 150.
 const ACCUMULATOR: &str = "device m1 roof 17
 point e,m1,holding,107,acc32,,,counter,
@@ -213,8 +121,56 @@ reading e 3 150
 total e 50
 ";
 
+/// Points, the replies to their queries, and what is printed behind those.
+const CASES: &[(&str, &[&str], &str)] = &[
+    (COUNTER, &[FIRST, LAST], ROLLED),
+    // A late reply between two.
+    (COUNTER, &[FIRST, LAST, BETWEEN], ROLLED_THROUGH),
+    // The six orders of arrival.
+    (COUNTER, &[FIRST, BACK, LAST], ROLLED_TWICE),
+    (COUNTER, &[FIRST, LAST, BACK], ROLLED_TWICE),
+    (COUNTER, &[BACK, FIRST, LAST], ROLLED_TWICE),
+    (COUNTER, &[BACK, LAST, FIRST], ROLLED_TWICE),
+    (COUNTER, &[LAST, FIRST, BACK], ROLLED_TWICE),
+    (COUNTER, &[LAST, BACK, FIRST], ROLLED_TWICE),
+    // Few readings, and uncounted ones.
+    (COUNTER, &[], "total e 0\n"),
+    (COUNTER, &[ONE], ONE_TEXT),
+    (ROLLED_AT_99, &[PAST_THE_ROLL], PAST_THE_ROLL_TEXT),
+    (SCALED, &[PAST_THE_ROLL], SCALED_TEXT),
+];
+
+/// How a counter was reported otherwise behind the queries and these replies.
+fn other_total(
+    alloc: Global,
+    point: &str,
+    replies: &[&str],
+    wanted: &str,
+) -> Result<Option<Run>, AllocError> {
+    let mut script = format!(in alloc; "{point}{ASKED}")?;
+    for reply in replies {
+        script.push_str(reply)?;
+    }
+    let wanted = format!(in alloc; "{ASKED_TEXT}{wanted}")?;
+    otherwise(alloc, script.as_str(), wanted.as_str())
+}
+
+#[test]
+fn totals_of_counters(rt: HostRuntime) -> Result<(), Fail> {
+    for (point, replies, wanted) in CASES {
+        let other = match other_total(rt.alloc(), point, replies, wanted) {
+            Ok(other) => other,
+            Err(_) => other_total(rt.alloc(), point, replies, wanted)?,
+        };
+        assert!(rt; other.is_none(), "{replies:?}: {other:?}");
+    }
+    Ok(())
+}
+
 /// A zero of an accumulator means that it isn't implemented.
 #[test]
 fn an_accumulator_of_zero(rt: HostRuntime) -> Result<(), Fail> {
-    Ok(assert_prints(&rt, rt.alloc(), ACCUMULATOR, ACCUMULATOR_TEXT)?)
+    let other = otherwise(rt.alloc(), ACCUMULATOR, ACCUMULATOR_TEXT)?;
+    assert!(rt; other.is_none(), "{other:?}");
+    Ok(())
 }

@@ -1,8 +1,7 @@
 //! The greatest sites that scripts can declare, and those past them.
-use crate::playing::assert_ends;
 use office_script::Replayed;
+use script_trials::playing::{Run, other_than};
 use std::alloc::{AllocError, Global};
-use std::process::Abort;
 use std::test::Fail;
 
 /// So many devices, each on a line of its own.
@@ -27,48 +26,47 @@ fn together(alloc: Global, count: u32) -> Result<String, AllocError> {
     Ok(script)
 }
 
-fn assert_lines(rt: &impl Abort, alloc: Global) -> Result<(), AllocError> {
+fn with_64_lines(alloc: Global) -> Result<Option<Run>, AllocError> {
     let mut script = apart(alloc, 64)?;
     script.push_str("device x l1 8\nopen l64\nopen l65\n")?;
     let wanted = "connection 1\nrefused WrongLine\n";
-    assert_ends(rt, alloc, script.as_str(), wanted, Replayed::Done)?;
+    other_than(alloc, script.as_str(), wanted, Replayed::Done)
+}
+
+fn with_65_lines(alloc: Global) -> Result<Option<Run>, AllocError> {
     let script = apart(alloc, 65)?;
-    assert_ends(
-        rt,
-        alloc,
-        script.as_str(),
-        "fault line 65\n",
-        Replayed::FaultLine(65),
-    )
+    let ended = Replayed::FaultLine(65);
+    other_than(alloc, script.as_str(), "fault line 65\n", ended)
 }
 
-#[test]
-fn at_most_64_lines(rt: HostRuntime) -> Result<(), Fail> {
-    if assert_lines(&rt, rt.alloc()).is_err() {
-        assert_lines(&rt, rt.alloc())?;
-    }
-    Ok(())
-}
-
-fn assert_devices(rt: &impl Abort, alloc: Global) -> Result<(), AllocError> {
+fn with_256_devices(alloc: Global) -> Result<Option<Run>, AllocError> {
     let mut script = together(alloc, 256)?;
     script.push_str("open l0\nask 1 d256 1 3 1 1\npoint e,d256,input,1,uint16,,,counter,\n")?;
     let wanted = "connection 1\nrefused WrongLine\nloaded 1\ntotal e 0\n";
-    assert_ends(rt, alloc, script.as_str(), wanted, Replayed::Done)?;
+    other_than(alloc, script.as_str(), wanted, Replayed::Done)
+}
+
+fn with_257_devices(alloc: Global) -> Result<Option<Run>, AllocError> {
     let script = together(alloc, 257)?;
-    assert_ends(
-        rt,
-        alloc,
-        script.as_str(),
-        "fault line 257\n",
-        Replayed::FaultLine(257),
-    )
+    let ended = Replayed::FaultLine(257);
+    other_than(alloc, script.as_str(), "fault line 257\n", ended)
+}
+
+fn others(alloc: Global) -> Result<[Option<Run>; 4], AllocError> {
+    Ok([
+        with_64_lines(alloc)?,
+        with_65_lines(alloc)?,
+        with_256_devices(alloc)?,
+        with_257_devices(alloc)?,
+    ])
 }
 
 #[test]
-fn at_most_256_devices(rt: HostRuntime) -> Result<(), Fail> {
-    if assert_devices(&rt, rt.alloc()).is_err() {
-        assert_devices(&rt, rt.alloc())?;
-    }
+fn at_most_64_lines_and_256_devices(rt: HostRuntime) -> Result<(), Fail> {
+    let others = match others(rt.alloc()) {
+        Ok(others) => others,
+        Err(_) => others(rt.alloc())?,
+    };
+    assert!(rt; others.iter().all(|other| other.is_none()), "{others:?}");
     Ok(())
 }

@@ -1,8 +1,8 @@
 //! Lines of another form, and lines that are skipped.
-use crate::playing::{assert_ends, assert_prints};
+use crate::asserting::{assert_ends, assert_prints};
 use office_script::Replayed;
+use script_trials::playing::{Run, other_than};
 use std::alloc::{AllocError, Global};
-use std::process::Abort;
 use std::test::Fail;
 
 /// Lines of another form behind an open connection.
@@ -77,21 +77,23 @@ const WRONG: &[&str] = &[
     "reply 9 00",
 ];
 
-fn assert_wrong(rt: &impl Abort, alloc: Global, line: &str) -> Result<(), AllocError> {
+fn behind_a_query(alloc: Global, line: &str) -> Result<Option<Run>, AllocError> {
     let script = format!(in alloc;
         "device m1 roof 17\npoint a,m1,holding,107,uint16,,,gauge,\nopen roof\nask 1 m1 1 3 107 1\n{line}\nopen roof\n"
     )?;
     let wanted =
         "loaded 1\nconnection 1\nquery 00 00 00 00 00 06 11 03 00 6B 00 01\nfault line 5\n";
-    assert_ends(rt, alloc, script.as_str(), wanted, Replayed::FaultLine(5))
+    other_than(alloc, script.as_str(), wanted, Replayed::FaultLine(5))
 }
 
 #[test]
 fn lines_of_another_form(rt: HostRuntime) -> Result<(), Fail> {
     for line in WRONG {
-        if assert_wrong(&rt, rt.alloc(), line).is_err() {
-            assert_wrong(&rt, rt.alloc(), line)?;
-        }
+        let other = match behind_a_query(rt.alloc(), line) {
+            Ok(other) => other,
+            Err(_) => behind_a_query(rt.alloc(), line)?,
+        };
+        assert!(rt; other.is_none(), "{line}: {other:?}");
     }
     Ok(())
 }
@@ -119,10 +121,9 @@ const WRONG_DEVICES: &[&str] = &[
     "restart",
 ];
 
-fn assert_wrong_device(rt: &impl Abort, alloc: Global, line: &str) -> Result<(), AllocError> {
+fn behind_a_device(alloc: Global, line: &str) -> Result<Option<Run>, AllocError> {
     let script = format!(in alloc; "# c\ndevice m1 roof 17\n\n{line}\nopen roof\n")?;
-    assert_ends(
-        rt,
+    other_than(
         alloc,
         script.as_str(),
         "fault line 4\n",
@@ -133,9 +134,11 @@ fn assert_wrong_device(rt: &impl Abort, alloc: Global, line: &str) -> Result<(),
 #[test]
 fn devices_of_another_form(rt: HostRuntime) -> Result<(), Fail> {
     for line in WRONG_DEVICES {
-        if assert_wrong_device(&rt, rt.alloc(), line).is_err() {
-            assert_wrong_device(&rt, rt.alloc(), line)?;
-        }
+        let other = match behind_a_device(rt.alloc(), line) {
+            Ok(other) => other,
+            Err(_) => behind_a_device(rt.alloc(), line)?,
+        };
+        assert!(rt; other.is_none(), "{line}: {other:?}");
     }
     Ok(())
 }
