@@ -2,8 +2,7 @@ mod keeping;
 mod totals;
 
 use crate::{Change, Keeper, MemKeeper, PointRow, StoreFault, record};
-use mb_map::Table;
-use mb_pdu::Registers;
+use mb_pdu::{Registers, Table};
 use point_list::{Items, Label, Name, Point, Role};
 use std::alloc::Global;
 use sunspec::PointType;

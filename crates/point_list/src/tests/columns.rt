@@ -3,7 +3,7 @@ use crate::{
     Device, Items, Label, Line, ListError, ListFault, ListRow, Name, Point, Role, Site, Text,
     read_list,
 };
-use mb_map::Table;
+use mb_pdu::Table;
 use std::alloc::{AllocError, Global};
 use std::process::Abort;
 use std::test::Fail;
