@@ -1,5 +1,4 @@
-use mb_map::Table;
-use mb_pdu::Registers;
+use mb_pdu::{Registers, Table};
 use point_list::{Items, Label, Name, Point, Role};
 use poll_book::{Change, Keeper, MemKeeper, PointRow, StoreFault, record};
 use std::alloc::Global;

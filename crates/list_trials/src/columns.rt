@@ -1,5 +1,5 @@
 //! Each column at its limits and one past them, and which fault comes first.
-use mb_map::Table;
+use mb_pdu::Table;
 use point_list::{
     Device, Items, Label, Line, ListError, ListFault, ListRow, Name, Point, Role, Site, Text,
     read_list,

@@ -13,10 +13,9 @@ mod mapping;
 mod queue;
 mod sim;
 mod step;
-mod table;
 
 pub use error::MapError;
 pub use mapping::Mapping;
+pub use mb_pdu::Table;
 pub use sim::Sim;
 pub use step::Step;
-pub use table::Table;

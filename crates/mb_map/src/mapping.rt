@@ -4,7 +4,7 @@ ghost use Rattle.mb_map.specs.Tables.{cell_at, cells_of, greatest, with_cells, w
 
 use crate::cells::Cells;
 use crate::error::MapError;
-use crate::table::Table;
+use mb_pdu::Table;
 use std::alloc::Global;
 use std::marker::Model;
 
@@ -32,6 +32,16 @@ fn is_too_large(start: u32, size: u32) -> bool
     ensures { IsTrue result ↔ (65536 < start + size) }
 {
     u64::from(start) + u64::from(size) > 65536
+}
+
+/// The greatest number that a cell of a table may hold.
+fn greatest(table: Table) -> u16
+    ensures { result ≡ greatest table }
+{
+    match table {
+        Table::Coil | Table::Discrete => 1,
+        Table::Input | Table::Holding => u16::MAX,
+    }
 }
 
 impl Mapping {
@@ -116,7 +126,7 @@ impl Mapping {
         ensures done { OnTrue result (self.new ≡ with_cells table (written address (number ∷ []) (cells_of table self.old)) self.old) }
         ensures refused { OnFalse result (self.new ≡ self.old) }
     {
-        if number > table.greatest() {
+        if number > greatest(table) {
             return false;
         }
         match table {

@@ -15,8 +15,8 @@ use Rattle.mb_pdu.specs.Replies.{spells_reply, spells_normal, is_exception, func
 use Rattle.mb_pdu.proofs.Words.{unworded-words_text}
 use Rattle.mb_pdu.proofs.Packed.{unpacked-packed}
 use Rattle.mb_pdu.proofs.Spelled.{spelled_fits}
-use Rattle.mb_map.specs.declared.table.Table.{Table}
-use Rattle.mb_map.specs.declared.table.Table.TheVariants.{Coil, Discrete, Holding, Input}
+use Rattle.mb_pdu.specs.declared.table.Table.{Table}
+use Rattle.mb_pdu.specs.declared.table.Table.TheVariants.{Coil, Discrete, Holding, Input}
 use Rattle.sunspec.specs.PointType.{row}
 use Rattle.point_list.specs.declared.point.Point.{Point}
 use Rattle.read_planner.specs.declared.Read.{Read}

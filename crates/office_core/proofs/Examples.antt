@@ -5,7 +5,7 @@ use Rattle.std.specs.List.{list_all}
 use Rattle.std.proofs.lemmas.Bool.{and_parts, ltb-true}
 use Rattle.std.proofs.lemmas.Option.{none-some, same_Some}
 use Rattle.mb_mbap.specs.declared.frame.Frame.{Frame}
-use Rattle.mb_map.specs.declared.table.Table.TheVariants.{Holding}
+use Rattle.mb_pdu.specs.declared.table.Table.TheVariants.{Holding}
 use Rattle.mb_pdu.specs.Packing.{two, unworded}
 use Rattle.mb_pdu.specs.Replies.{IsBytes}
 use Rattle.sunspec.specs.declared.point_type.PointType.{PointType}

@@ -16,8 +16,8 @@ use Rattle.mb_pdu.specs.declared.reply.Reply.{Reply as AReply}
 use Rattle.mb_pdu.specs.declared.reply.Reply.TheVariants.{Bits, Registers, Written, Excepted}
 use Rattle.mb_pdu.specs.Replies.{IsBytes, normal_of, fits_normal}
 use Rattle.mb_pdu.proofs.Tells.{told}
-use Rattle.mb_map.specs.declared.table.Table.{Table}
-use Rattle.mb_map.specs.declared.table.Table.TheVariants.{Coil, Discrete, Holding, Input}
+use Rattle.mb_pdu.specs.declared.table.Table.{Table}
+use Rattle.mb_pdu.specs.declared.table.Table.TheVariants.{Coil, Discrete, Holding, Input}
 use Rattle.sunspec.specs.declared.point_type.PointType.{PointType}
 use Rattle.sunspec.specs.declared.point_type.PointType.TheVariants.{Bit}
 use Rattle.sunspec.specs.declared.point_type.Content.TheVariants.{Bit as Cell}

@@ -9,7 +9,7 @@ use Rattle.std.specs.List.{list_all}
 use Rattle.std.proofs.lemmas.Bool.{and_parts, leb-true, le-leb}
 use Rattle.std.proofs.lemmas.Option.{none-some, same_Some, cond_some}
 use Rattle.std.proofs.lemmas.List.Elements.{All-nil, All-cons, All-head, All-tail, All-map, All-filter, All-append}
-use Rattle.mb_map.specs.declared.table.Table.{Table}
+use Rattle.mb_pdu.specs.declared.table.Table.{Table}
 use Rattle.sunspec.specs.declared.point_type.PointType.{PointType}
 use Rattle.sunspec.specs.declared.point_type.PointType.TheVariants.{Str}
 use Rattle.sunspec.specs.PointType.{row, types, resized, IsSized}

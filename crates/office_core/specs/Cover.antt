@@ -8,8 +8,8 @@ use Rattle.mb_pdu.specs.declared.reply.Normal.{Normal}
 use Rattle.mb_pdu.specs.declared.reply.Normal.TheVariants.{OfBits, OfWords, Echo}
 use Rattle.mb_pdu.specs.declared.reply.Reply.{Reply}
 use Rattle.mb_pdu.specs.declared.reply.Reply.TheVariants.{Bits, Registers, Written, Excepted}
-use Rattle.mb_map.specs.declared.table.Table.{Table}
-use Rattle.mb_map.specs.declared.table.Table.TheVariants.{Coil, Discrete, Holding, Input}
+use Rattle.mb_pdu.specs.declared.table.Table.{Table}
+use Rattle.mb_pdu.specs.declared.table.Table.TheVariants.{Coil, Discrete, Holding, Input}
 use Rattle.sunspec.specs.PointType.{row}
 use Rattle.point_list.specs.declared.point.Point.{Point}
 use Rattle.read_planner.specs.declared.Read.{Read}

@@ -3,8 +3,7 @@ ghost use Rattle.std.specs.Prelude.{◌≡◌, ◌≤◌, ◌<◌, ◌+◌, ◌�
 ghost use Rattle.office_core.specs.Cover as cover;
 ghost use Rattle.office_core.specs.Cover.{Brings};
 
-use mb_map::Table;
-use mb_pdu::{Bits, Registers, Reply};
+use mb_pdu::{Bits, Registers, Reply, Table};
 use point_list::{Point, Site};
 use poll_book::PointRow;
 use poll_match::Asked;

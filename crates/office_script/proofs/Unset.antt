@@ -7,7 +7,7 @@ use Rattle.std.proofs.lemmas.Bool.{and_parts}
 use Rattle.std.proofs.lemmas.List.{take-append-drop, take_rest}
 use Rattle.std.proofs.lemmas.Slice.Eq.{bytes_eq-Decides}
 use Rattle.csv.specs.Records.{field_at}
-use Rattle.mb_map.specs.declared.table.Table.{Table}
+use Rattle.mb_pdu.specs.declared.table.Table.{Table}
 use Rattle.sunspec.specs.declared.point_type.PointType.{PointType}
 use Rattle.point_list.specs.Columns.{Record, field, ◌then◌, role_of, can_count, can_be_written, can_be_set}
 use Rattle.point_list.specs.Header.{is_header}

@@ -1,7 +1,7 @@
 -- A list that is written out, and its meaning computed.
 use Rattle.std.proofs.Common.{◌≡◌, ℕ, List, [], ◌∷◌, Bool, Ok, Err, refl, codes, pos}
 use Rattle.std.specs.Str.{bytes_eq}
-use Rattle.mb_map.specs.declared.table.Table.TheVariants.{Holding}
+use Rattle.mb_pdu.specs.declared.table.Table.TheVariants.{Holding}
 use Rattle.sunspec.specs.declared.point_type.PointType.TheVariants.{Uint16}
 use Rattle.point_list.specs.Columns.{Record}
 use Rattle.point_list.specs.Lists.{records_of, header}

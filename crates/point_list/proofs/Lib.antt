@@ -1,6 +1,6 @@
 pub mod Labels
 pub mod Names
-pub mod Each
+pub mod Failing
 pub mod Differ
 pub mod TextSets
 pub mod Checks

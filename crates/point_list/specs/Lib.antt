@@ -9,3 +9,4 @@ pub mod Judged
 pub mod Header
 pub mod FaultTexts
 pub mod ListMeaning
+pub use Rattle.toml_members.specs.Members

@@ -3,7 +3,7 @@ use Rattle.std.specs.Prelude.{◌≡◌, ◌≢◌, ◌⊎◌, ◌+◌, ◌<◌,
 use Rattle.std.specs.List.{list_any}
 use Rattle.std.specs.Str.{bytes_eq}
 use Rattle.csv.specs.Reading.{records, strip_bom, default_config}
-use Rattle.mb_map.specs.declared.table.Table.{Table}
+use Rattle.mb_pdu.specs.declared.table.Table.{Table}
 use Rattle.sunspec.specs.declared.point_type.PointType.{PointType}
 use Rattle.sunspec.specs.PointType.{row}
 use Rattle.point_list.specs.Name.{is_name}

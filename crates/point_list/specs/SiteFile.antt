@@ -1,8 +1,7 @@
 -- What a document of TOML says of a site.
-use Rattle.std.specs.Prelude.{◌≡◌, ℕ, pos, List, [], ◌∷◌, Option, Some, None, Result, Ok, Err, if◌then◌else◌, nat_le, length, codes, ⊤}
-use Rattle.std.specs.Str.{IsUtf8}
-use Rattle.toml.specs.Data.{Data, Items, no_items, item, Members, integer, array, as_str, as_table, get_member}
-use Rattle.toml.specs.Parse.{parse_document}
+use Rattle.std.specs.Prelude.{◌≡◌, ℕ, List, Option, Some, None, Result, Ok, Err, if◌then◌else◌, nat_le, length, codes, ⊤}
+use Rattle.toml.specs.Data.{Data, Members, as_table}
+use Rattle.toml_members.specs.Members.{◌>>=◌, each, entries_at, number_at, optional_at, text_at}
 use Rattle.point_list.specs.declared.site.Site.{Site}
 use Rattle.point_list.specs.declared.site.Line.{Line}
 use Rattle.point_list.specs.declared.site.Device.{Device}
@@ -12,11 +11,6 @@ use Rattle.point_list.specs.declared.site_file.Refusal.{Refusal}
 use Rattle.point_list.specs.declared.site_file.Refusal.TheVariants.{BadSite as NoSite, Memory as OutOfMemory}
 use Rattle.point_list.specs.Name.{is_name}
 use Rattle.point_list.specs.Sites.{is_sound, line_of}
-
-infixl 10 ◌>>=◌
-abbrev pub ◌>>=◌ : {A B : Type 0} → Option A → (A → Option B) → Option B
-(Some x) >>= f = f x
-None >>= f = None
 
 -- the two refusals of a site file
 abbrev pub bad_site : ListError
@@ -34,51 +28,11 @@ abbrev pub Gives : {X Y : Type 0} → (X → Y) → Result X Refusal → Option 
 Gives view (Ok x) read = read ≡ Some (view x)
 Gives view (Err e) read = Fails e read
 
--- ---- members of a table
-
--- the text at a key
-unfoldable pub text_at : List ℕ → Members → Option (List ℕ)
-text_at key t = get_member key t >>= as_str
-
 -- the name at a key
 unfoldable pub name_at : List ℕ → Members → Option (List ℕ)
 name_at key t = do
   name ← text_at key t
   if is_name name then Some name else None
-
--- a whole number up to a limit
-abbrev pub number_in : ℕ → Data → Option ℕ
-number_in limit (integer (pos n)) = if nat_le n limit then Some n else None
-number_in limit _ = None
-
-unfoldable pub number_at : List ℕ → ℕ → Members → Option ℕ
-number_at key limit t = get_member key t >>= number_in limit
-
--- the same where the member may be missing, and is then 0
-abbrev pub optional_in : ℕ → Option Data → Option ℕ
-optional_in limit None = Some 0
-optional_in limit (Some d) = number_in limit d
-
-unfoldable pub optional_at : List ℕ → ℕ → Members → Option ℕ
-optional_at key limit t = optional_in limit (get_member key t)
-
--- the entries of an array
-abbrev pub entries_in : Option Data → Option Items
-entries_in (Some (array ds)) = Some ds
-entries_in _ = None
-
-unfoldable pub entries_at : List ℕ → Members → Option Items
-entries_at key t = entries_in (get_member key t)
-
--- every entry, read in turn
-unfoldable pub each : {A : Type 0} → (Data → Option A) → Items → Option (List A)
-each f no_items = Some []
-each f (item d ds) = do
-  x ← f d
-  xs ← each f ds
-  Some (x ∷ xs)
-
--- ---- a site
 
 -- a line: a name and an address
 unfoldable pub line_in : Data → Option Line
@@ -116,7 +70,3 @@ site_of doc = do
   lines ← lines_of doc
   devices ← devices_of lines doc
   if is_sound lines devices then Some (record { lines = lines; devices = devices }) else None
-
--- the document of a text
-abbrev pub IsDocument : List ℕ → Members → Type 0
-IsDocument bytes doc = IsUtf8 bytes × (parse_document bytes ≡ Some doc)

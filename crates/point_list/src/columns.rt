@@ -8,7 +8,7 @@ ghost use Rattle.point_list.specs.Columns.{field, table_of, address_of, is_left_
 
 use crate::point::Role;
 use csv::ByteRecord;
-use mb_map::Table;
+use mb_pdu::Table;
 use sunspec::{PointType, digits};
 
 /// The field of a record at a place, or nothing.

@@ -18,7 +18,7 @@ use crate::name::Name;
 use crate::point::{ListRow, Point, Role};
 use crate::texts::Texts;
 use csv::ByteRecord;
-use mb_map::Table;
+use mb_pdu::Table;
 use sunspec::PointType;
 
 /// Columns 1 to 4: where a point is.

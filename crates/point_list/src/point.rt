@@ -1,6 +1,6 @@
 use crate::label::Label;
 use crate::name::Name;
-use mb_map::Table;
+use mb_pdu::Table;
 use sunspec::PointType;
 
 /// What a point is for.

@@ -1,11 +1,12 @@
 //! Site files, as TOML.
-ghost use Rattle.std.specs.Prelude.{◌≡◌, ◌≤◌, ◌<◌, ◌&&◌, ◌==◌, ◌⊎◌, length, option_map, IfOk, IfErr, Some, None, string_bytes, nat_lt};
+ghost use Rattle.std.specs.Prelude.{◌≡◌, ◌≤◌, ◌<◌, ◌&&◌, ◌==◌, ◌⊎◌, length, IfOk, IfErr, Some, None, string_bytes, nat_lt};
 ghost use Rattle.std.specs.List.{list_all, list_any, position};
 ghost use Rattle.std.specs.Str.{bytes_eq};
-ghost use Rattle.toml.specs.Data.{Members, get_member};
+ghost use Rattle.toml.specs.Data.{Members};
 ghost use Rattle.toml.specs.View.{table_view, view, items_view};
 ghost use Rattle.point_list.specs.Sites.{IsSound, all_differ, line_of, have_lines, is_sound, same_line_name, same_device_name, same_place};
-ghost use Rattle.point_list.specs.SiteFile.{Gives, IsDocument, bad_site, no_memory, device_in, devices_of, each, entries_at, line_in, lines_of, name_at, number_at, number_in, optional_at, site_of, text_at};
+ghost use Rattle.toml_members.specs.Members.{IsDocument, each, text_at};
+ghost use Rattle.point_list.specs.SiteFile.{Gives, bad_site, no_memory, device_in, devices_of, line_in, lines_of, name_at, site_of};
 
 use crate::error::{ListError, ListFault};
 use crate::items::Items;
@@ -14,6 +15,7 @@ use crate::site::{Device, Line, Site};
 use crate::text::Text;
 use std::alloc::Global;
 use toml::{Table, Value};
+use toml_members::{entries_at, number_at, optional_at, text_at};
 
 /// Why there is no site.
 #[derive(Clone, Copy, Debug, PartialEq, Eq)]
@@ -22,101 +24,31 @@ pub(crate) enum Refusal {
     Memory,
 }
 
-/// The member at a key.
-fn member<'a>(table: &'a Table, key: &str) -> Option<&'a Value>
-    ensures { option_map (λ v. view v.now) result ≡ get_member key.now (table_view table.now) }
-{
-    table.get(key)
-}
-
-#[tactic(auto, unfolding(crate::specs::SiteFile::text_at))]
-fn text_at<'a>(table: &'a Table, key: &str) -> Result<&'a str, Refusal>
-    ensures { Gives (λ s. s.now) result (text_at key.now (table_view table.now)) }
-{
-    match member(table, key) {
-        Some(value) => match value.as_str() {
-            Some(text) => Ok(text),
-            None => Err(Refusal::BadSite),
-        },
-        None => Err(Refusal::BadSite),
-    }
-}
-
 /// A text of its own.
 fn copied(alloc: Global, text: &str) -> Result<Text, Refusal>
     ensures copy { IfOk result (λ copy. copy ≡ text.now) }
     ensures memory { IfErr result (λ e. e ≡ Refusal.Memory) }
 {
-    match String::from_str(alloc, text) {
-        Ok(copy) => Ok(Text::from_string(copy)),
-        Err(_) => Err(Refusal::Memory),
-    }
+    let copy = String::from_str(alloc, text).map_err(|_| Refusal::Memory)?;
+    Ok(Text::from_string(copy))
 }
 
 #[tactic(auto, unfolding(crate::specs::SiteFile::name_at))]
 fn name_at(alloc: Global, table: &Table, key: &str) -> Result<Text, Refusal>
     ensures { Gives (λ n. n) result (name_at key.now (table_view table.now)) }
 {
-    let text = text_at(table, key)?;
+    let text = text_at(table, key).ok_or(Refusal::BadSite)?;
     if !is_name(text.as_bytes()) {
         return Err(Refusal::BadSite);
     }
     copied(alloc, text)
 }
 
-/// A value as a whole number up to a limit.
-fn number_in(value: &Value, limit: u16) -> Result<u16, Refusal>
-    ensures gives { Gives (λ n. n) result (number_in limit (view value.now)) }
-    ensures within { IfOk result (λ n. n ≤ limit) }
-{
-    match value.as_integer() {
-        Some(n) => match u16::try_from(n) {
-            Ok(n) if n <= limit => Ok(n),
-            _ => Err(Refusal::BadSite),
-        },
-        None => Err(Refusal::BadSite),
-    }
-}
-
-#[tactic(auto, unfolding(crate::specs::SiteFile::number_at))]
-fn number_at(table: &Table, key: &str, limit: u16) -> Result<u16, Refusal>
-    ensures gives { Gives (λ n. n) result (number_at key.now limit (table_view table.now)) }
-    ensures within { IfOk result (λ n. n ≤ limit) }
-{
-    match member(table, key) {
-        Some(value) => number_in(value, limit),
-        None => Err(Refusal::BadSite),
-    }
-}
-
-/// The same where the member may be missing, and is then 0.
-#[tactic(auto, unfolding(crate::specs::SiteFile::optional_at))]
-fn optional_at(table: &Table, key: &str, limit: u16) -> Result<u16, Refusal>
-    ensures { Gives (λ n. n) result (optional_at key.now limit (table_view table.now)) }
-{
-    match member(table, key) {
-        Some(value) => number_in(value, limit),
-        None => Ok(0),
-    }
-}
-
-#[tactic(auto, unfolding(crate::specs::SiteFile::entries_at))]
-fn entries_at<'a>(table: &'a Table, key: &str) -> Result<&'a [Value], Refusal>
-    ensures { Gives (λ s. items_view s.now) result (entries_at key.now (table_view table.now)) }
-{
-    match member(table, key) {
-        Some(Value::Array(entries)) => Ok(entries.as_slice()),
-        Some(_) => Err(Refusal::BadSite),
-        None => Err(Refusal::BadSite),
-    }
-}
-
 /// The address at a key.
-#[tactic(auto, unfolding(crate::specs::SiteFile::text_at))]
 fn address_at(alloc: Global, table: &Table, key: &str) -> Result<Text, Refusal>
     ensures { Gives (λ a. a) result (text_at key.now (table_view table.now)) }
 {
-    let text = text_at(table, key)?;
+    let text = text_at(table, key).ok_or(Refusal::BadSite)?;
     copied(alloc, text)
 }
 
@@ -124,9 +56,7 @@ fn address_at(alloc: Global, table: &Table, key: &str) -> Result<Text, Refusal>
 fn line_in(alloc: Global, entry: &Value) -> Result<Line, Refusal>
     ensures { Gives (λ line. line) result (line_in (view entry.now)) }
 {
-    let Some(table) = entry.as_table() else {
-        return Err(Refusal::BadSite);
-    };
+    let table = entry.as_table().ok_or(Refusal::BadSite)?;
     let name = name_at(alloc, table, "name")?;
     let address = address_at(alloc, table, "address")?;
     Ok(Line { name, address })
@@ -137,13 +67,8 @@ fn lines_in(alloc: Global, entries: &[Value]) -> Result<Vec<Line>, Refusal>
 {
     let mut lines = Vec::new(alloc);
     for entry in entries {
-        let line = match line_in(alloc, entry) {
-            Ok(line) => line,
-            Err(e) => return Err(e),
-        };
-        if lines.push(line).is_err() {
-            return Err(Refusal::Memory);
-        }
+        let line = line_in(alloc, entry)?;
+        lines.push(line).map_err(|_| Refusal::Memory)?;
     }
     Ok(lines)
 }
@@ -152,10 +77,8 @@ fn line_named(lines: &[Line], name: &str) -> Option<u16>
     requires { length lines.now ≤ 64 }
     ensures { result ≡ line_of lines.now name.now }
 {
-    match Line::place(lines, name.as_bytes()) {
-        Some(place) => Some(place as u16),
-        None => None,
-    }
+    let place = Line::place(lines, name.as_bytes())?;
+    Some(place as u16)
 }
 
 #[tactic(auto, unfolding(crate::specs::SiteFile::device_in))]
@@ -163,21 +86,17 @@ fn device_in(alloc: Global, lines: &[Line], entry: &Value) -> Result<Device, Ref
     requires { length lines.now ≤ 64 }
     ensures { Gives (λ d. d) result (device_in lines.now (view entry.now)) }
 {
-    let Some(table) = entry.as_table() else {
-        return Err(Refusal::BadSite);
-    };
+    let table = entry.as_table().ok_or(Refusal::BadSite)?;
     let name = name_at(alloc, table, "name")?;
-    let line = text_at(table, "line")?;
-    let Some(line) = line_named(lines, line) else {
-        return Err(Refusal::BadSite);
-    };
-    let unit = number_at(table, "unit", 255)?;
-    let gap = optional_at(table, "gap", 124)?;
+    let line = text_at(table, "line").ok_or(Refusal::BadSite)?;
+    let line = line_named(lines, line).ok_or(Refusal::BadSite)?;
+    let unit = number_at(table, "unit", 255).ok_or(Refusal::BadSite)?;
+    let gap = optional_at(table, "gap", 124).ok_or(Refusal::BadSite)?;
     Ok(Device {
         name,
         line,
         unit: unit as u8,
-        gap,
+        gap: gap as u16,
     })
 }
 
@@ -187,13 +106,8 @@ fn devices_in(alloc: Global, lines: &[Line], entries: &[Value]) -> Result<Vec<De
 {
     let mut devices = Vec::new(alloc);
     for entry in entries {
-        let device = match device_in(alloc, lines, entry) {
-            Ok(device) => device,
-            Err(e) => return Err(e),
-        };
-        if devices.push(device).is_err() {
-            return Err(Refusal::Memory);
-        }
+        let device = device_in(alloc, lines, entry)?;
+        devices.push(device).map_err(|_| Refusal::Memory)?;
     }
     Ok(devices)
 }
@@ -291,7 +205,7 @@ fn lines_of(alloc: Global, document: &Table) -> Result<Vec<Line>, Refusal>
     ensures gives { Gives (λ v. v.items) result (lines_of (table_view document.now)) }
     ensures few { IfOk result (λ v. length v.items ≤ 64) }
 {
-    let entries = entries_at(document, "line")?;
+    let entries = entries_at(document, "line").ok_or(Refusal::BadSite)?;
     let lines = lines_in(alloc, entries)?;
     if lines.len() > 64 {
         return Err(Refusal::BadSite);
@@ -304,7 +218,7 @@ fn devices_of(alloc: Global, lines: &[Line], document: &Table) -> Result<Vec<Dev
     requires { length lines.now ≤ 64 }
     ensures { Gives (λ v. v.items) result (devices_of lines.now (table_view document.now)) }
 {
-    let entries = entries_at(document, "device")?;
+    let entries = entries_at(document, "device").ok_or(Refusal::BadSite)?;
     devices_in(alloc, lines, entries)
 }
 

@@ -1,7 +1,8 @@
 use Rattle.std.proofs.Common.{◌≡◌, drop}
 use Rattle.toml.specs.View.{items_view}
-use Rattle.point_list.specs.SiteFile.{each, device_in}
-use Rattle.point_list.proofs.Each.{with_front}
+use Rattle.toml_members.specs.Members.{each}
+use Rattle.point_list.specs.SiteFile.{device_in}
+use Rattle.toml_members.proofs.Each.{with_front}
 use Rattle.point_list.proofs.site_file.devices_in.Given as goal
 
 abbrev pub invariant-loop-entry : goal.invariant-loop-entry

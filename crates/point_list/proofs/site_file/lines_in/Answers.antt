@@ -1,16 +1,20 @@
 use Rattle.std.proofs.Common.{◌≡◌, ◌∙◌, true, rules, arith, sym}
+use Rattle.std.proofs.lemmas.Result.{err_from_is_err_and}
 use Rattle.std.specs.Result.{is_ok}
 use Rattle.toml.specs.View.{items_view, view}
-use Rattle.point_list.specs.SiteFile.{each, line_in}
-use Rattle.point_list.proofs.Each.{each_more, each_fails, each_ends, fails_more}
+use Rattle.toml_members.specs.Members.{each}
+use Rattle.point_list.specs.SiteFile.{line_in}
+use Rattle.toml_members.proofs.Each.{each_more, each_fails, each_ends}
+use Rattle.point_list.proofs.Failing.{fails_more}
 use Rattle.point_list.proofs.site_file.lines_in.Goals as goal
 
-pub returns-in-Err : goal.returns-in-Err
-returns-in-Err c =
+pub returns-in_err-line : goal.returns-in_err-line
+returns-in_err-line c =
     let vs = c.args.entries.now in
     let i = c.loop-entry.entry-index in
-    fails_more c.in-Err.e (line_in (view c.entry-item.result)) (each line_in (items_view vs)) c.in-Err.ensures
-    (λ none. sym c.loop-entry.invariant ∙ each_fails line_in c.loop-entry.lines.items vs i c.entry-item.result (omega arith) c.entry-item.is none)
+    let p = err_from_is_err_and c.from_residual.result c.from_residual.ensures.1 in
+    rw (p.1, p.2) (fails_more c.in_err-line.field-0.0 (line_in (view c.entry-item.result)) (each line_in (items_view vs)) c.in_err-line.ensures
+    (λ none. sym c.loop-entry.invariant ∙ each_fails line_in c.loop-entry.lines.items vs i c.entry-item.result (omega arith) c.entry-item.is none))
 
 pub loop-entry-preserved : goal.loop-entry-preserved
 loop-entry-preserved c =
@@ -18,7 +22,7 @@ loop-entry-preserved c =
     let i = c.loop-entry.entry-index in
     let good : is_ok c.push.result ≡ true = search rules in
     let items = rw good at c.push.ensures.items in
-    let more = each_more line_in c.loop-entry.lines.items vs i c.entry-item.result c.in-Ok.line (omega arith) c.entry-item.is c.in-Ok.ensures in
+    let more = each_more line_in c.loop-entry.lines.items vs i c.entry-item.result c.in_ok-line.line (omega arith) c.entry-item.is c.in_ok-line.ensures in
     rw items (sym more ∙ c.loop-entry.invariant)
 
 pub returns : goal.returns
