@@ -53,7 +53,7 @@ impl From<ReplayFault> for Fault {
 impl From<AllocError> for Fault {
     ghost use Rattle.std.specs.Prelude.{◌≡◌};
     ghost use Rattle.office.specs.declared.Fault.TheVariants.{Failed};
-    ghost use Rattle.office_script.specs.declared.replay.ReplayFault.TheVariants.{Memory};
+    ghost use Rattle.office_script.specs.declared.player.ReplayFault.TheVariants.{Memory};
 
     ghost from_gives = { λ _ fault. fault ≡ Failed Memory };
 

@@ -1,5 +1,5 @@
 //! The words of the command line, and faults as standard error tells them.
-use crate::replay::{ReplayFault, Replayed};
+use crate::player::{ReplayFault, Replayed};
 use crate::{Fault, is_replay};
 use std::alloc::{AllocError, Global};
 use std::fmt;

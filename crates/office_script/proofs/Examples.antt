@@ -5,7 +5,7 @@ use Rattle.hex.specs.Hex.{encode_with}
 use Rattle.sunspec.specs.PointType.{row}
 use Rattle.point_list.specs.Sites.{all_differ}
 use Rattle.office_core.proofs.Examples.{histories_on_literals}
-use Rattle.office_script.specs.declared.replay.Replayed.TheVariants.{Done, FaultLine}
+use Rattle.office_script.specs.declared.player.Replayed.TheVariants.{Done, FaultLine}
 use Rattle.office_script.specs.Scripts.{output_of, outcome_of}
 
 -- nothing prints nothing

@@ -11,7 +11,7 @@ use Rattle.office_core.specs.Messages.{IsMessage, happening_of}
 use Rattle.office_core.specs.Sites.{no_site}
 use Rattle.office_core.proofs.Messages.{may_happen}
 use Rattle.office_script.specs.declared.device.Declared.{Declared}
-use Rattle.office_script.specs.declared.replay.Replayed.TheVariants.{Done, FaultLine}
+use Rattle.office_script.specs.declared.player.Replayed.TheVariants.{Done, FaultLine}
 use Rattle.office_script.specs.Commands.{event_of}
 use Rattle.office_script.specs.Devices.{device_of, with_device, is_site}
 use Rattle.office_script.specs.Happened.{happened, happened_from, history_of}

@@ -5,8 +5,8 @@ use Rattle.office_core.specs.History.{History}
 use Rattle.office_core.specs.Messages.{IsMessage}
 use Rattle.office_core.specs.declared.event.Event.{Event}
 use Rattle.office_script.specs.declared.device.Declared.{Declared}
-use Rattle.office_script.specs.declared.replay.Replayed.{Replayed}
-use Rattle.office_script.specs.declared.replay.Replayed.TheVariants.{FaultLine}
+use Rattle.office_script.specs.declared.player.Replayed.{Replayed}
+use Rattle.office_script.specs.declared.player.Replayed.TheVariants.{FaultLine}
 use Rattle.office_script.specs.Commands.{event_of}
 use Rattle.office_script.specs.Devices.{device_of}
 use Rattle.office_script.specs.Printing.{fault_line}

@@ -7,7 +7,7 @@ use Rattle.point_list.specs.declared.site.Device.{Device}
 use Rattle.point_list.specs.Sites.{all_differ, is_sound}
 use Rattle.office_core.specs.declared.event.Event.{Event}
 use Rattle.office_script.specs.declared.device.Declared.{Declared}
-use Rattle.office_script.specs.declared.replay.Replayed.TheVariants.{FaultLine}
+use Rattle.office_script.specs.declared.player.Replayed.TheVariants.{FaultLine}
 use Rattle.office_script.specs.Commands.{event_of}
 use Rattle.office_script.specs.Devices.{device_of, with_device, is_site}
 use Rattle.office_script.specs.Printing.{fault_line}

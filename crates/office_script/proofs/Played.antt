@@ -7,9 +7,9 @@ use Rattle.office_core.specs.History.{History, tables}
 use Rattle.office_script.specs.Printing.{report_of}
 use Rattle.office_script.specs.Scripts.{Step, step_of, steps_of}
 use Rattle.office_script.specs.Playing.{Owes, Leaves}
-use Rattle.office_script.specs.declared.replay.Replayed.{Replayed}
-use Rattle.office_script.specs.declared.replay.Replayed.TheVariants.{Done}
-use Rattle.office_script.specs.declared.replay.Played.{Played}
+use Rattle.office_script.specs.declared.player.Replayed.{Replayed}
+use Rattle.office_script.specs.declared.player.Replayed.TheVariants.{Done}
+use Rattle.office_script.specs.declared.player.Played.{Played}
 use Rattle.office_script.proofs.Opened.{first_step}
 
 -- what a line leaves, of the text that it begins

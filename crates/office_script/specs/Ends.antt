@@ -1,9 +1,9 @@
 -- The texts of how a script ended, and of why it wasn't played.
 use Rattle.std.specs.Prelude.{ℕ, List, ◌++◌, codes, decimal}
-use Rattle.office_script.specs.declared.replay.Replayed.{Replayed}
-use Rattle.office_script.specs.declared.replay.Replayed.TheVariants.{Done, FaultLine}
-use Rattle.office_script.specs.declared.replay.ReplayFault.{ReplayFault}
-use Rattle.office_script.specs.declared.replay.ReplayFault.TheVariants.{Read, Write, Memory}
+use Rattle.office_script.specs.declared.player.Replayed.{Replayed}
+use Rattle.office_script.specs.declared.player.Replayed.TheVariants.{Done, FaultLine}
+use Rattle.office_script.specs.declared.player.ReplayFault.{ReplayFault}
+use Rattle.office_script.specs.declared.player.ReplayFault.TheVariants.{Read, Write, Memory}
 
 abbrev pub ending_text : Replayed → List ℕ
 ending_text Done = codes "done"

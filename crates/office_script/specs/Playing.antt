@@ -9,10 +9,10 @@ use Rattle.office_core.specs.Legal.{Legal}
 use Rattle.office_core.specs.Offices.{Stands}
 use Rattle.office_script.specs.Scripts.{Step, printed, begun, ends, steps_of, output_of, outcome_of}
 use Rattle.office_script.specs.Printing.{fault_line}
-use Rattle.office_script.specs.declared.replay.Replayed.{Replayed}
-use Rattle.office_script.specs.declared.replay.Replayed.TheVariants.{FaultLine}
-use Rattle.office_script.specs.declared.replay.Played.{Played}
-use Rattle.office_script.specs.declared.replay.Played.TheVariants.{On, Faulty}
+use Rattle.office_script.specs.declared.player.Replayed.{Replayed}
+use Rattle.office_script.specs.declared.player.Replayed.TheVariants.{FaultLine}
+use Rattle.office_script.specs.declared.player.Played.{Played}
+use Rattle.office_script.specs.declared.player.Played.TheVariants.{On, Faulty}
 use Rattle.office_script.specs.declared.opening.Opening.{Opening}
 use Rattle.office_script.specs.declared.opening.Opening.TheVariants.{Ready, Broken}
 

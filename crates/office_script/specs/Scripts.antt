@@ -17,8 +17,8 @@ use Rattle.office_core.specs.History.{History, Restart, site_of, tables}
 use Rattle.office_core.specs.Answers.{answer_of}
 use Rattle.office_core.specs.Messages.{happening_of}
 use Rattle.office_script.specs.declared.device.Declared.{Declared}
-use Rattle.office_script.specs.declared.replay.Replayed.{Replayed}
-use Rattle.office_script.specs.declared.replay.Replayed.TheVariants.{Done, FaultLine}
+use Rattle.office_script.specs.declared.player.Replayed.{Replayed}
+use Rattle.office_script.specs.declared.player.Replayed.TheVariants.{Done, FaultLine}
 use Rattle.office_script.specs.Commands.{event_of}
 use Rattle.office_script.specs.Devices.{device_of, with_device, is_site}
 use Rattle.office_script.specs.Printing.{answer_line, setting_line, fault_line, report_of}

@@ -7,7 +7,7 @@ ghost use Rattle.office_script.specs.Happened.{history_of};
 ghost use Rattle.office_script.specs.Printing.{report_of};
 ghost use Rattle.office_script.specs.Scripts.{outcome_of, output_of};
 
-use crate::replay::Replayed;
+use crate::player::Replayed;
 
 /// Whatever a script says, what happens in it makes a legal history, so that the laws of
 /// `office_core` hold of it; and a script that ends with its report ends with the tables of that

@@ -8,11 +8,11 @@ mod device;
 mod input;
 pub mod laws;
 mod opening;
+mod player;
 mod printing;
-mod replay;
 mod report;
 mod whole_frame;
 mod word;
 
 pub use input::SCRIPT_LIMIT;
-pub use replay::{ReplayFault, Replayed, replay};
+pub use player::{ReplayFault, Replayed, replay};

@@ -3,7 +3,7 @@ use Rattle.office_script.specs.Scripts.{step_of}
 use Rattle.office_script.specs.Playing.{Follows}
 use Rattle.office_script.proofs.Lines.{no_event, one_event, broken_off, went_on}
 use Rattle.office_script.proofs.Messages.{is_message}
-use Rattle.office_script.proofs.replay.play_line.Goals as goal
+use Rattle.office_script.proofs.player.play_line.Goals as goal
 
 pub returns-in_ok-push_fault-in-None : goal.returns-in_ok-push_fault-in-None
 returns-in_ok-push_fault-in-None c = λ done rest output ending owes.

@@ -6,11 +6,11 @@ use Rattle.office_core.specs.History.{tables}
 use Rattle.office_script.specs.Printing.{report_of}
 use Rattle.office_script.specs.Scripts.{steps_of, printed, ends}
 use Rattle.office_script.specs.Playing.{Follows}
-use Rattle.office_script.specs.declared.replay.Played.TheVariants.{On, Faulty}
+use Rattle.office_script.specs.declared.player.Played.TheVariants.{On, Faulty}
 use Rattle.office_script.proofs.Acted.{on_ok}
 use Rattle.office_script.proofs.Played.{line_played, whole_written, owed_after, report_owed}
 use Rattle.std.proofs.KnownBytes.{Appends-trans}
-use Rattle.office_script.proofs.replay.play.Goals as goal
+use Rattle.office_script.proofs.player.play.Goals as goal
 
 pub loop-rest-preserved : goal.loop-rest-preserved
 loop-rest-preserved g c =

@@ -76,7 +76,7 @@ impl fmt::Display for ReplayFault {
 impl Error for ReplayFault {}
 
 impl From<AllocError> for ReplayFault {
-    ghost use Rattle.office_script.specs.declared.replay.ReplayFault.TheVariants.{Memory};
+    ghost use Rattle.office_script.specs.declared.player.ReplayFault.TheVariants.{Memory};
 
     ghost from_gives = { λ _ fault. fault ≡ Memory };
 

@@ -2,7 +2,7 @@ use Rattle.std.proofs.Common.{◌++◌, ◌∙◌, sym, ap, subst}
 use Rattle.office_core.specs.Fitting.{IsFitting}
 use Rattle.office_script.specs.Printing.{report_of}
 use Rattle.office_script.proofs.Acted.{on_ok}
-use Rattle.office_script.proofs.replay.report.Goals as goal
+use Rattle.office_script.proofs.player.report.Goals as goal
 
 pub push_report-requires : goal.push_report-requires
 push_report-requires c =

@@ -4,7 +4,7 @@ use Rattle.mb_mbap.specs.Counted.{inner_of, failures_of}
 use Rattle.office_core.specs.History.{History}
 use Rattle.office_script.specs.Scripts.{steps_of, printed, ends}
 use Rattle.office_script.specs.Playing.{Follows, Owes}
-use Rattle.office_script.proofs.replay.play.Given as goal
+use Rattle.office_script.proofs.player.play.Given as goal
 
 abbrev pub invariant-loop-rest : goal.invariant-loop-rest
 invariant-loop-rest g l = record {

@@ -5,7 +5,7 @@ use Rattle.mb_mbap.specs.Counted.{inner_of}
 use Rattle.office_core.specs.History.{Restart}
 use Rattle.office_script.specs.Printing.{fault_line}
 use Rattle.office_script.specs.Playing.{Opens, TookFront}
-use Rattle.office_script.proofs.replay.perform.Goals as goal
+use Rattle.office_script.proofs.player.perform.Goals as goal
 
 pub returns-in_ok-office-in-Ready-clause-ending : goal.returns-in_ok-office-in-Ready-clause-ending
 returns-in_ok-office-in-Ready-clause-ending g c =
