@@ -1,4 +1,5 @@
 //! Totals of counters, by hand: the steps between neighbouring slots, whatever came first.
+use crate::asserting::assert_told;
 use crate::storing::{counter, store};
 use poll_book::{MemKeeper, Neighbours, PointRow, StoreFault};
 use std::alloc::Global;
@@ -25,39 +26,31 @@ fn total_of_three(
 fn totals_as_readings_come(rt: HostRuntime) -> Result<(), Fail> {
     let point = counter(1, PointType::Uint16, 65535).ok_or("a counter")?;
     let mut keeper = MemKeeper::new(rt.alloc());
-    assert_eq!(rt; keeper.total(&point), Ok(0));
+    assert_told(&rt, &"total", &keeper.total(&point), &Ok(0));
     for (slot, word, total) in [(1, 65000, 0), (3, 500, 1036), (2, 65500, 1036)] {
         let words = [word];
         store(rt.alloc(), &mut keeper, &point, slot, &words)?;
-        assert_eq!(rt; keeper.total(&point), Ok(total));
+        assert_told(&rt, &"total", &keeper.total(&point), &Ok(total));
     }
     Ok(())
-}
-
-/// A reading of three, by its slot.
-fn at(slot: u32) -> (u32, u16) {
-    match slot {
-        1 => (1, 65000),
-        2 => (2, 64000),
-        _ => (3, 500),
-    }
 }
 
 #[test]
 fn six_orders_of_arrival(rt: HostRuntime) -> Result<(), Fail> {
     let point = counter(1, PointType::Uint16, 65535).ok_or("a counter")?;
-    let total = total_of_three(rt.alloc(), &point, at(1), at(2), at(3));
-    assert_eq!(rt; total, Ok(66572));
-    let total = total_of_three(rt.alloc(), &point, at(1), at(3), at(2));
-    assert_eq!(rt; total, Ok(66572));
-    let total = total_of_three(rt.alloc(), &point, at(2), at(1), at(3));
-    assert_eq!(rt; total, Ok(66572));
-    let total = total_of_three(rt.alloc(), &point, at(2), at(3), at(1));
-    assert_eq!(rt; total, Ok(66572));
-    let total = total_of_three(rt.alloc(), &point, at(3), at(1), at(2));
-    assert_eq!(rt; total, Ok(66572));
-    let total = total_of_three(rt.alloc(), &point, at(3), at(2), at(1));
-    assert_eq!(rt; total, Ok(66572));
+    let [a, b, c] = [(1, 65000), (2, 64000), (3, 500)];
+    for order in [
+        [a, b, c],
+        [a, c, b],
+        [b, a, c],
+        [b, c, a],
+        [c, a, b],
+        [c, b, a],
+    ] {
+        let [first, second, third] = order;
+        let total = total_of_three(rt.alloc(), &point, first, second, third);
+        assert_told(&rt, &order, &total, &Ok(66572));
+    }
     Ok(())
 }
 
@@ -68,10 +61,10 @@ fn what_is_skipped(rt: HostRuntime) -> Result<(), Fail> {
     for (slot, words) in [(1, [0, 100]), (2, [0, 0]), (3, [0, 150])] {
         store(rt.alloc(), &mut keeper, &energy, slot, &words)?;
     }
-    assert_eq!(rt; keeper.total(&energy), Ok(50));
+    assert_told(&rt, &"total", &keeper.total(&energy), &Ok(50));
     let short = counter(1, PointType::Uint16, 99).ok_or("a counter")?;
     let total = total_of_three(rt.alloc(), &short, (1, 90), (2, 150), (3, 20));
-    assert_eq!(rt; total, Ok(30));
+    assert_told(&rt, &"total", &total, &Ok(30));
     Ok(())
 }
 
@@ -81,7 +74,7 @@ fn one_reading_and_none(rt: HostRuntime) -> Result<(), Fail> {
     let none = counter(2, PointType::Uint16, 65535).ok_or("a counter")?;
     let mut keeper = MemKeeper::new(rt.alloc());
     store(rt.alloc(), &mut keeper, &one, 5, &[700])?;
-    assert_eq!(rt; keeper.total(&one), Ok(0));
-    assert_eq!(rt; keeper.total(&none), Ok(0));
+    assert_told(&rt, &"total", &keeper.total(&one), &Ok(0));
+    assert_told(&rt, &"total", &keeper.total(&none), &Ok(0));
     Ok(())
 }

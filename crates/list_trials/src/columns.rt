@@ -1,4 +1,5 @@
 //! Each column at its limits and one past them, and which fault comes first.
+use crate::asserting::assert_told;
 use mb_pdu::Table;
 use point_list::{
     Device, Items, Label, Line, ListError, ListFault, ListRow, Name, Point, Role, Site, Text,
@@ -61,19 +62,18 @@ fn fault_of(alloc: Global, record: &str) -> Option<(ListFault, u8)> {
     }
 }
 
+fn first_row(alloc: Global, record: &str) -> Option<ListRow> {
+    let rows = read(alloc, record).ok()?;
+    rows.first().copied()
+}
+
 #[test]
 fn what_a_record_says(rt: HostRuntime) -> Result<(), Fail> {
-    let rows = read(rt.alloc(), "lim.x-2_A,m1,coil,65535,bit,1,,setting,\n").ok();
-    let row = rows
-        .as_ref()
-        .and_then(|rows| rows.first().copied())
-        .ok_or("a row")?;
-    assert_eq!(rt; row.row, 2);
-    let name = Name::new(b"lim.x-2_A").ok_or("a name")?;
-    let device = Label::new(b"m1").ok_or("a label")?;
+    let record = "lim.x-2_A,m1,coil,65535,bit,1,,setting,\n";
+    let row = first_row(rt.alloc(), record).ok_or("a row")?;
     let point = Point {
-        name,
-        device,
+        name: Name::new(b"lim.x-2_A").ok_or("a name")?,
+        device: Label::new(b"m1").ok_or("a label")?,
         table: Table::Coil,
         address: 65535,
         kind: PointType::Bit,
@@ -81,7 +81,7 @@ fn what_a_record_says(rt: HostRuntime) -> Result<(), Fail> {
         role: Role::Setting,
         roll: 0,
     };
-    assert_eq!(rt; row.point, point);
+    assert_told(&rt, &record, &(row.row, row.point), &(2, point));
     Ok(())
 }
 
@@ -119,7 +119,7 @@ fn names_of_devices(rt: HostRuntime) -> Result<(), Fail> {
             Ok(fault) => fault,
             Err(_) => fault_at(rt.alloc(), device)?,
         };
-        assert_eq!(rt; fault, *wanted, "{device}");
+        assert_told(&rt, device, &fault, wanted);
     }
     Ok(())
 }
@@ -127,7 +127,7 @@ fn names_of_devices(rt: HostRuntime) -> Result<(), Fail> {
 /// Asserts the fault of each list of one record and its column, or that there is none.
 fn assert_faults(rt: &impl Abort, alloc: Global, cases: &[(&str, Option<(ListFault, u8)>)]) {
     for (record, fault) in cases {
-        assert_eq!(rt; fault_of(alloc, record), *fault, "{record}");
+        assert_told(rt, record, &fault_of(alloc, record), fault);
     }
 }
 
@@ -283,11 +283,8 @@ fn types_that_are_left_out(rt: HostRuntime) {
         "e,m1,holding,1,raw16,9,99,pet,x",
         "e,m1,holding,1,pad,9,99,pet,x",
     ] {
-        assert_eq!(rt;
-            fault_of(rt.alloc(), record),
-            Some((ListFault::LeftOutType, 5)),
-            "{record}"
-        );
+        let fault = Some((ListFault::LeftOutType, 5));
+        assert_told(&rt, &record, &fault_of(rt.alloc(), record), &fault);
     }
 }
 
@@ -299,14 +296,10 @@ fn rolls_of_counters(rt: HostRuntime) -> Result<(), Fail> {
         ("e,m1,input,7,uint64,,-2,counter,", u64::MAX),
         ("e,m1,input,7,acc16,,-2,counter,99", 99),
     ];
-    for (record, expected) in cases {
-        let rows = read(rt.alloc(), record).ok();
-        let row = rows
-            .as_ref()
-            .and_then(|rows| rows.first().copied())
-            .ok_or("a row")?;
-        assert_eq!(rt; row.point.roll, expected, "{record}");
-        assert_eq!(rt; (row.point.scale, row.point.role), (-2, Role::Counter));
+    for (record, roll) in cases {
+        let point = first_row(rt.alloc(), record).ok_or("a row")?.point;
+        let told = (point.roll, point.scale, point.role);
+        assert_told(&rt, &record, &told, &(roll, -2, Role::Counter));
     }
     Ok(())
 }

@@ -1,12 +1,11 @@
-//! Tests of values, of point lists and of site files, as operators write them. Nothing stands on
-//! this crate.
+//! Tests of point lists and of site files, as operators write them. Nothing stands on this crate.
 #![tactic(auto)]
 
+#[cfg(test)]
+mod asserting;
 #[cfg(test)]
 mod columns;
 #[cfg(test)]
 mod lists;
 #[cfg(test)]
 mod sites;
-#[cfg(test)]
-mod values;

@@ -1,4 +1,5 @@
 //! Site files as operators write them.
+use crate::asserting::assert_told;
 use point_list::{Device, Items, Label, Line, ListError, ListFault, Site, read_site};
 use std::alloc::{AllocError, Global};
 use std::process::Abort;
@@ -33,57 +34,62 @@ fn read(alloc: Global, text: &[u8]) -> Result<Site, ListError> {
 #[test]
 fn the_example(rt: HostRuntime) -> Result<(), Fail> {
     let site = read(rt.alloc(), EXAMPLE.as_bytes()).ok().ok_or("a site")?;
-    match site.lines.as_slice() {
-        [line] => {
-            assert_eq!(rt; line.name.as_str(), "roof");
-            assert_eq!(rt; line.address.as_str(), "127.0.0.1:1502");
-        }
-        _ => assert!(rt; false, "one line"),
-    }
-    match site.devices.as_slice() {
-        [device] => {
-            assert_eq!(rt; device.name.as_str(), "m1");
-            assert_eq!(rt; (device.line, device.unit, device.gap), (0, 17, 8));
-        }
-        _ => assert!(rt; false, "one device"),
-    }
+    let lines = site.lines.as_slice();
+    let devices = site.devices.as_slice();
+    let line = lines.first().ok_or("a line")?;
+    let device = devices.first().ok_or("a device")?;
+    assert_told(&rt, &"both", &(lines.len(), devices.len()), &(1, 1));
+    assert_told(&rt, &"line", &line.name.as_str(), &"roof");
+    assert_told(&rt, &"line", &line.address.as_str(), &"127.0.0.1:1502");
+    assert_told(&rt, &"device", &device.name.as_str(), &"m1");
+    let told = (device.line, device.unit, device.gap);
+    assert_told(&rt, &"device", &told, &(0, 17, 8));
     Ok(())
 }
 
 #[test]
 fn lines_and_devices_by_name(rt: HostRuntime) -> Result<(), Fail> {
     let site = read(rt.alloc(), EXAMPLE.as_bytes()).ok().ok_or("a site")?;
-    assert_eq!(rt; Line::place(site.lines.as_slice(), b"roof"), Some(0));
-    assert_eq!(rt; Line::place(site.lines.as_slice(), b"m1"), None);
-    assert_eq!(rt; Device::place(site.devices.as_slice(), b"m1"), Some(0));
-    assert_eq!(rt; Device::place(site.devices.as_slice(), b"roof"), None);
-    let m1 = Label::new(b"m1").ok_or("a label")?;
-    let m2 = Label::new(b"m2").ok_or("a label")?;
-    assert!(rt; site.has_device(&m1));
-    assert!(rt; !site.has_device(&m2));
+    let cases: [(&[u8], Option<usize>, Option<usize>); 3] = [
+        (b"roof", Some(0), None),
+        (b"m1", None, Some(0)),
+        (b"m2", None, None),
+    ];
+    for (name, line, device) in cases {
+        let told = (
+            Line::place(site.lines.as_slice(), name),
+            Device::place(site.devices.as_slice(), name),
+        );
+        assert_told(&rt, &name, &told, &(line, device));
+        let label = Label::new(name).ok_or("a label")?;
+        assert_told(&rt, &name, &site.has_device(&label), &device.is_some());
+    }
     Ok(())
 }
 
 #[test]
 fn a_device_needs_its_line(rt: HostRuntime) -> Result<(), Fail> {
     let site = read(rt.alloc(), EXAMPLE.as_bytes()).ok().ok_or("a site")?;
-    assert!(rt; site.is_sound());
+    let is_sound = site.is_sound();
     let Site { devices, .. } = site;
     let alone = Site {
         lines: Items::from_vec(Vec::new(rt.alloc())),
         devices,
     };
-    assert!(rt; !alone.is_sound());
+    assert_told(&rt, &"sound", &(is_sound, alone.is_sound()), &(true, false));
     Ok(())
 }
 
 /// Where an allocation is refused the answer is `Memory` and nothing else.
 #[test]
 fn refused_memory_is_told(rt: HostRuntime) {
-    match read_site(rt.alloc(), EXAMPLE.as_bytes()) {
-        Ok(site) => assert_eq!(rt; site.devices.as_slice().len(), 1),
-        Err(e) => assert_eq!(rt; (e.fault, e.row, e.column), (ListFault::Memory, 0, 0)),
-    }
+    let told = read_site(rt.alloc(), EXAMPLE.as_bytes()).err();
+    let memory = ListError {
+        fault: ListFault::Memory,
+        row: 0,
+        column: 0,
+    };
+    assert!(rt; told.is_none_or(|e| e == memory), "{told:?}");
 }
 
 /// A site with one line and devices of these members.
@@ -102,10 +108,9 @@ fn assert_fits(
         Ok(text) => text,
         Err(_) => with_devices(alloc, members)?,
     };
-    match read(alloc, text.as_bytes()) {
-        Ok(_) => assert!(rt; fits, "{members}"),
-        Err(e) => assert_eq!(rt; (e, fits), (BAD_SITE, false), "{members}"),
-    }
+    let told = read(alloc, text.as_bytes()).err();
+    let wanted = if fits { None } else { Some(BAD_SITE) };
+    assert_told(rt, &members, &told, &wanted);
     Ok(())
 }
 
@@ -183,9 +188,10 @@ fn texts_that_are_no_site(rt: HostRuntime) {
         b"device = []\nline = [{name = \"a\", address = \"\"}, {name = \"a\", address = \"\"}]",
     ];
     for text in cases {
-        assert_eq!(rt; read(rt.alloc(), text).err(), Some(BAD_SITE), "{text:?}");
+        assert_told(&rt, &text, &read(rt.alloc(), text).err(), &Some(BAD_SITE));
     }
-    assert!(rt; read(rt.alloc(), b"line = []\ndevice = []").is_ok());
+    let empty = read(rt.alloc(), b"line = []\ndevice = []").err();
+    assert_told(&rt, &"empty", &empty, &None);
 }
 
 fn many_once(alloc: Global, lines: u32, devices: u32) -> Result<String, AllocError> {
@@ -218,11 +224,8 @@ fn many(alloc: Global, lines: u32, devices: u32) -> Result<String, AllocError> {
 fn as_many_as_there_may_be(rt: HostRuntime) -> Result<(), Fail> {
     for (lines, devices, fits) in [(64u32, 256u32, true), (65, 1, false), (64, 257, false)] {
         let text = many(rt.alloc(), lines, devices)?;
-        assert_eq!(rt;
-            read(rt.alloc(), text.as_bytes()).is_ok(),
-            fits,
-            "{lines} {devices}"
-        );
+        let told = read(rt.alloc(), text.as_bytes()).is_ok();
+        assert_told(&rt, &(lines, devices), &told, &fits);
     }
     Ok(())
 }

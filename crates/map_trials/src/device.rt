@@ -1,4 +1,5 @@
 //! Requests to the tables of a device, on both sides of each limit.
+use crate::asserting::assert_told;
 use mb_map::{MapError, Mapping, Table};
 use mb_pdu::Unit;
 use std::alloc::Global;
@@ -18,17 +19,20 @@ fn mapping(alloc: Global, start: u32, bits: u32, registers: u32) -> Result<Mappi
     }
 }
 
+fn answered(mapping: &mut Mapping, asked: &[u8]) -> Option<Unit> {
+    let asked = Unit::from_bytes(asked)?;
+    Some(mapping.reply(&asked))
+}
+
 fn assert_answer(rt: &impl Abort, mapping: &mut Mapping, asked: &[u8], answer: &[u8]) {
-    let asked = Unit::from_bytes(asked).expect(rt, "a unit");
-    let reply = mapping.reply(&asked);
-    assert_eq!(rt; reply.as_bytes(), answer);
+    let told = answered(mapping, asked);
+    let bytes = told.as_ref().map(|unit| unit.as_bytes());
+    assert_told(rt, &asked, &bytes, &Some(answer));
 }
 
 /// Whether a request is answered normally, or the code of its exception.
-fn code(rt: &impl Abort, mapping: &mut Mapping, asked: &[u8]) -> Option<u8> {
-    let unit = Unit::from_bytes(asked).expect(rt, "a unit");
-    let reply = mapping.reply(&unit);
-    match reply.as_bytes() {
+fn code(mapping: &mut Mapping, asked: &[u8]) -> Option<u8> {
+    match answered(mapping, asked)?.as_bytes() {
         [function, code] if *function >= 0x80 => Some(*code),
         _ => None,
     }
@@ -37,7 +41,9 @@ fn code(rt: &impl Abort, mapping: &mut Mapping, asked: &[u8]) -> Option<u8> {
 #[test]
 fn checks_come_in_order(rt: HostRuntime) -> Result<(), Fail> {
     let mut mapping = mapping(rt.alloc(), 0, 0, 10)?;
-    let rows: [(&[u8], &[u8]); 8] = [
+    let rows: [(&[u8], &[u8]); 10] = [
+        (b"\x91\x00", b"\x91\x01"),
+        (b"\x03\x00", b"\x83\x03"),
         (b"\x03\x00\x00\x00\x00", b"\x83\x03"),
         (b"\x03\x00\x00\x00\x7D", b"\x83\x02"),
         (b"\x03\x00\x00\x00\x7E", b"\x83\x03"),
@@ -50,8 +56,6 @@ fn checks_come_in_order(rt: HostRuntime) -> Result<(), Fail> {
     for (asked, answer) in rows {
         assert_answer(&rt, &mut mapping, asked, answer);
     }
-    assert_answer(&rt, &mut mapping, b"\x91\x00", b"\x91\x01");
-    assert_answer(&rt, &mut mapping, b"\x03\x00", b"\x83\x03");
     Ok(())
 }
 
@@ -65,7 +69,7 @@ fn masks_are_written(rt: HostRuntime) -> Result<(), Fail> {
         b"\x16\x00\x04\x00\xF2\x00\x25",
         b"\x16\x00\x04\x00\xF2\x00\x25",
     );
-    assert_eq!(rt; mapping.get(Table::Holding, 4), Some(0x17));
+    assert_told(&rt, &"masked", &mapping.get(Table::Holding, 4), &Some(0x17));
     Ok(())
 }
 
@@ -128,11 +132,7 @@ fn reads_keep_to_their_limits(rt: HostRuntime) -> Result<(), Fail> {
             let [high, low] = start.to_be_bytes();
             let [many, few] = quantity.to_be_bytes();
             let asked = [function, high, low, many, few];
-            assert_eq!(rt;
-                code(&rt, &mut mapping, &asked),
-                wanted,
-                "{function} at {start}, {quantity}"
-            );
+            assert_told(&rt, &asked, &code(&mut mapping, &asked), &wanted);
         }
     }
     Ok(())
@@ -183,11 +183,8 @@ fn counted_writes_keep_to_their_limits(rt: HostRuntime) -> Result<(), Fail> {
             Ok(bytes) => bytes,
             Err(_) => write(alloc, head, quantity, count)?,
         };
-        assert_eq!(rt;
-            code(&rt, &mut mapping, asked.as_slice()),
-            wanted,
-            "{head:?}, {quantity}"
-        );
+        let told = code(&mut mapping, asked.as_slice());
+        assert_told(&rt, &(head, quantity), &told, &wanted);
     }
     Ok(())
 }
@@ -207,7 +204,7 @@ fn single_writes_keep_to_their_limits(rt: HostRuntime) -> Result<(), Fail> {
         (b"\x16\x01\x7D\x00\x00\x00\x00", Some(2)),
     ];
     for (asked, wanted) in rows {
-        assert_eq!(rt; code(&rt, &mut mapping, asked), wanted, "{asked:?}");
+        assert_told(&rt, &asked, &code(&mut mapping, asked), &wanted);
     }
     Ok(())
 }
@@ -215,39 +212,45 @@ fn single_writes_keep_to_their_limits(rt: HostRuntime) -> Result<(), Fail> {
 #[test]
 fn a_refused_range_changes_nothing(rt: HostRuntime) -> Result<(), Fail> {
     let mut mapping = mapping(rt.alloc(), 5, 2, 2)?;
-    assert_answer(
-        &rt,
-        &mut mapping,
-        b"\x03\x00\x05\x00\x02",
-        b"\x03\x04\x00\x00\x00\x00",
-    );
-    assert_answer(&rt, &mut mapping, b"\x03\x00\x04\x00\x01", b"\x83\x02");
-    assert_answer(
-        &rt,
-        &mut mapping,
-        b"\x17\x00\x04\x00\x01\x00\x05\x00\x01\x02\x00\x07",
-        b"\x97\x02",
-    );
-    assert_answer(
-        &rt,
-        &mut mapping,
-        b"\x10\x00\x06\x00\x02\x04\x00\x07\x00\x07",
-        b"\x90\x02",
-    );
-    assert_answer(
-        &rt,
-        &mut mapping,
-        b"\x03\x00\x05\x00\x02",
-        b"\x03\x04\x00\x00\x00\x00",
-    );
-    assert!(rt; mapping.set(Table::Coil, 6, 1));
-    assert!(rt; !mapping.set(Table::Coil, 6, 2));
-    assert!(rt; !mapping.set(Table::Discrete, 7, 1));
-    assert!(rt; mapping.set(Table::Input, 5, 65535));
-    assert_eq!(rt; mapping.get(Table::Coil, 6), Some(1));
-    assert_eq!(rt; mapping.get(Table::Discrete, 6), Some(0));
-    assert_eq!(rt; mapping.get(Table::Input, 5), Some(65535));
-    assert_eq!(rt; mapping.get(Table::Holding, 4), None);
+    let rows: [(&[u8], &[u8]); 5] = [
+        (b"\x03\x00\x05\x00\x02", b"\x03\x04\x00\x00\x00\x00"),
+        (b"\x03\x00\x04\x00\x01", b"\x83\x02"),
+        (
+            b"\x17\x00\x04\x00\x01\x00\x05\x00\x01\x02\x00\x07",
+            b"\x97\x02",
+        ),
+        (b"\x10\x00\x06\x00\x02\x04\x00\x07\x00\x07", b"\x90\x02"),
+        (b"\x03\x00\x05\x00\x02", b"\x03\x04\x00\x00\x00\x00"),
+    ];
+    for (asked, answer) in rows {
+        assert_answer(&rt, &mut mapping, asked, answer);
+    }
+    Ok(())
+}
+
+#[test]
+fn cells_are_set(rt: HostRuntime) -> Result<(), Fail> {
+    let mut mapping = mapping(rt.alloc(), 5, 2, 2)?;
+    let writes = [
+        (Table::Coil, 6, 1, true),
+        (Table::Coil, 6, 2, false),
+        (Table::Discrete, 7, 1, false),
+        (Table::Input, 5, 65535, true),
+    ];
+    for (table, address, number, is_set) in writes {
+        let told = mapping.set(table, address, number);
+        assert_told(&rt, &(table, address), &told, &is_set);
+    }
+    let cells = [
+        (Table::Coil, 6, Some(1)),
+        (Table::Discrete, 6, Some(0)),
+        (Table::Input, 5, Some(65535)),
+        (Table::Holding, 4, None),
+    ];
+    for (table, address, number) in cells {
+        let told = mapping.get(table, address);
+        assert_told(&rt, &(table, address), &told, &number);
+    }
     Ok(())
 }
 
@@ -256,14 +259,22 @@ fn sizes_are_checked(rt: HostRuntime) -> Result<(), Fail> {
     let alloc = rt.alloc();
     let mut empty = mapping(alloc, 65536, 0, 0)?;
     assert_answer(&rt, &mut empty, b"\x01\xFF\xFF\x00\x01", b"\x81\x02");
-    let whole = match Mapping::new(alloc, 65536, 65536, 65536, 65536) {
-        Err(MapError::Memory) => Mapping::new(alloc, 65536, 65536, 65536, 65536)?,
+    let whole = mapping(alloc, 0, 65536, 65536)?;
+    assert_told(&rt, &"whole", &whole.get(Table::Holding, 65535), &Some(0));
+    for (start, size) in [(65536, 1), (0, 65537), (u32::MAX, u32::MAX)] {
+        let refused = Mapping::new_start_address(alloc, 0, 1, 0, 1, 0, 1, start, size).err();
+        assert_told(&rt, &(start, size), &refused, &Some(MapError::TooLarge));
+    }
+    Ok(())
+}
+
+/// Without starts the tables begin at 0.
+#[test]
+fn tables_without_starts(rt: HostRuntime) -> Result<(), Fail> {
+    let whole = match Mapping::new(rt.alloc(), 65536, 65536, 65536, 65536) {
+        Err(MapError::Memory) => Mapping::new(rt.alloc(), 65536, 65536, 65536, 65536)?,
         other => other?,
     };
-    assert_eq!(rt; whole.get(Table::Holding, 65535), Some(0));
-    for (start, size) in [(65536, 1), (0, 65537), (u32::MAX, u32::MAX)] {
-        let refused = Mapping::new_start_address(alloc, 0, 1, 0, 1, 0, 1, start, size);
-        assert!(rt; refused.is_err_and(|e| e == MapError::TooLarge));
-    }
+    assert_told(&rt, &"last", &whole.get(Table::Holding, 65535), &Some(0));
     Ok(())
 }

@@ -12,13 +12,16 @@ use std::test::Fail;
 
 const READ: &[u8] = b"\x03\x00\x00\x00\x01";
 
-fn frame(rt: &impl Abort, transaction: u16, unit_id: u8, bytes: &[u8]) -> Frame {
-    let unit = Unit::from_bytes(bytes).expect(rt, "a unit");
-    Frame {
+/// The reply to it.
+const ZERO: &[u8] = b"\x03\x02\x00\x00";
+
+fn frame(transaction: u16, unit_id: u8, bytes: &[u8]) -> Option<Frame> {
+    let unit = Unit::from_bytes(bytes)?;
+    Some(Frame {
         transaction,
         unit_id,
         unit,
-    }
+    })
 }
 
 /// One device of ten registers at unit identifier 17.
@@ -44,11 +47,23 @@ fn sim(alloc: Global, steps: &[Step]) -> Result<Sim, MapError>
     }
 }
 
-/// Takes a frame, and once more where memory was refused: then nothing had happened.
-fn take(sim: &mut Sim, frame: &Frame) -> Result<Vec<Frame>, MapError> {
+fn taken(sim: &mut Sim, frame: &Frame) -> Result<Vec<Frame>, MapError> {
     match sim.take(frame) {
         Err(MapError::Memory) => sim.take(frame),
         other => other,
+    }
+}
+
+/// Takes a request, and once more where memory was refused: then nothing had happened.
+fn take(
+    sim: &mut Sim,
+    transaction: u16,
+    unit_id: u8,
+    bytes: &[u8],
+) -> Result<Vec<Frame>, MapError> {
+    match frame(transaction, unit_id, bytes) {
+        Some(frame) => taken(sim, &frame),
+        None => Err(MapError::BadImage),
     }
 }
 
@@ -59,29 +74,35 @@ fn rest(sim: &mut Sim) -> Result<Vec<Frame>, MapError> {
     }
 }
 
-/// Whether the replies have these transactions.
-fn are(replies: &[Frame], transactions: &[u16]) -> bool {
-    replies.len() == transactions.len()
-        && replies
-            .iter()
-            .zip(transactions)
-            .all(|(reply, transaction)| reply.transaction == *transaction)
+/// Whether the replies have these transactions, and come from this unit with these bytes.
+fn are(replies: &[Frame], transactions: &[u16], unit_id: u8, bytes: &[u8]) -> bool {
+    let mut are = replies.len() == transactions.len();
+    for (reply, transaction) in replies.iter().zip(transactions) {
+        are = are
+            && reply.transaction == *transaction
+            && reply.unit_id == unit_id
+            && reply.unit.as_bytes() == bytes;
+    }
+    are
+}
+
+/// Asserts which replies leave with each of these reads.
+fn assert_leave(rt: &impl Abort, sim: &mut Sim, wanted: &[&[u16]]) -> Result<(), MapError> {
+    for (wanted, transaction) in wanted.iter().zip(0u16..99) {
+        let replies = take(sim, transaction, 17, READ)?;
+        assert!(rt;
+            are(&replies, wanted, 17, ZERO),
+            "with frame {transaction}: {replies:?}"
+        );
+    }
+    Ok(())
 }
 
 #[test]
 fn replies_leave_by_the_script(rt: HostRuntime) -> Result<(), Fail> {
     let script = [Step::Pass, Step::Drop, Step::Twice, Step::Hold(1)];
     let mut sim = sim(rt.alloc(), &script)?;
-    let wanted: [&[u16]; 6] = [&[0], &[], &[2, 2], &[], &[4, 3], &[5]];
-    for (j, wanted) in wanted.iter().enumerate() {
-        let replies = take(&mut sim, &frame(&rt, j as u16, 17, READ))?;
-        assert!(rt; are(replies.as_slice(), wanted), "with frame {j}");
-        for reply in &replies {
-            assert_eq!(rt; reply.unit_id, 17);
-            assert_eq!(rt; reply.unit.as_bytes(), b"\x03\x02\x00\x00".as_slice());
-        }
-    }
-    Ok(())
+    Ok(assert_leave(&rt, &mut sim, &[&[0], &[], &[2, 2], &[], &[4, 3], &[5]])?)
 }
 
 #[test]
@@ -94,14 +115,15 @@ fn held_replies_leave_in_order(rt: HostRuntime) -> Result<(), Fail> {
         Step::Hold(1),
     ];
     let mut sim = sim(rt.alloc(), &script)?;
-    let wanted: [&[u16]; 5] = [&[], &[], &[2, 0, 1], &[], &[]];
-    for (j, wanted) in wanted.iter().enumerate() {
-        let replies = take(&mut sim, &frame(&rt, j as u16, 17, READ))?;
-        assert!(rt; are(replies.as_slice(), wanted), "with frame {j}");
-    }
-    assert!(rt; are(rest(&mut sim)?.as_slice(), &[3, 4]));
-    assert!(rt; rest(&mut sim)?.is_empty());
-    assert!(rt; are(take(&mut sim, &frame(&rt, 5, 17, READ))?.as_slice(), &[5]));
+    assert_leave(&rt, &mut sim, &[&[], &[], &[2, 0, 1], &[], &[]])?;
+    let held = rest(&mut sim)?;
+    let none = rest(&mut sim)?;
+    let next = take(&mut sim, 5, 17, READ)?;
+    assert!(rt; are(&held, &[3, 4], 17, ZERO), "{held:?}");
+    assert!(rt;
+        none.is_empty() && are(&next, &[5], 17, ZERO),
+        "{none:?} {next:?}"
+    );
     Ok(())
 }
 
@@ -109,14 +131,16 @@ fn held_replies_leave_in_order(rt: HostRuntime) -> Result<(), Fail> {
 fn every_request_is_performed(rt: HostRuntime) -> Result<(), Fail> {
     let script = [Step::Drop, Step::Hold(1)];
     let mut sim = sim(rt.alloc(), &script)?;
-    take(&mut sim, &frame(&rt, 0, 17, b"\x06\x00\x00\x00\x07"))?;
-    take(&mut sim, &frame(&rt, 1, 17, b"\x06\x00\x01\x00\x08"))?;
-    let replies = take(&mut sim, &frame(&rt, 2, 17, b"\x03\x00\x00\x00\x02"))?;
-    assert!(rt; are(replies.as_slice(), &[2, 1]));
-    let answers: [&[u8]; 2] = [b"\x03\x04\x00\x07\x00\x08", b"\x06\x00\x01\x00\x08"];
-    for (reply, answer) in replies.iter().zip(answers) {
-        assert_eq!(rt; reply.unit.as_bytes(), answer);
-    }
+    take(&mut sim, 0, 17, b"\x06\x00\x00\x00\x07")?;
+    take(&mut sim, 1, 17, b"\x06\x00\x01\x00\x08")?;
+    let mut replies = take(&mut sim, 2, 17, b"\x03\x00\x00\x00\x02")?;
+    let written = replies.pop();
+    assert!(rt;
+        are(&replies, &[2], 17, b"\x03\x04\x00\x07\x00\x08"),
+        "{replies:?}"
+    );
+    let echo = frame(1, 17, b"\x06\x00\x01\x00\x08");
+    assert!(rt; written == echo, "{written:?}");
     Ok(())
 }
 
@@ -125,12 +149,8 @@ fn an_unknown_unit_is_a_failed_target(rt: HostRuntime) -> Result<(), Fail> {
     let mut sim = sim(rt.alloc(), &[])?;
     let rows: [(&[u8], &[u8]); 2] = [(READ, b"\x83\x0B"), (b"\xAB\x00", b"\xAB\x0B")];
     for (asked, answer) in rows {
-        let replies = take(&mut sim, &frame(&rt, 9, 18, asked))?;
-        assert!(rt; are(replies.as_slice(), &[9]));
-        for reply in &replies {
-            assert_eq!(rt; reply.unit_id, 18);
-            assert_eq!(rt; reply.unit.as_bytes(), answer);
-        }
+        let replies = take(&mut sim, 9, 18, asked)?;
+        assert!(rt; are(&replies, &[9], 18, answer), "{replies:?}");
     }
     Ok(())
 }

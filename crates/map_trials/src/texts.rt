@@ -1,4 +1,5 @@
 //! What is shown of an error.
+use crate::asserting::assert_told;
 use mb_map::MapError;
 use std::alloc::{AllocError, Global};
 use std::test::Fail;
@@ -19,7 +20,7 @@ fn texts_of_errors(rt: HostRuntime) -> Result<(), Fail> {
         (MapError::BadImage, "no simulator file"),
     ];
     for (error, text) in cases {
-        assert_eq!(rt; text_of(rt.alloc(), error)?.as_str(), text);
+        assert_told(&rt, &error, &text_of(rt.alloc(), error)?.as_str(), &text);
     }
     Ok(())
 }

@@ -5,12 +5,11 @@ use Rattle.office_core.specs.History.{History}
 use Rattle.office_core.specs.Messages.{IsMessage}
 use Rattle.office_core.specs.declared.event.Event.{Event}
 use Rattle.office_script.specs.declared.device.Declared.{Declared}
-use Rattle.office_script.specs.declared.player.Replayed.{Replayed}
 use Rattle.office_script.specs.declared.player.Replayed.TheVariants.{FaultLine}
 use Rattle.office_script.specs.Commands.{event_of}
 use Rattle.office_script.specs.Devices.{device_of}
 use Rattle.office_script.specs.Printing.{fault_line}
-use Rattle.office_script.specs.Scripts.{Step, Skipped, Wrong, Declares, Does, does, step_of, is_skipped, printed, printed_for, then_before}
+use Rattle.office_script.specs.Scripts.{Step, Skipped, Wrong, Declares, Does, does, step_of, is_skipped, Course, from_line, printed_for, then_before}
 use Rattle.office_script.specs.Playing.{Owes, IsWhole}
 
 -- a step at which a script breaks off
@@ -33,28 +32,26 @@ pub one_event : (line : List ℕ) (seen : Event) → is_skipped line ≡ false �
 one_event line seen skip is = rw (skip, ← is) refl
 
 -- a script that breaks off is whole with the number of the line
-pub broken_off : (stands : History → Type 0) (done out more : List ℕ) (number : ℕ) (step : Step) (rest : List Step) (output : List ℕ) (ending : Replayed)
-    → IsFaulty step → more ≡ out ++ fault_line number → Owes stands (done ++ out) number (step ∷ rest) output ending → IsWhole (done ++ more) output (FaultLine number) ending
-broken_off stands done out more number Skipped rest output ending is e owes = absurd is
-broken_off stands done out more number (Does seen) rest output ending is e owes = absurd is
-broken_off stands done out more number Wrong rest output ending is e owes =
-    let (before, stood, text, end) = owes in
-    (ap (λ t. done ++ t) e ∙ sym (append_assoc done out (fault_line number)) ∙ text, end)
-broken_off stands done out more number (Declares said) rest output ending is e owes =
-    let (before, stood, text, end) = owes in
-    (ap (λ t. done ++ t) e ∙ sym (append_assoc done out (fault_line number)) ∙ text, end)
+pub broken_off : (stands : History → Type 0) (done out more : List ℕ) (number : ℕ) (step : Step) (rest : List Step) (whole : Course)
+    → IsFaulty step → more ≡ out ++ fault_line number → Owes stands (done ++ out) number (step ∷ rest) whole → IsWhole (done ++ more) (FaultLine number) whole
+broken_off stands done out more number Skipped rest whole is e owes = absurd is
+broken_off stands done out more number (Does seen) rest whole is e owes = absurd is
+broken_off stands done out more number Wrong rest whole is e owes =
+    let (before, stood, owed) = owes in
+    (ap (λ t. done ++ t) e ∙ sym (append_assoc done out (fault_line number)) ∙ ap (λ (c : Course). c.text) owed, ap (λ (c : Course). c.ending) owed)
+broken_off stands done out more number (Declares said) rest whole is e owes =
+    let (before, stood, owed) = owes in
+    (ap (λ t. done ++ t) e ∙ sym (append_assoc done out (fault_line number)) ∙ ap (λ (c : Course). c.text) owed, ap (λ (c : Course). c.ending) owed)
 
 -- a script goes on after an event
-pub went_on : (stands now : History → Type 0) (done out more : List ℕ) (number : ℕ) (line : List ℕ) (seen : Event) (rest : List Step) (output : List ℕ) (ending : Replayed)
+pub went_on : (stands now : History → Type 0) (done out more : List ℕ) (number : ℕ) (line : List ℕ) (seen : Event) (rest : List Step) (whole : Course)
     → ((before : History) → stands before → IsMessage seen → now (then_before before seen) × (more ≡ out ++ printed_for before seen))
-    → IsMessage seen → step_of line ≡ Does seen → Owes stands (done ++ out) number (step_of line ∷ rest) output ending → Owes now (done ++ more) (number + 1) rest output ending
-went_on stands now done out more number line seen rest output ending acted message is owes =
-    let (before, stood, text, end) = subst (λ s. Owes stands (done ++ out) number (s ∷ rest) output ending) is owes in
+    → IsMessage seen → step_of line ≡ Does seen → Owes stands (done ++ out) number (step_of line ∷ rest) whole → Owes now (done ++ more) (number + 1) rest whole
+went_on stands now done out more number line seen rest whole acted message is owes =
+    let (before, stood, owed) = subst (λ s. Owes stands (done ++ out) number (s ∷ rest) whole) is owes in
     let (follows, e) = acted before stood message in
-    let last = printed (then_before before seen) (number + 1) rest in (
-      then_before before seen,
-      follows,
-      ap (λ t. (done ++ t) ++ last) e ∙ ap (λ t. t ++ last) (sym (append_assoc done out (printed_for before seen)))
-          ∙ append_assoc (done ++ out) (printed_for before seen) last ∙ text,
-      end,
-    )
+    let last : Course = from_line (then_before before seen) (number + 1) rest in
+    let text : (done ++ more) ++ last.text ≡ (done ++ out) ++ (printed_for before seen ++ last.text) =
+        ap (λ t. (done ++ t) ++ last.text) e ∙ ap (λ t. t ++ last.text) (sym (append_assoc done out (printed_for before seen)))
+            ∙ append_assoc (done ++ out) (printed_for before seen) last.text in
+    (then_before before seen, follows, ap (λ (t : List ℕ). record last { text = t }) text ∙ owed)

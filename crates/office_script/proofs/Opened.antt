@@ -7,24 +7,18 @@ use Rattle.point_list.specs.declared.site.Device.{Device}
 use Rattle.point_list.specs.Sites.{all_differ, is_sound}
 use Rattle.office_core.specs.declared.event.Event.{Event}
 use Rattle.office_script.specs.declared.device.Declared.{Declared}
-use Rattle.office_script.specs.declared.player.Replayed.TheVariants.{FaultLine}
 use Rattle.office_script.specs.Commands.{event_of}
 use Rattle.office_script.specs.Devices.{device_of, with_device, is_site}
-use Rattle.office_script.specs.Printing.{fault_line}
-use Rattle.office_script.specs.Scripts.{Step, steps_in, steps_of, step_of, Declares, Does, Skipped, Wrong, is_skipped, does, declared_in, declared_by, opening, opening_ends, begun, ends}
+use Rattle.office_script.specs.Scripts.{Step, steps_in, steps_of, step_of, Declares, Does, Skipped, Wrong, is_skipped, does, declared_in, declared_by, from_device, begun, broken_at}
 
 -- a text's first line is its first step
 pub first_step : (text line rest : List ℕ) → lines text ≡ line ∷ lines rest → steps_of text ≡ step_of line ∷ steps_of rest
 first_step text line rest e = ap steps_in e
 
--- what is printed, and how it ends, from there on
-abbrev pub AreSame : Site → ℕ → List Step → Site → ℕ → List Step → Type 0
-AreSame site number steps later next rest = (opening site number steps ≡ opening later next rest) × (opening_ends site number steps ≡ opening_ends later next rest)
-
 -- a skipped line counts as a line
 pub skipped : (site : Site) (number : ℕ) (text line rest : List ℕ) → lines text ≡ line ∷ lines rest → is_skipped line ≡ true
-    → AreSame site number (steps_of text) site (number + 1) (steps_of rest)
-skipped site number text line rest e h = (rw (e, h) refl, rw (e, h) refl)
+    → from_device site number (steps_of text) ≡ from_device site (number + 1) (steps_of rest)
+skipped site number text line rest e h = rw (e, h) refl
 
 -- what a line that isn't skipped is for
 read : (line : List ℕ) → is_skipped line ≡ false → step_of line ≡ does (event_of line) (device_of line)
@@ -43,31 +37,28 @@ declaring_step text line rest said e d = first_step text line rest e ∙ ap (λ 
 
 -- a device more
 pub declared : (site : Site) (number : ℕ) (text line rest : List ℕ) (said : Declared) → lines text ≡ line ∷ lines rest → Some said ≡ declared_by line → is_site (with_device site said) ≡ true
-    → AreSame site number (steps_of text) (with_device site said) (number + 1) (steps_of rest)
-declared site number text line rest said e d s = let steps = declaring_step text line rest said e d in (rw (steps, s) refl, rw (steps, s) refl)
+    → from_device site number (steps_of text) ≡ from_device (with_device site said) (number + 1) (steps_of rest)
+declared site number text line rest said e d s = let steps = declaring_step text line rest said e d in rw (steps, s) refl
 
 -- a device that makes no site
 pub broken : (site : Site) (number : ℕ) (text line rest : List ℕ) (said : Declared) → lines text ≡ line ∷ lines rest → Some said ≡ declared_by line → is_site (with_device site said) ≡ false
-    → (opening site number (steps_of text) ≡ fault_line number) × (opening_ends site number (steps_of text) ≡ FaultLine number)
-broken site number text line rest said e d s = let steps = declaring_step text line rest said e d in (rw (steps, s) refl, rw (steps, s) refl)
+    → from_device site number (steps_of text) ≡ broken_at [] number
+broken site number text line rest said e d s = let steps = declaring_step text line rest said e d in rw (steps, s) refl
 
 begun_by : (site : Site) (number : ℕ) (o : Option Event) (p : Option Declared) (more : List Step) → None ≡ declared_in (does o p)
-    → (opening site number (does o p ∷ more) ≡ begun site number (does o p ∷ more)) × (opening_ends site number (does o p ∷ more) ≡ ends number (does o p ∷ more))
-begun_by site number (Some seen) p more none = (refl, refl)
-begun_by site number None None more none = (refl, refl)
+    → from_device site number (does o p ∷ more) ≡ begun site number (does o p ∷ more)
+begun_by site number (Some seen) p more none = refl
+begun_by site number None None more none = refl
 begun_by site number None (Some said) more none = absurd (cc)
 
 -- a line that declares no device begins the rest
 pub ready : (site : Site) (number : ℕ) (text line rest : List ℕ) → lines text ≡ line ∷ lines rest → is_skipped line ≡ false → None ≡ declared_by line
-    → (opening site number (steps_of text) ≡ begun site number (steps_of text)) × (opening_ends site number (steps_of text) ≡ ends number (steps_of text))
-ready site number text line rest e h d =
-    let both = begun_by site number (event_of line) (device_of line) (steps_of rest) (d ∙ ap declared_in (read line h)) in
-    (rw (e, h) both.0, rw (e, h) both.1)
+    → from_device site number (steps_of text) ≡ begun site number (steps_of text)
+ready site number text line rest e h d = rw (e, h) (begun_by site number (event_of line) (device_of line) (steps_of rest) (d ∙ ap declared_in (read line h)))
 
 -- and so does the end
-pub ready_at_end : (site : Site) (number : ℕ) (text : List ℕ) → length text ≡ 0
-    → (opening site number (steps_of text) ≡ begun site number (steps_of text)) × (opening_ends site number (steps_of text) ≡ ends number (steps_of text))
-ready_at_end site number [] none = (refl, refl)
+pub ready_at_end : (site : Site) (number : ℕ) (text : List ℕ) → length text ≡ 0 → from_device site number (steps_of text) ≡ begun site number (steps_of text)
+ready_at_end site number [] none = refl
 ready_at_end site number (x ∷ xs) none = absurd (omega arith)
 
 -- no lines and no devices make a site

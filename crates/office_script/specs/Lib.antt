@@ -4,6 +4,5 @@ pub mod Commands
 pub mod Devices
 pub mod Printing
 pub mod Scripts
-pub mod Happened
 pub mod Ends
 pub mod Playing

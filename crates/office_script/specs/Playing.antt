@@ -7,8 +7,7 @@ use Rattle.office_core.specs.declared.office.Office.{Office}
 use Rattle.office_core.specs.History.{History}
 use Rattle.office_core.specs.Legal.{Legal}
 use Rattle.office_core.specs.Offices.{Stands}
-use Rattle.office_script.specs.Scripts.{Step, printed, begun, ends, steps_of, output_of, outcome_of}
-use Rattle.office_script.specs.Printing.{fault_line}
+use Rattle.office_script.specs.Scripts.{Step, Course, after, broken_at, from_line, begun, steps_of, course_of}
 use Rattle.office_script.specs.declared.player.Replayed.{Replayed}
 use Rattle.office_script.specs.declared.player.Replayed.TheVariants.{FaultLine}
 use Rattle.office_script.specs.declared.player.Played.{Played}
@@ -20,19 +19,18 @@ use Rattle.office_script.specs.declared.opening.Opening.TheVariants.{Ready, Brok
 abbrev pub Follows : {K : Type 0} {g : Ghosts K} → Office K g → History → Type 0
 Follows office before = Stands office before × Legal before × (before ≢ [])
 
--- what was printed so far, and then what the steps from line `number` on print, is the output; and they end so
-abbrev pub Owes : (History → Type 0) → List ℕ → ℕ → List Step → List ℕ → Replayed → Type 0
-Owes stands so_far number steps output ending =
-    (before : History) × stands before × (so_far ++ printed before number steps ≡ output) × (ends number steps ≡ ending)
+-- what was printed so far, and then what comes of the steps from line `number` on, is the whole
+abbrev pub Owes : (History → Type 0) → List ℕ → ℕ → List Step → Course → Type 0
+Owes stands so_far number steps whole = (before : History) × stands before × (after so_far (from_line before number steps) ≡ whole)
 
--- the output is whole, and the script ended so
-abbrev pub IsWhole : List ℕ → List ℕ → Replayed → Replayed → Type 0
-IsWhole so_far output how ending = (so_far ≡ output) × (how ≡ ending)
+-- all of it is printed, and the script ended so
+abbrev pub IsWhole : List ℕ → Replayed → Course → Type 0
+IsWhole so_far how whole = (so_far ≡ whole.text) × (how ≡ whole.ending)
 
 -- what a played line leaves
-abbrev pub Leaves : (History → Type 0) → List ℕ → ℕ → List Step → List ℕ → Replayed → Played → Type 0
-Leaves stands so_far number rest output ending On = Owes stands so_far (number + 1) rest output ending
-Leaves stands so_far number rest output ending Faulty = IsWhole so_far output (FaultLine number) ending
+abbrev pub Leaves : (History → Type 0) → List ℕ → ℕ → List Step → Course → Played → Type 0
+Leaves stands so_far number rest whole On = Owes stands so_far (number + 1) rest whole
+Leaves stands so_far number rest whole Faulty = IsWhole so_far (FaultLine number) whole
 
 -- the writer took a front of the output
 abbrev pub TookFront : Option (List ℕ) → Option (List ℕ) → List ℕ → Type 0
@@ -44,7 +42,5 @@ WroteFront old new pending rest = (front : List ℕ) × (front ++ rest ≡ pendi
 
 -- what the lines before the first that declares no device leave of the script
 abbrev pub Opens : List ℕ → Opening → Type 0
-Opens script (Ready site rest number) =
-    IsSound site × (output_of script ≡ begun site number (steps_of rest.now)) × (outcome_of script ≡ ends number (steps_of rest.now))
-    × (number + length rest.now ≤ length script + 1)
-Opens script (Broken number) = (output_of script ≡ fault_line number) × (outcome_of script ≡ FaultLine number)
+Opens script (Ready site rest number) = IsSound site × (course_of script ≡ begun site number (steps_of rest.now)) × (number + length rest.now ≤ length script + 1)
+Opens script (Broken number) = course_of script ≡ broken_at [] number

@@ -1,4 +1,4 @@
--- What a script means: what is printed for its lines, and how it ends.
+-- What a script means: what is printed for its lines, how it ends, and what happens in it.
 use Rattle.std.specs.Prelude.{ℕ, ◌+◌, List, [], ◌∷◌, ◌++◌, Bool, false, ◌||◌, Option, Some, None, if◌then◌else◌, length, ◌==◌, slice_index, Result, Ok, Err}
 use Rattle.std.specs.List.{list_any}
 use Rattle.std.specs.Str.Lines.{lines}
@@ -81,49 +81,55 @@ printed_for before seen = if lists_setting (site_of before) seen then setting_li
 abbrev pub then_before : History → Event → History
 then_before before seen = if lists_setting (site_of before) seen then before else happening_of before seen ∷ before
 
--- what is printed from the line of this number on: an answer for each event, and at the end the report, but at a line of
--- another form its number and nothing more
-abbrev pub printed : History → ℕ → List Step → List ℕ
-printed before number [] = report_of (tables before)
-printed before number (Skipped ∷ more) = printed before (number + 1) more
-printed before number (Wrong ∷ more) = fault_line number
-printed before number (Declares said ∷ more) = fault_line number
-printed before number (Does seen ∷ more) = printed_for before seen ++ printed (then_before before seen) (number + 1) more
+-- what comes of the lines from one on: what they print, how they end, and what happened by then
+pub record Course : Type 0 where
+  pub text : List ℕ
+  pub ending : Replayed
+  pub history : History
 
--- and how it ends
-abbrev pub ends : ℕ → List Step → Replayed
-ends number [] = Done
-ends number (Skipped ∷ more) = ends (number + 1) more
-ends number (Wrong ∷ more) = FaultLine number
-ends number (Declares said ∷ more) = FaultLine number
-ends number (Does seen ∷ more) = ends (number + 1) more
+-- a text before all else
+abbrev pub after : List ℕ → Course → Course
+after text course = record course { text = text ++ course.text }
+
+-- a line of another form: its number and nothing more
+abbrev pub broken_at : History → ℕ → Course
+broken_at before number = record { text = fault_line number; ending = FaultLine number; history = before }
+
+-- from the line of this number on: an answer for each event, and at the end the report
+abbrev pub from_line : History → ℕ → List Step → Course
+from_line before number [] = record { text = report_of (tables before); ending = Done; history = before }
+from_line before number (Skipped ∷ more) = from_line before (number + 1) more
+from_line before number (Wrong ∷ more) = broken_at before number
+from_line before number (Declares said ∷ more) = broken_at before number
+from_line before number (Does seen ∷ more) = after (printed_for before seen) (from_line (then_before before seen) (number + 1) more)
 
 -- ---- the devices, which are declared before all else
 
 -- an office of this site begins, and goes on so
-abbrev pub begun : Site → ℕ → List Step → List ℕ
-begun site number steps = printed (Restart site ∷ []) number steps
+abbrev pub begun : Site → ℕ → List Step → Course
+begun site number steps = from_line (Restart site ∷ []) number steps
 
-abbrev pub opening : Site → ℕ → List Step → List ℕ
-opening site number [] = begun site number []
-opening site number (Skipped ∷ more) = opening site (number + 1) more
-opening site number (Wrong ∷ more) = fault_line number
-opening site number (Declares said ∷ more) = if is_site (with_device site said) then opening (with_device site said) (number + 1) more else fault_line number
-opening site number (Does seen ∷ more) = begun site number (Does seen ∷ more)
-
-abbrev pub opening_ends : Site → ℕ → List Step → Replayed
-opening_ends site number [] = Done
-opening_ends site number (Skipped ∷ more) = opening_ends site (number + 1) more
-opening_ends site number (Wrong ∷ more) = FaultLine number
-opening_ends site number (Declares said ∷ more) = if is_site (with_device site said) then opening_ends (with_device site said) (number + 1) more else FaultLine number
-opening_ends site number (Does seen ∷ more) = ends number (Does seen ∷ more)
+-- at a line of another form among them none begins
+abbrev pub from_device : Site → ℕ → List Step → Course
+from_device site number [] = begun site number []
+from_device site number (Skipped ∷ more) = from_device site (number + 1) more
+from_device site number (Wrong ∷ more) = broken_at [] number
+from_device site number (Declares said ∷ more) = if is_site (with_device site said) then from_device (with_device site said) (number + 1) more else broken_at [] number
+from_device site number (Does seen ∷ more) = begun site number (Does seen ∷ more)
 
 -- ---- the whole
 
+abbrev pub course_of : List ℕ → Course
+course_of script = from_device no_site 1 (steps_of script)
+
 -- the output of a script
 abbrev pub output_of : List ℕ → List ℕ
-output_of script = opening no_site 1 (steps_of script)
+output_of script = (course_of script).text
 
--- and how it ends
+-- how it ends
 abbrev pub outcome_of : List ℕ → Replayed
-outcome_of script = opening_ends no_site 1 (steps_of script)
+outcome_of script = (course_of script).ending
+
+-- what happens in it
+abbrev pub history_of : List ℕ → History
+history_of script = (course_of script).history

@@ -3,9 +3,8 @@
 ghost use Rattle.std.specs.Prelude.{◌≡◌, ◌++◌, ℕ, List};
 ghost use Rattle.office_core.specs.History.{tables};
 ghost use Rattle.office_core.specs.Legal.{Legal};
-ghost use Rattle.office_script.specs.Happened.{history_of};
 ghost use Rattle.office_script.specs.Printing.{report_of};
-ghost use Rattle.office_script.specs.Scripts.{outcome_of, output_of};
+ghost use Rattle.office_script.specs.Scripts.{history_of, outcome_of, output_of};
 
 use crate::player::Replayed;
 

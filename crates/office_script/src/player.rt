@@ -5,7 +5,7 @@ ghost use Rattle.mb_mbap.specs.Counted.{inner_of, failures_of, HasRisen};
 ghost use Rattle.point_list.specs.Sites.{IsSound};
 ghost use Rattle.office_core.specs.History.{History, Restart, tables};
 ghost use Rattle.office_script.specs.Printing.{report_of};
-ghost use Rattle.office_script.specs.Scripts.{Step, ends, outcome_of, output_of, printed, step_of, steps_of};
+ghost use Rattle.office_script.specs.Scripts.{Course, Step, from_line, outcome_of, output_of, step_of, steps_of};
 ghost use Rattle.office_script.specs.Playing.{Follows, Leaves, Owes, TookFront, WroteFront};
 
 use crate::acting::act;
@@ -103,9 +103,9 @@ fn play_line(
     line: &[u8],
     number: u32,
 ) -> Result<Played, AllocError>
-    ensures { IfOk result (λ played. (done : List ℕ) (rest : List Step) (output : List ℕ) (ending : Replayed)
-        → Owes (Follows office.old) (done ++ out.old.items) number (step_of line.now ∷ rest) output ending
-        → Leaves (Follows office.new) (done ++ out.new.items) number rest output ending played) }
+    ensures { IfOk result (λ played. (done : List ℕ) (rest : List Step) (whole : Course)
+        → Owes (Follows office.old) (done ++ out.old.items) number (step_of line.now ∷ rest) whole
+        → Leaves (Follows office.new) (done ++ out.new.items) number rest whole played) }
 {
     if skips(line) {
         return Ok(Played::On);
@@ -193,11 +193,11 @@ fn play<W: Write>(
 ) -> Result<Replayed, ReplayFault>
     requires follows { (before : History) × Follows start before }
     requires short { first + length text.now ≤ SCRIPT_LIMIT + 1 }
-    ensures ending { (before : History) → Follows start before → IfOk result (λ ending. ending ≡ ends first (steps_of text.now)) }
+    ensures ending { (before : History) → Follows start before → IfOk result (λ ending. ending ≡ (from_line before first (steps_of text.now)).ending) }
     ensures output { (before : History) → Follows start before
-        → OnOk result (Appends (W.contents (inner_of writer.old)) (W.contents (inner_of writer.new)) (printed before first (steps_of text.now))) }
+        → OnOk result (Appends (W.contents (inner_of writer.old)) (W.contents (inner_of writer.new)) (from_line before first (steps_of text.now)).text) }
     ensures memory { (before : History) → Follows start before → IsErrOf result ReplayFault.Memory
-        → TookFront (W.contents (inner_of writer.old)) (W.contents (inner_of writer.new)) (printed before first (steps_of text.now)) }
+        → TookFront (W.contents (inner_of writer.old)) (W.contents (inner_of writer.new)) (from_line before first (steps_of text.now)).text }
     ensures write { IsErrOf result ReplayFault.Write → HasRisen (failures_of writer.old) (failures_of writer.new) }
     ensures no_read { IfErr result (λ fault. fault ≢ ReplayFault.Read) }
 {

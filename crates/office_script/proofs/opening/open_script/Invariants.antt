@@ -1,13 +1,12 @@
 use Rattle.std.proofs.Common.{◌≡◌, ◌≤◌, ◌+◌, length}
 use Rattle.point_list.specs.Sites.{IsSound}
-use Rattle.office_script.specs.Scripts.{steps_of, opening, opening_ends, output_of, outcome_of}
+use Rattle.office_script.specs.Scripts.{steps_of, from_device, course_of}
 use Rattle.office_script.proofs.opening.open_script.Given as goal
 
 abbrev pub invariant-loop-alloc : goal.invariant-loop-alloc
 invariant-loop-alloc l = record {
   sound : IsSound l.site;
-  output : output_of l.script ≡ opening l.site l.number (steps_of l.rest);
-  outcome : outcome_of l.script ≡ opening_ends l.site l.number (steps_of l.rest);
+  course : course_of l.script ≡ from_device l.site l.number (steps_of l.rest);
   room : l.number + length l.rest ≤ length l.script + 1;
 }
 

@@ -6,14 +6,14 @@ use Rattle.office_script.proofs.Messages.{is_message}
 use Rattle.office_script.proofs.player.play_line.Goals as goal
 
 pub returns-in_ok-push_fault-in-None : goal.returns-in_ok-push_fault-in-None
-returns-in_ok-push_fault-in-None c = λ done rest output ending owes.
+returns-in_ok-push_fault-in-None c = λ done rest whole owes.
     let line = c.args.line.now in
-    broken_off (Follows c.args.office.now) done c.args.out.now.items c.push_fault.new.out.items c.args.number (step_of line) rest output ending
+    broken_off (Follows c.args.office.now) done c.args.out.now.items c.push_fault.new.out.items c.args.number (step_of line) rest whole
     (no_event line (sym c.skips.ensures ∙ c.if-skips.false) (sym c.in-None.is ∙ c.in_ok-event.ensures)) c.in_ok-push_fault-in-None.ensures owes
 
 pub returns-in_ok-act-in-Some : goal.returns-in_ok-act-in-Some
-returns-in_ok-act-in-Some c = λ done rest output ending owes.
+returns-in_ok-act-in-Some c = λ done rest whole owes.
     let line = c.args.line.now in
     let is = sym c.in-Some.is ∙ c.in_ok-event.ensures in
-    went_on (Follows c.args.office.now) (Follows c.act.new.office) done c.args.out.now.items c.act.new.out.items c.args.number line c.in-Some.event rest output ending
+    went_on (Follows c.args.office.now) (Follows c.act.new.office) done c.args.out.now.items c.act.new.out.items c.args.number line c.in-Some.event rest whole
     c.in_ok-act-in-Some.ensures (is_message line c.in-Some.event is) (one_event line c.in-Some.event (sym c.skips.ensures ∙ c.if-skips.false) is) owes
