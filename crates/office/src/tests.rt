@@ -1,6 +1,6 @@
 //! The words of the command line, and faults as standard error tells them.
-use crate::player::{ReplayFault, Replayed};
 use crate::{Fault, is_replay};
+use office_script::ReplayFault;
 use std::alloc::{AllocError, Global};
 use std::fmt;
 use std::test::Fail;
@@ -35,7 +35,7 @@ const WORDS: &[(&[&str], bool)] = &[
 fn replay_is_the_one_word(rt: HostRuntime) -> Result<(), Fail> {
     for (texts, is) in WORDS {
         let words = words_of(rt.alloc(), texts)?;
-        assert_eq!(rt; is_replay(&words), *is, "{texts:?}");
+        assert!(rt; is_replay(&words) == *is, "{texts:?}");
     }
     Ok(())
 }
@@ -57,17 +57,7 @@ fn faults_are_told_in_one_form(rt: HostRuntime) -> Result<(), Fail> {
         (Fault::Failed(ReplayFault::Memory), "office: memory"),
     ];
     for (fault, wanted) in &faults {
-        assert_eq!(rt; text_of(rt.alloc(), fault)?.as_str(), *wanted);
+        assert!(rt; text_of(rt.alloc(), fault)?.as_str() == *wanted, "{wanted}");
     }
-    Ok(())
-}
-
-#[test]
-fn endings_are_shown(rt: HostRuntime) -> Result<(), Fail> {
-    assert_eq!(rt; text_of(rt.alloc(), &Replayed::Done)?.as_str(), "done");
-    assert_eq!(rt;
-        text_of(rt.alloc(), &Replayed::FaultLine(3))?.as_str(),
-        "fault line 3"
-    );
     Ok(())
 }

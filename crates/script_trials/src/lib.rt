@@ -5,6 +5,8 @@
 #[cfg(test)]
 mod asserting;
 #[cfg(test)]
+mod endings;
+#[cfg(test)]
 mod memory;
 pub mod playing;
 #[cfg(test)]
