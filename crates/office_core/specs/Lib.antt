@@ -1,4 +1,3 @@
-pub mod Texts
 pub mod Errors
 pub mod Sites
 pub mod Cover

@@ -1,60 +1,42 @@
 use poll_book::StoreFault;
 use poll_match::MatchError;
 use std::alloc::AllocError;
-use std::error::Error;
-use std::fmt;
+use thiserror::Error;
 
 /// Why an office refuses.
-#[derive(Clone, Copy, Debug, PartialEq, Eq)]
+#[derive(Clone, Copy, Debug, PartialEq, Eq, Error)]
 pub enum OfficeError {
     /// The connection isn't open.
+    #[error("no such connection")]
     NoConnection,
     /// The line isn't in the site, or the device isn't one of the connection's line.
+    #[error("wrong line")]
     WrongLine,
     /// The read isn't valid, passes address 65,535, or holds no known point whole.
+    #[error("no such read")]
     NoRead,
     /// No connection number or no query number is left.
+    #[error("no number is left")]
     Exhausted,
     /// The device of a stored point isn't in the site.
+    #[error("site differs")]
     SiteDiffers,
     /// No query of the connection has the frame's transaction.
+    #[error("no query has this transaction identifier")]
     NoQuery,
     /// The frame's unit identifier isn't the query's.
+    #[error("the unit identifier is not the query's")]
     WrongUnit,
     /// The query was answered before.
+    #[error("the query was answered before")]
     Repeat,
     /// The unit is no reply to the query.
+    #[error("no reply to the query")]
     WrongReply,
     /// The store refused, and nothing has changed.
+    #[error("store {0}")]
     Store(StoreFault),
 }
-
-impl fmt::Display for OfficeError {
-    ghost use Rattle.std.specs.Prelude.{Some};
-    ghost use Rattle.office_core.specs.Texts.{error_text};
-
-    ghost output = { λ e. Some (error_text e) };
-
-    fn fmt<W: fmt::Write>(&self, f: &mut fmt::Formatter<W>) -> fmt::Result {
-        f.write_str(match self {
-            OfficeError::NoConnection => "no such connection",
-            OfficeError::WrongLine => "wrong line",
-            OfficeError::NoRead => "no such read",
-            OfficeError::Exhausted => "no number is left",
-            OfficeError::SiteDiffers => "site differs",
-            OfficeError::NoQuery => "no query has this transaction identifier",
-            OfficeError::WrongUnit => "the unit identifier is not the query's",
-            OfficeError::Repeat => "the query was answered before",
-            OfficeError::WrongReply => "no reply to the query",
-            OfficeError::Store(StoreFault::Memory) => "store memory",
-            OfficeError::Store(StoreFault::Full) => "store full",
-            OfficeError::Store(StoreFault::Disk) => "store disk",
-            OfficeError::Store(StoreFault::Other) => "store other",
-        })
-    }
-}
-
-impl Error for OfficeError {}
 
 impl From<MatchError> for OfficeError {
     ghost use Rattle.std.specs.Prelude.{◌≡◌};

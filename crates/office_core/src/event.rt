@@ -57,7 +57,7 @@ pub enum Arrival {
 }
 
 /// The answer to an event.
-#[derive(Debug, Drop)]
+#[derive(Debug, PartialEq, Eq, Drop)]
 pub enum EventAnswer {
     Judged(Outcome),
     Opened(Conn),

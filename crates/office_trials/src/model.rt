@@ -1,6 +1,6 @@
 //! What an office holds and answers, worked out anew each time from all that happened.
-use super::{frame, push};
-use crate::{Arrival, EventAnswer, LoadFault, OfficeError, Outcome, Reason};
+use crate::builders::{frame, push};
+use office_core::{Arrival, EventAnswer, LoadFault, OfficeError, Outcome, Reason};
 use point_list::ListFault;
 use poll_match::Conn;
 use std::alloc::Global;
@@ -136,7 +136,7 @@ pub(crate) fn made(past: &[Happened]) -> u32 {
 }
 
 /// The place of a connection's line, if it is open.
-pub(crate) fn line_of(past: &[Happened], conn: u32) -> Option<u32> {
+fn line_of(past: &[Happened], conn: u32) -> Option<u32> {
     let mut made = 0u32;
     let mut found = None;
     for happened in past {
@@ -317,31 +317,46 @@ pub(crate) fn all_given(alloc: Global, past: &[Happened]) -> Result<Vec<Given>, 
     Ok(given)
 }
 
+/// How far a counter went from one number to the next.
+fn step(before: u16, after: u16) -> u16 {
+    if after >= before {
+        after - before
+    } else {
+        after.saturating_add(1000 - before.min(1000))
+    }
+}
+
+/// The number of a counter in a slot, where it counts.
+fn number_in(given: &[Given], point: usize, slot: u32) -> Option<u16> {
+    given
+        .iter()
+        .find(|reading| reading.point == point && reading.slot == slot && reading.first <= 999)
+        .map(|reading| reading.first)
+}
+
 /// A counter's total, of slots below so many.
 pub(crate) fn total(given: &[Given], point: usize, slots: u32) -> u128 {
-    let mut sum = 0u128;
+    let mut sum = 0u64;
     let mut last = None;
     for slot in 0..slots {
-        for reading in given {
-            if reading.point == point && reading.slot == slot && reading.first <= 999 {
-                let before = last.unwrap_or(reading.first);
-                let step = (reading.first as u32)
-                    .wrapping_add(1000)
-                    .wrapping_sub(before as u32);
-                sum = sum.wrapping_add((step % 1000) as u128);
-                last = Some(reading.first);
-            }
+        if let Some(number) = number_in(given, point, slot) {
+            sum = sum.saturating_add(step(last.unwrap_or(number), number) as u64);
+            last = Some(number);
         }
     }
-    sum
+    sum as u128
+}
+
+fn outcome_of(known: &[Row], list: u32) -> Outcome {
+    match list_fault(known, list) {
+        Some(reason) => Outcome::RefusedFor(reason),
+        None => Outcome::Loaded(3),
+    }
 }
 
 fn load_answer(alloc: Global, past: &[Happened], list: u32) -> Result<EventAnswer, OfficeError> {
     let known = known(alloc, past)?;
-    Ok(EventAnswer::Judged(match list_fault(&known, list) {
-        Some(reason) => Outcome::RefusedFor(reason),
-        None => Outcome::Loaded(3),
-    }))
+    Ok(EventAnswer::Judged(outcome_of(&known, list)))
 }
 
 fn ask_answer(

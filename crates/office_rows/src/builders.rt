@@ -1,0 +1,132 @@
+//! Offices over a site, and the events that happen to them.
+ghost use Rattle.std.specs.Prelude.{IfOk};
+ghost use Rattle.point_list.specs.Sites.{IsSound};
+
+use crate::steps::Happens;
+use mb_mbap::Frame;
+use mb_pdu::{Span, Unit};
+use office_core::{Event, Office, OfficeError};
+use point_list::{Items, ListFault, Site, Text, read_site};
+use poll_book::{Keeper, StoreFault};
+use poll_match::Conn;
+use read_planner::Read;
+use std::alloc::Global;
+
+pub(crate) const MEMORY: OfficeError = OfficeError::Store(StoreFault::Memory);
+
+const HEADER: &str = "name,device,table,address,type,length,scale,role,roll\n";
+
+/// Two lines, each with a device of its own.
+pub(crate) const TWO: &str =
+    "[[line]]\nname = \"roof\"\naddress = \"127.0.0.1:502\"\n[[line]]\nname = \"cellar\"\naddress = \"127.0.0.1:503\"\n[[device]]\nname = \"m1\"\nline = \"roof\"\nunit = 17\ngap = 8\n[[device]]\nname = \"m2\"\nline = \"cellar\"\nunit = 17\n";
+
+/// The roof without its device.
+pub(crate) const BARE: &str =
+    "[[line]]\nname = \"roof\"\naddress = \"127.0.0.1:502\"\n[[device]]\nname = \"m2\"\nline = \"roof\"\nunit = 17\n";
+
+fn site(alloc: Global, text: &str) -> Result<Site, OfficeError>
+    ensures { IfOk result (λ site. IsSound site) }
+{
+    match read_site(alloc, text.as_bytes()) {
+        Ok(site) => Ok(site),
+        Err(e) if e.fault == ListFault::Memory => Err(MEMORY),
+        Err(_) => Err(OfficeError::NoRead),
+    }
+}
+
+/// An office of a site over a keeper, or its refusal. Refused memory ends the attempt.
+pub(crate) fn begun<K: Keeper + Drop>(
+    alloc: Global,
+    keeper: K,
+    text: &str,
+) -> Result<Result<Office<K>, (OfficeError, K)>, OfficeError> {
+    Ok(Office::new(alloc, keeper, site(alloc, text)?))
+}
+
+/// An office of the two lines over a keeper.
+pub(crate) fn office_over<K: Keeper + Drop>(
+    alloc: Global,
+    keeper: K,
+) -> Result<Office<K>, OfficeError> {
+    match begun(alloc, keeper, TWO)? {
+        Ok(office) => Ok(office),
+        Err((error, _)) => Err(error),
+    }
+}
+
+pub(crate) fn push<T: Drop>(items: &mut Vec<T>, item: T) -> Result<(), OfficeError> {
+    match items.push(item) {
+        Ok(()) => Ok(()),
+        Err(_) => Err(MEMORY),
+    }
+}
+
+fn list(alloc: Global, header: &str, records: &str) -> Result<Event, OfficeError> {
+    let mut bytes = Vec::from_slice(alloc, header.as_bytes())?;
+    bytes.extend_from_slice(records.as_bytes())?;
+    Ok(Event::Load(Items::from_vec(bytes)))
+}
+
+fn text(alloc: Global, name: &str) -> Result<Text, OfficeError> {
+    Ok(Text::from_string(String::from_str(alloc, name)?))
+}
+
+fn read(function: u8, start: u16, quantity: u16) -> Read {
+    let span = Span { start, quantity };
+    Read { function, span }
+}
+
+fn frame(transaction: u16, unit_id: u8, bytes: &[u8]) -> Result<Frame, OfficeError> {
+    match Unit::from_bytes(bytes) {
+        Some(unit) => Ok(Frame {
+            transaction,
+            unit_id,
+            unit,
+        }),
+        None => Err(OfficeError::WrongReply),
+    }
+}
+
+pub(crate) fn event_of(alloc: Global, happens: &Happens) -> Result<Event, OfficeError> {
+    match *happens {
+        Happens::List(bytes) => list(alloc, bytes, ""),
+        Happens::Load(records) => list(alloc, HEADER, records),
+        Happens::Open(line) => Ok(Event::Open(text(alloc, line)?)),
+        Happens::Ask(conn, device, slot, (function, start, quantity)) => {
+            let read = read(function, start, quantity);
+            Ok(Event::Ask(Conn::new(conn), text(alloc, device)?, slot, read))
+        }
+        Happens::Arrive(conn, transaction, unit_id, bytes) => {
+            let frame = frame(transaction, unit_id, bytes)?;
+            Ok(Event::Arrive(Conn::new(conn), frame))
+        }
+        Happens::Restart => Ok(Event::Restart),
+    }
+}
+
+/// The events of happenings, in their order.
+pub(crate) fn events_of(alloc: Global, all: &[Happens]) -> Result<Vec<Event>, OfficeError> {
+    let mut events = Vec::new(alloc);
+    for happens in all {
+        push(&mut events, event_of(alloc, happens)?)?;
+    }
+    Ok(events)
+}
+
+/// An office's points, readings and totals as text.
+pub(crate) fn shown<K: Keeper>(
+    alloc: Global,
+    office: &mut Office<K>,
+) -> Result<String, OfficeError> {
+    let mut text = String::new(alloc);
+    for point in ["a", "b", "c", "e", "f"] {
+        let rows = office.readings(point, 0, u32::MAX)?;
+        let total = office.total(point)?;
+        let line = format!(in alloc; "{point} {rows:?} {total:?}\n")?;
+        text.push_str(line.as_str())?;
+    }
+    let count = office.points().len();
+    let line = format!(in alloc; "{count} points")?;
+    text.push_str(line.as_str())?;
+    Ok(text)
+}

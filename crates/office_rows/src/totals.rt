@@ -1,0 +1,114 @@
+//! Totals of counters, by hand: the steps between neighbouring slots, whatever came first.
+use crate::builders::office_over;
+use crate::steps::Happens::{Arrive, Ask, Load, Open};
+use crate::steps::take;
+use office_core::OfficeError;
+use poll_book::MemKeeper;
+use std::alloc::Global;
+use std::process::Abort;
+use std::test::Fail;
+
+/// A counter's record and its number of registers.
+type Counter = (&'static str, u16);
+
+const SHORT: Counter = ("e,m1,holding,107,uint16,,,counter,65535\n", 1);
+
+const LONG: Counter = ("e,m1,holding,107,acc32,,,counter,\n", 2);
+
+const ROLLED: Counter = ("e,m1,holding,107,uint16,,,counter,99\n", 1);
+
+const GAUGE: Counter = ("e,m1,holding,107,uint16,,,gauge,\n", 1);
+
+/// A reply to the query of a slot.
+type Reply = (u16, &'static [u8]);
+
+/// The number 65,000.
+const FIRST: Reply = (0, &[3, 2, 0xFD, 0xE8]);
+
+/// The number 64,000.
+const SECOND: Reply = (1, &[3, 2, 0xFA, 0x00]);
+
+/// The number 65,500.
+const LATE: Reply = (1, &[3, 2, 0xFF, 0xDC]);
+
+/// The number 500.
+const THIRD: Reply = (2, &[3, 2, 0x01, 0xF4]);
+
+/// The numbers 90, 150 and 20.
+const NUMBERS: &[Reply] = &[
+    (0, &[3, 2, 0, 90]),
+    (1, &[3, 2, 0, 150]),
+    (2, &[3, 2, 0, 20]),
+];
+
+/// The numbers 100, 0 and 150.
+const LONG_NUMBERS: &[Reply] = &[
+    (0, &[3, 4, 0, 0, 0, 100]),
+    (1, &[3, 4, 0, 0, 0, 0]),
+    (2, &[3, 4, 0, 0, 0, 150]),
+];
+
+const ALL: &[bool] = &[true, true, true];
+
+/// A counter, its replies in the order of arrival, and what comes of them: which readings count, by
+/// slot, and the total.
+type Case = (Counter, &'static [Reply], &'static [bool], Option<u128>);
+
+const CASES: [Case; 14] = [
+    (SHORT, &[FIRST, SECOND, THIRD], ALL, Some(66572)),
+    (SHORT, &[FIRST, THIRD, SECOND], ALL, Some(66572)),
+    (SHORT, &[SECOND, FIRST, THIRD], ALL, Some(66572)),
+    (SHORT, &[SECOND, THIRD, FIRST], ALL, Some(66572)),
+    (SHORT, &[THIRD, FIRST, SECOND], ALL, Some(66572)),
+    (SHORT, &[THIRD, SECOND, FIRST], ALL, Some(66572)),
+    // A late reply between two.
+    (SHORT, &[FIRST], &[true], Some(0)),
+    (SHORT, &[FIRST, THIRD], &[true, true], Some(1036)),
+    (SHORT, &[FIRST, THIRD, LATE], ALL, Some(1036)),
+    // Few readings.
+    (SHORT, &[], &[], Some(0)),
+    (SHORT, &[(1, &[3, 2, 0x02, 0xBC])], &[true], Some(0)),
+    // A number past the roll isn't counted.
+    (ROLLED, NUMBERS, &[true, false, true], Some(30)),
+    (GAUGE, NUMBERS, &[false, false, false], None),
+    // An accumulator of zero isn't implemented.
+    (LONG, LONG_NUMBERS, &[true, false, true], Some(50)),
+];
+
+/// Asserts a case of an office that asked in three slots.
+fn assert_case(
+    rt: &impl Abort,
+    alloc: Global,
+    place: usize,
+    case: Case,
+) -> Result<(), OfficeError> {
+    let ((record, quantity), replies, counted, total) = case;
+    let mut office = office_over(alloc, MemKeeper::new(alloc))?;
+    take(alloc, &mut office, &Load(record))?;
+    take(alloc, &mut office, &Open("roof"))?;
+    for slot in 0..3 {
+        take(alloc, &mut office, &Ask(1, "m1", slot, (3, 107, quantity)))?;
+    }
+    for (slot, unit) in replies {
+        take(alloc, &mut office, &Arrive(1, *slot, 17, unit))?;
+    }
+    let Some(rows) = office.readings("e", 0, 9)? else {
+        return Err(OfficeError::NoRead);
+    };
+    assert_eq!(rt; rows.len(), counted.len(), "case {place}");
+    for (row, counted) in rows.iter().zip(counted) {
+        assert_eq!(rt; row.counted, *counted, "case {place}");
+    }
+    assert_eq!(rt; office.total("e")?, total, "case {place}");
+    Ok(())
+}
+
+#[test]
+fn totals_of_counters(rt: HostRuntime) -> Result<(), Fail> {
+    for (place, case) in CASES.iter().enumerate() {
+        if assert_case(&rt, rt.alloc(), place, *case).is_err() {
+            assert_case(&rt, rt.alloc(), place, *case)?;
+        }
+    }
+    Ok(())
+}
