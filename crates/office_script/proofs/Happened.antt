@@ -65,7 +65,7 @@ from_legal site number (line ∷ ls) sound = by (is_skipped line) (event_of line
     by false (Some seen) is p on =
         (lines_stand (then_before (Restart site ∷ []) seen) (number + 1) ls (then_stands (Restart site ∷ []) seen (is_message line seen (sym is)) (begun_stands site sound))).0
     by false None is (Some said) on = declared said (is_site (with_device site said)) refl on
-    by false None is None on = tt
+    by false None is None on = (begun_stands site sound).0
 
 -- the history of a script is legal
 pub script_legal : (script : List ℕ) → Legal (history_of script)

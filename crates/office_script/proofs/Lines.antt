@@ -52,6 +52,6 @@ went_on stands now done out more number line seen rest whole acted message is ow
     let (follows, e) = acted before stood message in
     let last : Course = from_line (then_before before seen) (number + 1) rest in
     let text : (done ++ more) ++ last.text ≡ (done ++ out) ++ (printed_for before seen ++ last.text) =
-        ap (λ t. (done ++ t) ++ last.text) e ∙ ap (λ t. t ++ last.text) (sym (append_assoc done out (printed_for before seen)))
-            ∙ append_assoc (done ++ out) (printed_for before seen) last.text in
+    ap (λ t. (done ++ t) ++ last.text) e ∙ ap (λ t. t ++ last.text) (sym (append_assoc done out (printed_for before seen)))
+    ∙ append_assoc (done ++ out) (printed_for before seen) last.text in
     (then_before before seen, follows, ap (λ (t : List ℕ). record last { text = t }) text ∙ owed)

@@ -18,7 +18,9 @@ use Rattle.office_core.specs.declared.event.Event.TheVariants.{Load, Open, Ask, 
 use Rattle.office_core.specs.Messages.{IsMessage}
 use Rattle.office_script.specs.Words.{words_of, word_at, is_text, joined, byte_of, onto_bytes, bytes_of}
 use Rattle.office_script.specs.Frames.{fields_in, is_whole}
-use Rattle.office_script.specs.Commands.{number_limit, byte_limit, word_limit, list_header, list_with, point_of, open_of, read_of, asking, ask_of, frame_in, arriving, reply_of, event_of_words, record_in, event_with, event_of}
+use Rattle.office_script.specs.declared.command.Verb.{Verb}
+use Rattle.office_script.specs.declared.command.Verb.TheVariants as verb
+use Rattle.office_script.specs.Commands.{verb_of, event_by, number_limit, byte_limit, word_limit, list_header, list_with, point_of, open_of, read_of, asking, ask_of, frame_in, arriving, reply_of, event_of_words, record_in, event_with, event_of}
 use Rattle.office_script.proofs.Texts.{all_ascii}
 
 same : {A : Type 0} (x y : A) → Some x ≡ Some y → y ≡ x
@@ -147,13 +149,13 @@ reply_message (conn ∷ bytes) e is = by (number_within number_limit conn) (fram
 
 words_message : (words : List (List ℕ)) (e : Event) → Some e ≡ event_of_words words → IsMessage e
 words_message [] e is = absurd (cc)
-words_message (name ∷ rest) e is = by (bytes_eq name (codes "open")) (bytes_eq name (codes "ask")) (bytes_eq name (codes "reply")) is
+words_message (name ∷ rest) e is = by (verb_of name) is
   where
-    by : (a b c : Bool) → Some e ≡ cond a (open_of rest) (cond b (ask_of rest) (cond c (reply_of rest) None)) → IsMessage e
-    by true b c is = open_message rest e is
-    by false true c is = ask_message rest e is
-    by false false true is = reply_message rest e is
-    by false false false is = absurd (cc)
+    by : (v : Option Verb) → Some e ≡ event_by v rest → IsMessage e
+    by None is = absurd (cc)
+    by (Some verb.Open) is = open_message rest e is
+    by (Some verb.Ask) is = ask_message rest e is
+    by (Some verb.Reply) is = reply_message rest e is
 
 -- what a line asks for is a message
 pub is_message : (line : List ℕ) (e : Event) → Some e ≡ event_of line → IsMessage e

@@ -8,6 +8,8 @@ use Rattle.sunspec.specs.Digits.{number_within}
 use Rattle.read_planner.specs.declared.Read.{Read}
 use Rattle.office_core.specs.declared.event.Event.{Event}
 use Rattle.office_core.specs.declared.event.Event.TheVariants.{Load, Open, Ask, Arrive}
+use Rattle.office_script.specs.declared.command.Verb.{Verb}
+use Rattle.office_script.specs.declared.command.Verb.TheVariants as verb
 use Rattle.office_script.specs.Words.{words_of, word_at, is_text, bytes_of}
 use Rattle.office_script.specs.Frames.{frame_of}
 
@@ -66,13 +68,25 @@ abbrev pub reply_of : List (List ℕ) → Option Event
 reply_of [] = None
 reply_of (conn ∷ bytes) = arriving (number_within number_limit conn) (frame_in (bytes_of bytes))
 
--- the first word names the command
+-- the first word is the verb
+abbrev pub verb_of : List ℕ → Option Verb
+verb_of name =
+    if bytes_eq name (codes "open") then Some verb.Open else
+    if bytes_eq name (codes "ask") then Some verb.Ask else
+    if bytes_eq name (codes "reply") then Some verb.Reply else None
+
+abbrev pub event_for : Verb → List (List ℕ) → Option Event
+event_for verb.Open words = open_of words
+event_for verb.Ask words = ask_of words
+event_for verb.Reply words = reply_of words
+
+abbrev pub event_by : Option Verb → List (List ℕ) → Option Event
+event_by None words = None
+event_by (Some asked) words = event_for asked words
+
 abbrev pub event_of_words : List (List ℕ) → Option Event
 event_of_words [] = None
-event_of_words (name ∷ rest) =
-    if bytes_eq name (codes "open") then open_of rest else
-    if bytes_eq name (codes "ask") then ask_of rest else
-    if bytes_eq name (codes "reply") then reply_of rest else None
+event_of_words (name ∷ rest) = event_by (verb_of name) rest
 
 -- what follows `point` and its space
 abbrev pub record_in : List ℕ → Option (List ℕ)

@@ -109,11 +109,11 @@ from_line before number (Does seen ∷ more) = after (printed_for before seen) (
 abbrev pub begun : Site → ℕ → List Step → Course
 begun site number steps = from_line (Restart site ∷ []) number steps
 
--- at a line of another form among them none begins
+-- an office begins at the first line that declares no device; where a device makes no site none does
 abbrev pub from_device : Site → ℕ → List Step → Course
 from_device site number [] = begun site number []
 from_device site number (Skipped ∷ more) = from_device site (number + 1) more
-from_device site number (Wrong ∷ more) = broken_at [] number
+from_device site number (Wrong ∷ more) = begun site number (Wrong ∷ more)
 from_device site number (Declares said ∷ more) = if is_site (with_device site said) then from_device (with_device site said) (number + 1) more else broken_at [] number
 from_device site number (Does seen ∷ more) = begun site number (Does seen ∷ more)
 

@@ -3,7 +3,7 @@ ghost use Rattle.std.specs.Prelude.{◌≡◌, IfOk, option_map};
 ghost use Rattle.sunspec.specs.Digits.{number_within};
 ghost use Rattle.office_script.specs.Words.{bytes_of, texts};
 ghost use Rattle.office_script.specs.Commands as commands;
-ghost use Rattle.office_script.specs.Commands.{ask_of, byte_limit, event_of, event_of_words, frame_in, list_with, open_of, point_of, read_of, reply_of, word_limit};
+ghost use Rattle.office_script.specs.Commands.{ask_of, byte_limit, event_for, event_of, event_of_words, frame_in, list_with, open_of, point_of, read_of, reply_of, verb_of, word_limit};
 
 use crate::cutting::words;
 use crate::whole_frame::whole_frame;
@@ -129,6 +129,39 @@ fn reply(alloc: Global, words: &[&[u8]]) -> Result<Option<Event>, AllocError>
     }
 }
 
+/// What a line asks for by words.
+#[derive(Clone, Copy)]
+enum Verb {
+    Open,
+    Ask,
+    Reply,
+}
+
+fn verb_named(name: &[u8]) -> Option<Verb>
+    ensures { result ≡ verb_of name.now }
+{
+    if name == b"open".as_slice() {
+        Some(Verb::Open)
+    } else if name == b"ask".as_slice() {
+        Some(Verb::Ask)
+    } else if name == b"reply".as_slice() {
+        Some(Verb::Reply)
+    } else {
+        None
+    }
+}
+
+/// The event that a verb and the words behind it ask for.
+fn event_for(alloc: Global, verb: Verb, words: &[&[u8]]) -> Result<Option<Event>, AllocError>
+    ensures { IfOk result (λ event. event ≡ event_for verb (texts words.now)) }
+{
+    match verb {
+        Verb::Open => open(alloc, words),
+        Verb::Ask => ask(alloc, words),
+        Verb::Reply => reply(alloc, words),
+    }
+}
+
 /// The event that words ask for, of which the first names it.
 fn event_of_words(alloc: Global, words: &[&[u8]]) -> Result<Option<Event>, AllocError>
     ensures { IfOk result (λ event. event ≡ event_of_words (texts words.now)) }
@@ -136,14 +169,9 @@ fn event_of_words(alloc: Global, words: &[&[u8]]) -> Result<Option<Event>, Alloc
     let Some((name, rest)) = words.split_first() else {
         return Ok(None);
     };
-    if *name == b"open".as_slice() {
-        open(alloc, rest)
-    } else if *name == b"ask".as_slice() {
-        ask(alloc, rest)
-    } else if *name == b"reply".as_slice() {
-        reply(alloc, rest)
-    } else {
-        Ok(None)
+    match verb_named(name) {
+        Some(verb) => event_for(alloc, verb, rest),
+        None => Ok(None),
     }
 }
 

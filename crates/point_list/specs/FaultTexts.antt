@@ -1,6 +1,5 @@
 -- The texts of faults.
-use Rattle.std.specs.Prelude.{ℕ, List, codes, decimal, ◌++◌}
-use Rattle.point_list.specs.declared.error.ListError.{ListError}
+use Rattle.std.specs.Prelude.{ℕ, List, codes}
 use Rattle.point_list.specs.declared.error.ListFault.{ListFault}
 use Rattle.point_list.specs.declared.error.ListFault.TheVariants.{BadCsv, BadHeader, BadName, UnknownDevice, BadTable, BadAddress, BadType, LeftOutType, BadLength, BadScale, BadRole, BadRoll, Twice, TooManyPoints, Memory, BadSite}
 
@@ -21,7 +20,3 @@ fault_text Twice = codes "twice"
 fault_text TooManyPoints = codes "too many points"
 fault_text Memory = codes "memory"
 fault_text BadSite = codes "bad site"
-
--- a fault with its place
-abbrev pub error_text : ListError → List ℕ
-error_text e = fault_text e.fault ++ codes " row " ++ decimal e.row ++ codes " column " ++ decimal e.column

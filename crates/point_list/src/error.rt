@@ -1,8 +1,8 @@
 ghost use Rattle.std.specs.Prelude.{◌≡◌};
 ghost use Rattle.point_list.specs.declared.error.ListFault.TheVariants.{Memory};
 
-use std::error::Error;
 use std::fmt;
+use thiserror::Error;
 
 /// What is wrong with a point list or a site file.
 #[derive(Clone, Copy, Debug, PartialEq, Eq)]
@@ -71,7 +71,8 @@ impl fmt::Display for ListFault {
 
 /// A fault with its place: the number of the record, of which the header is 1, and the column 1 to
 /// 9, or 0 where no column is at fault. A fault of a site file, and `Memory`, have row and column 0.
-#[derive(Clone, Copy, Debug, PartialEq, Eq)]
+#[derive(Clone, Copy, Debug, PartialEq, Eq, Error)]
+#[error("{fault} row {row} column {column}")]
 pub struct ListError {
     pub fault: ListFault,
     pub row: u32,
@@ -98,19 +99,3 @@ impl ListError {
         ListError::of_whole(ListFault::Memory)
     }
 }
-
-impl fmt::Display for ListError {
-    ghost use Rattle.std.specs.Prelude.{Some};
-    ghost use Rattle.point_list.specs.FaultTexts.{error_text};
-
-    ghost output = { λ e. Some (error_text e) };
-
-    fn fmt<W: fmt::Write>(&self, f: &mut fmt::Formatter<W>) -> fmt::Result {
-        let fault = self.fault;
-        let row = self.row;
-        let column = self.column;
-        write!(f, "{fault} row {row} column {column}")
-    }
-}
-
-impl Error for ListError {}

@@ -1,10 +1,10 @@
-use Rattle.std.proofs.Common.{arith, length, rules, sym, subst, ◌∙◌, ◌≡◌, ◌++◌, ◌+◌, append_assoc}
+use Rattle.std.proofs.Common.{ap, arith, length, rules, sym, subst, ◌∙◌, ◌≡◌, ◌++◌, ◌+◌, append_assoc}
 use Rattle.std.specs.Prelude.{IfOk}
 use Rattle.std.specs.Io.KnownBytes.{Appends}
 use Rattle.mb_mbap.specs.Counted.{inner_of}
 use Rattle.office_core.specs.History.{tables}
 use Rattle.office_script.specs.Printing.{report_of}
-use Rattle.office_script.specs.Scripts.{steps_of, from_line}
+use Rattle.office_script.specs.Scripts.{Course, steps_of, from_line}
 use Rattle.office_script.specs.Playing.{Follows}
 use Rattle.office_script.specs.declared.player.Played.TheVariants.{On, Faulty}
 use Rattle.office_script.proofs.Acted.{on_ok}
@@ -64,7 +64,7 @@ returns-clause-output g c = λ before stood.
     let empty : length c.loop-rest.rest.now ≡ 0 = search rules in
     let last = report_owed (Follows c.loop-rest.office) (was.0 ++ out) c.loop-rest.rest.now c.loop-rest.number (from_line before c.args.first steps) empty was.2 in
     on_ok c.write_report.result
-    (whole_written (g.W.Write.contents (inner_of c.args.writer.now)) (g.W.Write.contents (inner_of c.loop-rest.writer)) (g.W.Write.contents (inner_of c.write_report.new.writer)) was.0 (out ++ report_of (tables last.0)) (printed before c.args.first steps)
+    (whole_written (g.W.Write.contents (inner_of c.args.writer.now)) (g.W.Write.contents (inner_of c.loop-rest.writer)) (g.W.Write.contents (inner_of c.write_report.new.writer)) was.0 (out ++ report_of (tables last.0)) (from_line before c.args.first steps).text
     (sym (append_assoc was.0 out (report_of (tables last.0))) ∙ last.2) was.1)
     (c.write_report.ensures.output last.0 last.1)
 
@@ -80,3 +80,11 @@ returns-clause-memory g c = λ before stood memory.
       sym (append_assoc was.0 out (report_of (tables last.0))) ∙ last.2,
       subst (λ w. Appends (g.W.Write.contents (inner_of c.args.writer.now)) (g.W.Write.contents (inner_of w)) was.0) (sym (c.write_report.ensures.nothing_written memory)) was.1,
     )
+
+pub returns-in_err-play_line-clause-memory : goal.returns-in_err-play_line-clause-memory
+returns-in_err-play_line-clause-memory g c = λ before stood memory.
+    let out = c.loop-rest.out.items in
+    let was = c.loop-rest.invariant.owed before stood in
+    let (now, stands, owed) = was.2 in
+    let last = (from_line now c.loop-rest.number (steps_of c.loop-rest.rest.now)).text in
+    (was.0, out ++ last, sym (append_assoc was.0 out last) ∙ ap (λ (course : Course). course.text) owed, was.1)
