@@ -1,15 +1,14 @@
 //! What is shown of endings.
-use crate::asserting::assert_told;
 use office_script::{ReplayFault, Replayed};
 use std::alloc::{AllocError, Global};
 use std::fmt::Display;
 use std::test::Fail;
 
-/// What a value is shown as, asked for once more where memory was refused.
-fn text_of<T: Display>(alloc: Global, shown: &T) -> Result<String, AllocError> {
+/// Whether a value is shown so, asked for once more where memory was refused.
+fn is_shown<T: Display>(alloc: Global, shown: &T, text: &str) -> Result<bool, AllocError> {
     match shown.to_string(alloc) {
-        Ok(text) => Ok(text),
-        Err(_) => shown.to_string(alloc),
+        Ok(told) => Ok(told.as_str() == text),
+        Err(_) => Ok(shown.to_string(alloc)?.as_str() == text),
     }
 }
 
@@ -19,14 +18,19 @@ fn endings_are_shown(rt: HostRuntime) -> Result<(), Fail> {
         (Replayed::Done, "done"),
         (Replayed::FaultLine(3), "fault line 3"),
     ] {
-        assert_told(&rt, &ending, &text_of(rt.alloc(), &ending)?.as_str(), &text);
+        assert!(rt; is_shown(rt.alloc(), &ending, text)?, "{text}");
     }
+    Ok(())
+}
+
+#[test]
+fn faults_are_shown(rt: HostRuntime) -> Result<(), Fail> {
     for (fault, text) in [
         (ReplayFault::Read, "file"),
         (ReplayFault::Write, "file"),
         (ReplayFault::Memory, "memory"),
     ] {
-        assert_told(&rt, &fault, &text_of(rt.alloc(), &fault)?.as_str(), &text);
+        assert!(rt; is_shown(rt.alloc(), &fault, text)?, "{text}");
     }
     Ok(())
 }

@@ -1,8 +1,7 @@
 //! Readers and writers that give and take little at a time, and that fail.
 ghost use Rattle.std.specs.Prelude.{Some};
 
-use crate::asserting::assert_told;
-use crate::playing::{COUNTER, COUNTER_TEXT, Run, shown};
+use crate::playing::{COUNTER, COUNTER_TEXT, Run};
 use mb_mbap::Counted;
 use office_script::{ReplayFault, Replayed, replay};
 use std::alloc::{AllocError, Global};
@@ -91,8 +90,10 @@ fn read_out(alloc: Global, left: u32) -> Result<(Run, u64), AllocError> {
     }
 }
 
-/// How a script ended of which some reads failed, how many, and what was written.
-type Ended<'a> = (Result<Replayed, ReplayFault>, u64, &'a str);
+/// Whether a script ended so with this text.
+fn ended_so(run: &Run, ended: Result<Replayed, ReplayFault>, text: &str) -> bool {
+    run.ended == ended && run.text.as_slice() == text.as_bytes()
+}
 
 #[test]
 fn each_read_fails_once(rt: HostRuntime) -> Result<(), Fail> {
@@ -100,13 +101,12 @@ fn each_read_fails_once(rt: HostRuntime) -> Result<(), Fail> {
     let calls = calls_for(COUNTER.len()).saturating_add(1);
     for left in 0..=calls {
         let (run, failures) = read_out(rt.alloc(), left)?;
-        let told: Ended = (run.ended, failures, shown(&run.text));
-        let wanted: Ended = if left < calls {
-            (Err(ReplayFault::Read), 1, "")
+        let is_right = if left < calls {
+            failures == 1 && ended_so(&run, Err(ReplayFault::Read), "")
         } else {
-            (Ok(Replayed::Done), 0, COUNTER_TEXT)
+            failures == 0 && ended_so(&run, Ok(Replayed::Done), COUNTER_TEXT)
         };
-        assert_told(&rt, &left, &told, &wanted);
+        assert!(rt; is_right, "{left} reads: {run:?}");
     }
     Ok(())
 }
@@ -152,7 +152,7 @@ fn is_cut(run: &Run, failures: u64, text: &str, taken: usize) -> bool {
 
 /// Whether a script was written whole.
 fn is_whole(run: &Run, failures: u64, text: &str) -> bool {
-    run.ended == Ok(Replayed::Done) && failures == 0 && run.text.as_slice() == text.as_bytes()
+    failures == 0 && ended_so(run, Ok(Replayed::Done), text)
 }
 
 #[test]
@@ -256,16 +256,12 @@ fn long_played_out(alloc: Global, left: usize) -> Result<Run, AllocError> {
 
 #[test]
 fn scripts_of_the_greatest_length_and_a_byte_more(rt: HostRuntime) -> Result<(), Fail> {
-    let cases: [(usize, Ended); 2] = [
-        (
-            67_108_864,
-            (Ok(Replayed::FaultLine(2)), 0, "fault line 2\n"),
-        ),
-        (67_108_865, (Err(ReplayFault::Read), 0, "")),
-    ];
-    for (length, wanted) in cases {
+    for (length, ended, text) in [
+        (67_108_864, Ok(Replayed::FaultLine(2)), "fault line 2\n"),
+        (67_108_865, Err(ReplayFault::Read), ""),
+    ] {
         let run = long_played_out(rt.alloc(), length)?;
-        assert_told(&rt, &length, &(run.ended, 0, shown(&run.text)), &wanted);
+        assert!(rt; ended_so(&run, ended, text), "{length} bytes: {run:?}");
     }
     Ok(())
 }
