@@ -56,80 +56,87 @@ impl Write for TakesOne {
     }
 }
 
-/// Reads eight times, and gives how many bytes came, and how many ends and failures were counted.
-fn counted_reads(calls: u64) -> (u64, u64, u64) {
-    let mut reader = Counted::new(FailsAt {
-        bytes: b"abc",
-        left: calls,
-    });
+fn counted(bytes: &[u8], left: u64) -> Counted<FailsAt<'_>> {
+    Counted::new(FailsAt { bytes, left })
+}
+
+/// How many bytes a read gives; none where it fails.
+fn read(reader: &mut Counted<FailsAt<'_>>, room: &mut [u8]) -> u64 {
+    reader.read(room).unwrap_or(0) as u64
+}
+
+/// Whether so many bytes come in eight reads, and so many ends and failures are counted.
+fn are_counted(calls: u64, bytes: u64, ends: u64, failures: u64) -> bool {
+    let mut reader = counted(b"abc", calls);
     let mut room = [0u8; 8];
     let mut got = 0u64;
     for _ in 0..8 {
-        got = got.saturating_add(reader.read(&mut room).unwrap_or(0) as u64);
+        got = got.saturating_add(read(&mut reader, &mut room));
     }
-    (got, reader.ends(), reader.failures())
+    got == bytes && reader.ends() == ends && reader.failures() == failures
 }
 
 #[test]
 fn reads_are_counted(rt: HostRuntime) {
-    for calls in 0..6u64 {
-        let expected = (
-            calls.min(3),
-            calls.saturating_sub(3),
-            8u64.saturating_sub(calls),
-        );
-        assert_told(&rt, &calls, &counted_reads(calls), &expected);
+    for (calls, bytes, ends, failures) in [
+        (0, 0, 0, 8),
+        (1, 1, 0, 7),
+        (2, 2, 0, 6),
+        (3, 3, 0, 5),
+        (4, 3, 1, 4),
+        (5, 3, 2, 3),
+    ] {
+        assert!(rt; are_counted(calls, bytes, ends, failures), "{calls}");
     }
 }
 
 #[test]
 fn an_empty_room_is_no_end(rt: HostRuntime) {
-    let mut reader = Counted::new(FailsAt {
-        bytes: b"abc",
-        left: 9,
-    });
-    let count = reader.read(&mut []).ok();
-    assert_eq!(rt; (count, reader.ends()), (Some(0), 0));
+    let mut reader = counted(b"abc", 9);
+    assert_told(&rt, &"read", &reader.read(&mut []).ok(), &Some(0));
+    assert_told(&rt, &"ends", &reader.ends(), &0);
 }
 
-/// Whether so many whole rooms of three bytes could be read, and what was counted by then.
-fn whole_reads(times: u64) -> (bool, u64, u64) {
-    let mut reader = Counted::new(FailsAt {
-        bytes: b"abcd",
-        left: 9,
-    });
-    let mut room = [0u8; 3];
-    let mut is_read = true;
-    for _ in 0..times {
-        is_read = reader.read_exact(&mut room).is_ok() && room.as_slice() == b"abc".as_slice();
-    }
-    (is_read, reader.failures(), reader.ends())
+/// Whether a whole room of three bytes could be read, and holds these.
+fn is_read(reader: &mut Counted<FailsAt<'_>>, room: &mut [u8; 3]) -> bool {
+    reader.read_exact(room).is_ok() && *room == *b"abc"
 }
 
+/// An end inside a whole read is a failure, and no end.
 #[test]
 fn whole_reads_are_counted(rt: HostRuntime) {
-    // An end inside a whole read is a failure, and no end.
-    for (times, expected) in [(1u64, (true, 0, 0)), (2, (false, 1, 0))] {
-        assert_told(&rt, &times, &whole_reads(times), &expected);
+    let mut reader = counted(b"abcd", 9);
+    for failures in [0u64, 1] {
+        let is_whole = is_read(&mut reader, &mut [0; 3]);
+        assert_told(&rt, &"whole", &is_whole, &(failures == 0));
+        assert_told(&rt, &"failures", &reader.failures(), &failures);
+        assert_told(&rt, &"ends", &reader.ends(), &0);
     }
 }
 
-fn written(writer: &mut Counted<TakesOne>, bytes: &[u8]) -> bool {
+fn is_written(writer: &mut Counted<TakesOne>, bytes: &[u8]) -> bool {
     writer.write_all(bytes).is_ok()
 }
 
-fn flushed(writer: &mut Counted<TakesOne>) -> bool {
+fn is_flushed(writer: &mut Counted<TakesOne>) -> bool {
     writer.flush().is_ok()
+}
+
+fn count_written(writer: &mut Counted<TakesOne>, bytes: &[u8]) -> Option<usize> {
+    writer.write(bytes).ok()
 }
 
 #[test]
 fn writes_are_counted(rt: HostRuntime) {
     let mut writer = Counted::new(TakesOne { taken: 0, left: 4 });
-    assert_eq!(rt; writer.write(b"ab").ok(), Some(1));
-    assert!(rt; written(&mut writer, b"cd") && flushed(&mut writer));
-    assert_eq!(rt; (writer.failures(), writer.ends()), (0, 0));
-    assert!(rt; !written(&mut writer, b"ef") && !flushed(&mut writer));
-    assert_eq!(rt; writer.write(b"g").ok(), None);
-    assert_eq!(rt; (writer.failures(), writer.ends()), (3, 0));
-    assert_eq!(rt; writer.into_inner().taken, 4);
+    assert_told(&rt, &"ab", &count_written(&mut writer, b"ab"), &Some(1));
+    let told = [is_written(&mut writer, b"cd"), is_flushed(&mut writer)];
+    assert_told(&rt, &"cd", &told, &[true, true]);
+    assert_told(&rt, &"failures", &writer.failures(), &0);
+    let told = [is_written(&mut writer, b"ef"), is_flushed(&mut writer)];
+    assert_told(&rt, &"ef", &told, &[false, false]);
+    assert_told(&rt, &"g", &count_written(&mut writer, b"g"), &None);
+    assert_told(&rt, &"failures", &writer.failures(), &3);
+    assert_told(&rt, &"ends", &writer.ends(), &0);
+    assert_told(&rt, &"taken", &writer.into_inner().taken, &4);
 }

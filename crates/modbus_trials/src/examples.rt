@@ -1,6 +1,6 @@
 //! The examples of the Modbus Application Protocol V1.1b3, sections 6.1 to 6.17.
-use mb_pdu::{Bits, Registers, Reply, Request, Span, Unit, UnitError, laws};
-use std::process::Abort;
+use crate::asserting::assert_told;
+use mb_pdu::{Reply, Request, Span, UnitError, laws};
 use std::test::Fail;
 
 /// Each function's request and its normal reply, as the standard spells them.
@@ -60,77 +60,105 @@ pub(crate) fn reply_of(request: &Request, bytes: &[u8]) -> Result<Reply, UnitErr
     Reply::decode(request, bytes)
 }
 
-/// The spelling of the request that the bytes spell.
-pub(crate) fn request_again(bytes: &[u8]) -> Result<Unit, UnitError> {
-    Ok(Request::decode(bytes)?.encode())
+fn is_spelled(request: &Request, bytes: &[u8]) -> bool {
+    request.is_valid() && request.encode().as_bytes() == bytes
 }
 
-/// The spelling of the reply that the bytes spell.
-pub(crate) fn reply_again(request: &Request, bytes: &[u8]) -> Result<Unit, UnitError> {
-    Ok(Reply::decode(request, bytes)?.encode(request))
+fn is_reply_spelled(request: &Request, reply: &Reply, bytes: &[u8]) -> bool {
+    reply.fits(request) && reply.encode(request).as_bytes() == bytes
 }
 
-/// A request, its normal reply and its exceptions are read and spelled the same.
-fn assert_both_ways(rt: &impl Abort, asked: &[u8], answered: &[u8]) -> Result<(), UnitError> {
-    assert_eq!(rt; request_again(asked)?.as_bytes(), asked);
-    let request = request_of(asked)?;
-    assert_eq!(rt; reply_again(&request, answered)?.as_bytes(), answered);
-    let function = asked.first().copied().unwrap_or(0);
-    for code in [1u8, 2, 3, 4, 11, 0, 255] {
-        let bytes = [function | 0x80, code];
-        assert_eq!(rt; reply_of(&request, &bytes), Ok(Reply::Excepted(code)));
-        assert_eq!(rt; reply_again(&request, &bytes)?.as_bytes(), bytes.as_slice());
+/// Whether the bytes spell a request that is spelled so again.
+pub(crate) fn is_request_again(bytes: &[u8]) -> bool {
+    match request_of(bytes) {
+        Ok(request) => is_spelled(&request, bytes),
+        Err(_) => false,
     }
-    Ok(())
+}
+
+/// Whether the bytes spell a reply that is spelled so again.
+pub(crate) fn is_reply_again(request: &Request, bytes: &[u8]) -> bool {
+    match reply_of(request, bytes) {
+        Ok(reply) => is_reply_spelled(request, &reply, bytes),
+        Err(_) => false,
+    }
+}
+
+/// Whether the bytes spell the exception of this code, and it is spelled so again.
+fn is_exception_again(request: &Request, function: u8, code: u8) -> bool {
+    let bytes = [function | 0x80, code];
+    reply_of(request, &bytes) == Ok(Reply::Excepted(code)) && is_reply_again(request, &bytes)
+}
+
+/// Whether a request, its normal reply and its exceptions are read and spelled the same.
+fn are_both_ways(asked: &[u8], answered: &[u8]) -> bool {
+    let Ok(request) = request_of(asked) else {
+        return false;
+    };
+    let function = asked.first().copied().unwrap_or(0);
+    let mut are_again = is_request_again(asked) && is_reply_again(&request, answered);
+    for code in [1u8, 2, 3, 4, 11, 0, 255] {
+        are_again = are_again && is_exception_again(&request, function, code);
+    }
+    are_again
 }
 
 #[test]
-fn both_ways(rt: HostRuntime) -> Result<(), Fail> {
+fn both_ways(rt: HostRuntime) {
     for (asked, answered) in EXAMPLES {
-        assert_both_ways(&rt, asked, answered)?;
+        assert!(rt; are_both_ways(asked, answered), "{asked:?}");
     }
-    Ok(())
 }
 
 pub(crate) fn is_refused(request: &Request, bytes: &[u8]) -> bool {
     reply_of(request, bytes) == Err(UnitError::WrongReply)
 }
 
-/// No bytes, a reply cut short, and the exception of another function are no replies.
-fn assert_no_reply(rt: &impl Abort, asked: &[u8], answered: &[u8]) -> Result<(), UnitError> {
-    let request = request_of(asked)?;
+/// Whether no bytes, a reply cut short, and the exception of another function are no replies.
+fn are_refused(asked: &[u8], answered: &[u8]) -> bool {
+    let Ok(request) = request_of(asked) else {
+        return false;
+    };
     let function = asked.first().copied().unwrap_or(0);
-    assert!(rt; is_refused(&request, b""));
-    assert!(rt; is_refused(&request, &answered[..answered.len().saturating_sub(1)]));
-    assert!(rt; is_refused(&request, &[function ^ 0x81, 2]));
-    Ok(())
+    let short = &answered[..answered.len().saturating_sub(1)];
+    is_refused(&request, b"")
+        && is_refused(&request, short)
+        && is_refused(&request, &[function ^ 0x81, 2])
 }
 
 #[test]
-fn no_reply_to_another_request(rt: HostRuntime) -> Result<(), Fail> {
+fn no_reply_to_another_request(rt: HostRuntime) {
     for (asked, answered) in EXAMPLES {
-        assert_no_reply(&rt, asked, answered)?;
+        assert!(rt; are_refused(asked, answered), "{asked:?}");
     }
-    Ok(())
 }
 
-/// The first bits of a reply.
-fn bits_of(request: &Request, bytes: &[u8]) -> Result<[bool; 8], UnitError> {
-    let mut first = [false; 8];
-    if let Reply::Bits(bits) = reply_of(request, bytes)? {
-        for (coil, bit) in first.iter_mut().zip(bits.as_slice()) {
-            *coil = *bit;
-        }
+/// The bits of a reply, if it has bits.
+fn are_bits(request: &Request, bytes: &[u8], expected: &[bool]) -> bool {
+    match reply_of(request, bytes) {
+        Ok(Reply::Bits(bits)) => bits.as_slice() == expected,
+        _ => false,
     }
-    Ok(first)
+}
+
+fn are_registers(request: &Request, bytes: &[u8], expected: &[u16]) -> bool {
+    match reply_of(request, bytes) {
+        Ok(Reply::Registers(words)) => words.as_slice() == expected,
+        _ => false,
+    }
 }
 
 /// The coils 20 to 38: CD is 1100 1101, the coils 27 to 20.
+const COILS: &[bool] = &[
+    true, false, true, true, false, false, true, true, // 27 to 20
+    true, true, false, true, false, true, true, false, // 35 to 28
+    true, false, true,
+];
+
 #[test]
 fn coils_of_the_standard(rt: HostRuntime) -> Result<(), Fail> {
     let request = request_of(&[1, 0, 0x13, 0, 0x13])?;
-    let coils = [true, false, true, true, false, false, true, true];
-    assert_eq!(rt; bits_of(&request, &[1, 3, 0xCD, 0x6B, 5])?, coils);
+    assert!(rt; are_bits(&request, &[1, 3, 0xCD, 0x6B, 5], COILS));
     Ok(())
 }
 
@@ -141,10 +169,9 @@ fn registers_of_the_standard(rt: HostRuntime) -> Result<(), Fail> {
         start: 107,
         quantity: 3,
     };
-    assert_eq!(rt; request, Request::ReadHolding(span));
-    let words = Registers::from_slice(&[555, 0, 100]).ok_or("three words")?;
-    let reply = reply_of(&request, &[3, 6, 2, 0x2B, 0, 0, 0, 0x64]);
-    assert_eq!(rt; reply, Ok(Reply::Registers(words)));
+    assert_told(&rt, &"asked", &request, &Request::ReadHolding(span));
+    let reply = [3, 6, 2, 0x2B, 0, 0, 0, 0x64];
+    assert!(rt; are_registers(&request, &reply, &[555, 0, 100]));
     Ok(())
 }
 
@@ -154,22 +181,25 @@ fn a_coil_of_the_standard(rt: HostRuntime) {
         address: 172,
         on: true,
     };
-    assert_eq!(rt; request_of(&[5, 0, 0xAC, 0xFF, 0]), Ok(written));
+    let told = request_of(&[5, 0, 0xAC, 0xFF, 0]);
+    assert_told(&rt, &"asked", &told, &Ok(written));
 }
 
 #[test]
-fn coil_spelling(rt: HostRuntime) -> Result<(), Fail> {
+fn coil_spelling(rt: HostRuntime) {
     let request = Request::ReadCoils(Span {
         start: 0,
         quantity: 3,
     });
-    let bits = Bits::from_slice(&[true, false, true]).ok_or("three bits")?;
-    assert_eq!(rt; reply_of(&request, &[1, 1, 5]), Ok(Reply::Bits(bits)));
+    assert!(rt; are_bits(&request, &[1, 1, 5], &[true, false, true]));
     for wrong in [[1u8, 1, 0x0D].as_slice(), &[1, 2, 5, 0], &[1, 1]] {
         assert!(rt; is_refused(&request, wrong), "{wrong:?}");
     }
+}
+
+#[test]
+fn laws_are_called(_rt: HostRuntime) {
     laws::one_value();
     laws::one_spelling();
     laws::answers_tells();
-    Ok(())
 }

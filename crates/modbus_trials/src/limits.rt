@@ -1,5 +1,6 @@
 //! The smallest and the largest unit of each function, one past each limit, and each refusal.
-use crate::examples::{is_refused, reply_again, reply_of, request_again, request_of};
+use crate::asserting::assert_told;
+use crate::examples::{is_refused, is_reply_again, is_request_again, reply_of, request_of};
 use mb_pdu::{Bits, Registers, Reply, Request, Span, Unit, UnitError};
 use std::alloc::{AllocError, Global};
 use std::process::Abort;
@@ -37,16 +38,22 @@ fn read_of(function: u8, quantity: u16) -> Request {
     }
 }
 
+fn is_valid(request: &Request) -> bool {
+    request.is_valid()
+}
+
+/// Asserts that the read is valid and is what its bytes spell, or that they are refused for it.
 fn assert_read(rt: &impl Abort, function: u8, quantity: u16, fits: bool) {
     let [high, low] = quantity.to_be_bytes();
-    let decoded = request_of(&[function, 0xFF, 0xFF, high, low]);
+    let told = request_of(&[function, 0xFF, 0xFF, high, low]);
     let request = read_of(function, quantity);
-    assert_eq!(rt; request.is_valid(), fits, "{request:?}");
-    if fits {
-        assert_eq!(rt; decoded, Ok(request));
+    assert_told(rt, &quantity, &is_valid(&request), &fits);
+    let expected = if fits {
+        Ok(request)
     } else {
-        assert_eq!(rt; decoded, Err(UnitError::BadQuantity));
-    }
+        Err(UnitError::BadQuantity)
+    };
+    assert_told(rt, &function, &told, &expected);
 }
 
 #[test]
@@ -60,11 +67,17 @@ fn quantities_of_reads(rt: HostRuntime) {
     }
 }
 
-/// Asserts that the bytes are a valid request which is spelled so, or are refused for a quantity.
-fn assert_quantity(rt: &impl Abort, bytes: &[u8], fits: bool) {
-    match request_again(bytes) {
-        Ok(unit) => assert!(rt; fits && unit.as_bytes() == bytes, "{bytes:?}"),
-        Err(fault) => assert_eq!(rt; (fault, fits), (UnitError::BadQuantity, false), "{bytes:?}"),
+/// Whether the bytes are refused for a quantity.
+fn is_past_limits(bytes: &[u8]) -> bool {
+    request_of(bytes) == Err(UnitError::BadQuantity)
+}
+
+/// Whether the bytes are a valid request which is spelled so, or are refused for a quantity.
+fn is_judged(bytes: &[u8], fits: bool) -> bool {
+    if fits {
+        is_request_again(bytes)
+    } else {
+        is_past_limits(bytes)
     }
 }
 
@@ -91,111 +104,142 @@ const WRITES: &[(&[u8], usize, bool)] = &[
 fn quantities_of_writes(rt: HostRuntime) -> Result<(), Fail> {
     for (front, zeros, fits) in WRITES {
         let bytes = unit_of(rt.alloc(), front, *zeros)?;
-        assert_quantity(&rt, &bytes, *fits);
+        assert!(rt; is_judged(&bytes, *fits), "{bytes:?}");
     }
     Ok(())
+}
+
+/// Whether a write of a whole unit is answered by its first bytes.
+fn is_echoed(alloc: Global, front: &[u8; 6]) -> Result<bool, Fail> {
+    let bytes = unit_of(alloc, front, front[5] as usize)?;
+    let request = request_of(&bytes)?;
+    Ok(reply_of(&request, &front[..5]) == Ok(Reply::Written))
 }
 
 /// The echo of a write of so many coils or registers.
 #[test]
 fn echoes_of_writes(rt: HostRuntime) -> Result<(), Fail> {
-    let fronts = [
+    for front in [
         [15u8, 0, 0, 0, 1, 1],
         [15, 0, 0, 0x07, 0xB0, 246],
         [16, 0, 0, 0, 1, 2],
         [16, 0, 0, 0, 123, 246],
-    ];
-    for front in fronts {
-        let bytes = unit_of(rt.alloc(), &front, front[5] as usize)?;
-        let request = request_of(&bytes)?;
-        assert_eq!(rt; reply_of(&request, &front[..5]), Ok(Reply::Written));
+    ] {
+        assert!(rt; is_echoed(rt.alloc(), &front)?, "{front:?}");
     }
     Ok(())
 }
 
 #[test]
 fn largest_replies(rt: HostRuntime) -> Result<(), Fail> {
-    let bits = unit_of(rt.alloc(), &[2, 250], 250)?;
-    let again = reply_again(&Request::ReadDiscrete(span(2000)), &bits)?;
-    assert_eq!(rt; again.as_bytes(), bits.as_slice());
-    let words = unit_of(rt.alloc(), &[4, 250], 250)?;
-    let again = reply_again(&Request::ReadInput(span(125)), &words)?;
-    assert_eq!(rt; again.as_bytes(), words.as_slice());
-    // The quantity is the request's: one register more or fewer is no reply.
-    for quantity in [124u16, 126] {
-        assert!(rt; is_refused(&Request::ReadInput(span(quantity)), &words));
+    for (function, quantity) in [(2u8, 2000u16), (4, 125)] {
+        let bytes = unit_of(rt.alloc(), &[function, 250], 250)?;
+        let request = read_of(function, quantity);
+        assert!(rt; is_reply_again(&request, &bytes), "{function}");
     }
     Ok(())
+}
+
+/// The quantity is the request's: one register more or fewer is no reply.
+#[test]
+fn replies_to_other_quantities(rt: HostRuntime) -> Result<(), Fail> {
+    let words = unit_of(rt.alloc(), &[4, 250], 250)?;
+    for quantity in [124u16, 126] {
+        assert!(rt; is_refused(&read_of(4, quantity), &words), "{quantity}");
+    }
+    Ok(())
+}
+
+fn fits(reply: &Reply, request: &Request) -> bool {
+    reply.fits(request)
 }
 
 #[test]
 fn replies_that_fit(rt: HostRuntime) -> Result<(), Fail> {
     let words = Registers::from_slice(&[0; 125]).ok_or("125 words")?;
     let reply = Reply::Registers(words);
-    for (quantity, fits) in [(124, false), (125, true), (126, false)] {
-        let request = Request::ReadInput(span(quantity));
-        assert_eq!(rt; reply.fits(&request), fits);
-        assert!(rt; Reply::Excepted(6).fits(&request) && !Reply::Written.fits(&request));
+    for (quantity, is_fit) in [(124, false), (125, true), (126, false)] {
+        let told = fits(&reply, &read_of(4, quantity));
+        assert_told(&rt, &quantity, &told, &is_fit);
     }
     Ok(())
 }
 
 #[test]
+fn exceptions_fit(rt: HostRuntime) {
+    for quantity in [124, 125, 126] {
+        let request = read_of(4, quantity);
+        let told = fits(&Reply::Excepted(6), &request) && !fits(&Reply::Written, &request);
+        assert_told(&rt, &quantity, &told, &true);
+    }
+}
+
+/// Units that are no requests, and the first check that fails.
+const REFUSALS: &[(&[u8], UnitError)] = &[
+    (&[], UnitError::Empty),
+    (&[7], UnitError::UnknownFunction(7)),
+    (&[0x83, 2], UnitError::UnknownFunction(0x83)),
+    (&[0], UnitError::UnknownFunction(0)),
+    (&[3], UnitError::BadLength),
+    (&[3, 0, 0, 0], UnitError::BadLength),
+    (&[3, 0, 0, 0, 0, 0], UnitError::BadLength),
+    (&[3, 0, 0, 0, 0], UnitError::BadQuantity),
+    (&[5, 0, 0, 0, 1], UnitError::BadValue),
+    (&[5, 0, 0, 0xFF, 1], UnitError::BadValue),
+    (&[5, 0, 0, 0xFF], UnitError::BadLength),
+    (&[6, 0, 0, 0, 0, 0], UnitError::BadLength),
+    (&[22, 0, 0, 0, 0, 0], UnitError::BadLength),
+    (&[15, 0, 0, 0, 0], UnitError::BadLength),
+    (&[15, 0, 0, 0, 0, 9], UnitError::BadQuantity),
+    (&[15, 0, 0, 0, 3, 2, 5], UnitError::BadByteCount),
+    (&[15, 0, 0, 0, 3, 1], UnitError::BadLength),
+    (&[15, 0, 0, 0, 3, 1, 0x0D], UnitError::BadValue),
+    (&[16, 0, 0, 0, 1, 2, 0], UnitError::BadLength),
+    (
+        &[23, 0, 0, 0, 1, 0, 0, 0, 1, 3, 0, 0],
+        UnitError::BadByteCount,
+    ),
+];
+
+#[test]
 fn refusals_in_their_order(rt: HostRuntime) {
-    let cases: [(&[u8], UnitError); 20] = [
-        (&[], UnitError::Empty),
-        (&[7], UnitError::UnknownFunction(7)),
-        (&[0x83, 2], UnitError::UnknownFunction(0x83)),
-        (&[0], UnitError::UnknownFunction(0)),
-        (&[3], UnitError::BadLength),
-        (&[3, 0, 0, 0], UnitError::BadLength),
-        (&[3, 0, 0, 0, 0, 0], UnitError::BadLength),
-        (&[3, 0, 0, 0, 0], UnitError::BadQuantity),
-        (&[5, 0, 0, 0, 1], UnitError::BadValue),
-        (&[5, 0, 0, 0xFF, 1], UnitError::BadValue),
-        (&[5, 0, 0, 0xFF], UnitError::BadLength),
-        (&[6, 0, 0, 0, 0, 0], UnitError::BadLength),
-        (&[22, 0, 0, 0, 0, 0], UnitError::BadLength),
-        (&[15, 0, 0, 0, 0], UnitError::BadLength),
-        (&[15, 0, 0, 0, 0, 9], UnitError::BadQuantity),
-        (&[15, 0, 0, 0, 3, 2, 5], UnitError::BadByteCount),
-        (&[15, 0, 0, 0, 3, 1], UnitError::BadLength),
-        (&[15, 0, 0, 0, 3, 1, 0x0D], UnitError::BadValue),
-        (&[16, 0, 0, 0, 1, 2, 0], UnitError::BadLength),
-        (
-            &[23, 0, 0, 0, 1, 0, 0, 0, 1, 3, 0, 0],
-            UnitError::BadByteCount,
-        ),
-    ];
-    for (bytes, fault) in cases {
-        assert_eq!(rt; request_of(bytes), Err(fault), "{bytes:?}");
+    for (bytes, fault) in REFUSALS {
+        assert_told(&rt, bytes, &request_of(bytes), &Err(*fault));
+    }
+}
+
+fn holds_unit(bytes: &[u8]) -> bool {
+    Unit::from_bytes(bytes).is_some_and(|unit| unit.as_bytes() == bytes)
+}
+
+fn holds_words(words: &[u16]) -> bool {
+    Registers::from_slice(words).is_some_and(|kept| kept.as_slice() == words)
+}
+
+fn holds_bits(bits: &[bool]) -> bool {
+    Bits::from_slice(bits).is_some_and(|kept| kept.as_slice() == bits)
+}
+
+#[test]
+fn units_hold_what_fits(rt: HostRuntime) {
+    let bytes = [7u8; 254];
+    for (length, fits) in [(0, false), (1, true), (253, true), (254, false)] {
+        assert_told(&rt, &length, &holds_unit(&bytes[..length]), &fits);
     }
 }
 
 #[test]
-fn arrays_hold_what_fits(rt: HostRuntime) {
-    let bytes = [7u8; 254];
-    for (length, fits) in [(0, false), (1, true), (253, true), (254, false)] {
-        let unit = Unit::from_bytes(&bytes[..length]);
-        assert_eq!(rt;
-            unit.is_some_and(|unit| unit.as_bytes() == &bytes[..length]),
-            fits
-        );
-    }
+fn registers_hold_what_fits(rt: HostRuntime) {
     let words = [7u16; 126];
     for (length, fits) in [(0, false), (1, true), (125, true), (126, false)] {
-        let kept = Registers::from_slice(&words[..length]);
-        assert_eq!(rt;
-            kept.is_some_and(|kept| kept.as_slice() == &words[..length]),
-            fits
-        );
+        assert_told(&rt, &length, &holds_words(&words[..length]), &fits);
     }
+}
+
+#[test]
+fn bits_hold_what_fits(rt: HostRuntime) {
     let bits = [true; 2001];
     for (length, fits) in [(0, false), (1, true), (2000, true), (2001, false)] {
-        let kept = Bits::from_slice(&bits[..length]);
-        assert_eq!(rt;
-            kept.is_some_and(|kept| kept.as_slice() == &bits[..length]),
-            fits
-        );
+        assert_told(&rt, &length, &holds_bits(&bits[..length]), &fits);
     }
 }

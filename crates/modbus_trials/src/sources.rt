@@ -1,6 +1,7 @@
 //! Frames out of readers that give one byte a call, and that fail.
 ghost use Rattle.std.specs.Prelude.{Some};
 
+use crate::asserting::assert_told;
 use crate::streams::{assert_numbered, feed, numbered};
 use mb_mbap::{Counted, FrameReader};
 use std::alloc::AllocError;
@@ -59,10 +60,11 @@ fn assert_frames(
         };
         read = read.saturating_add(count);
         let fed = feed(reader, &room[..count])?;
-        next = assert_numbered(rt, fed.frames.as_slice(), next);
-        assert_eq!(rt; (next as usize, fed.fault), (read / 9, None));
+        next = assert_numbered(rt, &fed.frames, next);
+        assert_told(rt, &"frames", &(next as usize), &(read / 9));
+        assert_told(rt, &"fault", &fed.fault, &None);
     }
-    assert_eq!(rt; next, 3);
+    assert_told(rt, &"frames", &next, &3);
     Ok(())
 }
 
@@ -78,8 +80,8 @@ fn each_call_failing_in_turn(rt: HostRuntime) -> Result<(), Fail> {
         let mut reader = FrameReader::new(rt.alloc());
         assert_frames(&rt, &mut source, &mut reader)?;
         let failures = if fails < 30 { 1 } else { 0 };
-        assert_eq!(rt; source.failures(), failures, "call {fails} fails");
-        assert_eq!(rt; source.ends(), 3 - failures, "call {fails} fails");
+        assert_told(&rt, &fails, &source.failures(), &failures);
+        assert_told(&rt, &fails, &source.ends(), &(3 - failures));
     }
     Ok(())
 }

@@ -1,4 +1,5 @@
 //! Frames as the Messaging Guide spells them, and streams cut anywhere.
+use crate::asserting::assert_told;
 use mb_mbap::{Fed, Frame, FrameFault, FrameReader};
 use mb_pdu::Unit;
 use std::alloc::{AllocError, Global};
@@ -27,46 +28,53 @@ pub(crate) fn feed(reader: &mut FrameReader, piece: &[u8]) -> Result<Fed, AllocE
     }
 }
 
-/// What the pieces give: how many frames, whether all of them are the reply, and the last fault.
-fn fed_with(
+/// Whether the frames are so many of the reply.
+fn are_replies(frames: &[Frame]) -> bool {
+    let wanted = reply_frame();
+    let mut are_equal = true;
+    for frame in frames {
+        are_equal = are_equal && wanted.as_ref() == Some(frame);
+    }
+    are_equal
+}
+
+/// Whether the pieces give so many frames, each of them the reply, and this fault at the last one.
+fn gives(
     alloc: Global,
     pieces: &[&[u8]],
-) -> Result<(usize, bool, Option<FrameFault>), AllocError> {
+    frames: usize,
+    fault: Option<FrameFault>,
+) -> Result<bool, AllocError> {
     let mut reader = FrameReader::new(alloc);
-    let wanted = reply_frame();
     let mut count = 0usize;
     let mut are_equal = true;
     let mut last = None;
     for piece in pieces {
         let fed = feed(&mut reader, piece)?;
         count = count.saturating_add(fed.frames.len());
-        are_equal = are_equal
-            && fed
-                .frames
-                .iter()
-                .all(|frame| wanted.as_ref() == Some(frame));
+        are_equal = are_equal && are_replies(&fed.frames);
         last = fed.fault;
     }
-    Ok((count, are_equal, last))
+    Ok(are_equal && count == frames && last == fault)
+}
+
+fn is_spelled(frame: &Frame, bytes: &[u8]) -> bool {
+    frame.encode().as_bytes() == bytes
 }
 
 #[test]
 fn a_frame_is_spelled_and_read(rt: HostRuntime) -> Result<(), Fail> {
     let frame = reply_frame().ok_or("a unit of eight bytes")?;
-    assert_eq!(rt; frame.encode().as_bytes(), REPLY.as_slice());
-    assert_eq!(rt; fed_with(rt.alloc(), &[&REPLY])?, (1, true, None));
+    assert!(rt; is_spelled(&frame, &REPLY));
+    assert!(rt; gives(rt.alloc(), &[&REPLY], 1, None)?);
     Ok(())
 }
 
-/// The reply in three pieces, cut at both places.
-fn fed_in_three(
-    alloc: Global,
-    first: usize,
-    second: usize,
-) -> Result<(usize, bool, Option<FrameFault>), AllocError> {
+/// Whether the reply is read in three pieces, cut at both places.
+fn is_read_in_three(alloc: Global, first: usize, second: usize) -> Result<bool, AllocError> {
     let (front, back) = REPLY.split_at(second.min(15));
     let (left, middle) = front.split_at(first.min(front.len()));
-    fed_with(alloc, &[left, middle, back])
+    gives(alloc, &[left, middle, back], 1, None)
 }
 
 #[test]
@@ -74,8 +82,8 @@ fn cut_in_two_and_in_three(rt: HostRuntime) -> Result<(), Fail> {
     for second in 0..=15 {
         // A first cut at the second one leaves two pieces and an empty one between them.
         for first in 0..=second {
-            let fed = fed_in_three(rt.alloc(), first, second)?;
-            assert_eq!(rt; fed, (1, true, None), "cut at {first} and {second}");
+            let is_read = is_read_in_three(rt.alloc(), first, second)?;
+            assert!(rt; is_read, "cut at {first} and {second}");
         }
     }
     Ok(())
@@ -100,7 +108,7 @@ fn twenty() -> [u8; 180] {
 pub(crate) fn assert_numbered(rt: &impl Abort, frames: &[Frame], first: u8) -> u8 {
     let mut next = first;
     for frame in frames {
-        assert_eq!(rt; frame.encode().as_bytes(), numbered(next).as_slice());
+        assert!(rt; is_spelled(frame, &numbered(next)), "{next}: {frame:?}");
         next = next.saturating_add(1);
     }
     next
@@ -110,9 +118,24 @@ pub(crate) fn assert_numbered(rt: &impl Abort, frames: &[Frame], first: u8) -> u
 fn frames_come_in_order(rt: HostRuntime) -> Result<(), Fail> {
     let mut reader = FrameReader::new(rt.alloc());
     let fed = feed(&mut reader, &twenty())?;
-    assert_eq!(rt; assert_numbered(&rt, fed.frames.as_slice(), 0), 20);
-    assert_eq!(rt; fed.fault, None);
+    assert_told(&rt, &"frames", &assert_numbered(&rt, &fed.frames, 0), &20);
+    assert_told(&rt, &"fault", &fed.fault, &None);
     Ok(())
+}
+
+/// Feeds a piece, and once more where memory was refused, of which it keeps count.
+fn feed_counting(
+    reader: &mut FrameReader,
+    piece: &[u8],
+    refusals: &mut u64,
+) -> Result<Fed, AllocError> {
+    match reader.feed(piece) {
+        Ok(fed) => Ok(fed),
+        Err(AllocError) => {
+            *refusals = refusals.saturating_add(1);
+            reader.feed(piece)
+        }
+    }
 }
 
 /// Where an allocation is refused the reader is as it was: the same piece, fed again, gives its
@@ -124,18 +147,23 @@ fn refused_memory_is_told(rt: HostRuntime) -> Result<(), Fail> {
     let mut refusals = 0u64;
     let mut next = 0;
     for (piece, after) in [(&stream[..4], 0), (&stream[4..86], 9), (&stream[86..], 20)] {
-        let fed = match reader.feed(piece) {
-            Ok(fed) => fed,
-            Err(AllocError) => {
-                refusals = refusals.saturating_add(1);
-                reader.feed(piece)?
-            }
-        };
-        next = assert_numbered(&rt, fed.frames.as_slice(), next);
-        assert_eq!(rt; (next, fed.fault), (after, None));
+        let fed = feed_counting(&mut reader, piece, &mut refusals)?;
+        next = assert_numbered(&rt, &fed.frames, next);
+        assert_told(&rt, &"frames", &next, &after);
+        assert_told(&rt, &"fault", &fed.fault, &None);
     }
     assert!(rt; refusals <= 1);
     Ok(())
+}
+
+/// Whether frames before the bad header still come, and none after it, however good it looks.
+fn ends_stream(alloc: Global, header: &[u8], fault: FrameFault) -> Result<bool, AllocError> {
+    Ok(
+        gives(alloc, &[header], 0, Some(fault))?
+            && gives(alloc, &[&REPLY, header], 1, Some(fault))?
+            && gives(alloc, &[header, &REPLY], 0, FAILED)?
+            && gives(alloc, &[header, b""], 0, FAILED)?,
+    )
 }
 
 #[test]
@@ -147,21 +175,8 @@ fn bad_headers_end_the_stream(rt: HostRuntime) -> Result<(), Fail> {
         (&[0, 0, 0, 1, 0, 6], FrameFault::NotModbus),
         (&[0, 0, 1, 0, 0, 1], FrameFault::NotModbus),
     ];
-    let good = REPLY.as_slice();
     for (header, fault) in cases {
-        // Frames before the bad header still come; after it none does, however good it looks.
-        let fed = [
-            (fed_with(rt.alloc(), &[header])?, (0, true, Some(fault))),
-            (
-                fed_with(rt.alloc(), &[good, header])?,
-                (1, true, Some(fault)),
-            ),
-            (fed_with(rt.alloc(), &[header, good])?, (0, true, FAILED)),
-            (fed_with(rt.alloc(), &[header, b""])?, (0, true, FAILED)),
-        ];
-        for (told, expected) in fed {
-            assert_eq!(rt; told, expected, "{header:?}");
-        }
+        assert!(rt; ends_stream(rt.alloc(), header, fault)?, "{header:?}");
     }
     Ok(())
 }
@@ -169,16 +184,36 @@ fn bad_headers_end_the_stream(rt: HostRuntime) -> Result<(), Fail> {
 #[test]
 fn pieces_of_headers_are_not_judged(rt: HostRuntime) -> Result<(), Fail> {
     for piece in [b"\0\0\0\x01\0".as_slice(), b""] {
-        assert_eq!(rt; fed_with(rt.alloc(), &[piece])?, (0, true, None));
+        assert!(rt; gives(rt.alloc(), &[piece], 0, None)?, "{piece:?}");
     }
     Ok(())
 }
 
-/// The one frame of a stream.
-fn one_frame(alloc: Global, stream: &[u8]) -> Result<Frame, Fail> {
+/// Whether a stream is one frame with this head, which is spelled so again.
+fn is_one_frame(
+    alloc: Global,
+    stream: &[u8],
+    transaction: u16,
+    unit_id: u8,
+) -> Result<bool, AllocError> {
     let mut reader = FrameReader::new(alloc);
     let mut fed = feed(&mut reader, stream)?;
-    Ok(fed.frames.pop().ok_or("a frame")?)
+    let last = fed.frames.pop();
+    Ok(
+        fed.frames.is_empty()
+            && last.is_some_and(|frame| is_frame(&frame, transaction, unit_id, stream)),
+    )
+}
+
+fn is_frame(frame: &Frame, transaction: u16, unit_id: u8, stream: &[u8]) -> bool {
+    frame.transaction == transaction
+        && frame.unit_id == unit_id
+        && has_unit(frame, &stream[stream.len().min(7)..])
+        && is_spelled(frame, stream)
+}
+
+fn has_unit(frame: &Frame, bytes: &[u8]) -> bool {
+    frame.unit.as_bytes() == bytes
 }
 
 #[test]
@@ -186,18 +221,13 @@ fn the_largest_frame(rt: HostRuntime) -> Result<(), Fail> {
     let mut largest = [0u8; 260];
     largest[5] = 254;
     largest[259] = 9;
-    let frame = one_frame(rt.alloc(), &largest)?;
-    assert_eq!(rt; frame.unit.as_bytes(), &largest[7..]);
-    assert_eq!(rt; frame.encode().as_bytes(), largest.as_slice());
+    assert!(rt; is_one_frame(rt.alloc(), &largest, 0, 0)?);
     Ok(())
 }
 
 #[test]
 fn the_smallest_frame(rt: HostRuntime) -> Result<(), Fail> {
     let smallest = [1u8, 2, 0, 0, 0, 2, 3, 4];
-    let frame = one_frame(rt.alloc(), &smallest)?;
-    assert_eq!(rt; (frame.transaction, frame.unit_id), (0x0102, 3));
-    assert_eq!(rt; frame.unit.as_bytes(), [4u8].as_slice());
-    assert_eq!(rt; frame.encode().as_bytes(), smallest.as_slice());
+    assert!(rt; is_one_frame(rt.alloc(), &smallest, 0x0102, 3)?);
     Ok(())
 }
