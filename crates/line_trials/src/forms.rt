@@ -77,13 +77,30 @@ const WRONG: &[&str] = &[
     "reply 9 00",
 ];
 
+/// A line behind others, and one more behind it.
+fn behind(alloc: Global, others: &str, line: &str) -> Result<String, AllocError> {
+    let mut script = String::from_str(alloc, others)?;
+    script.push_str(line)?;
+    script.push_str("\nopen roof\n")?;
+    Ok(script)
+}
+
+const QUERY: &str = "device m1 roof 17
+point a,m1,holding,107,uint16,,,gauge,
+open roof
+ask 1 m1 1 3 107 1
+";
+
+const QUERY_TEXT: &str = "loaded 1
+connection 1
+query 00 00 00 00 00 06 11 03 00 6B 00 01
+fault line 5
+";
+
 fn behind_a_query(alloc: Global, line: &str) -> Result<Option<Run>, AllocError> {
-    let script = format!(in alloc;
-        "device m1 roof 17\npoint a,m1,holding,107,uint16,,,gauge,\nopen roof\nask 1 m1 1 3 107 1\n{line}\nopen roof\n"
-    )?;
-    let wanted =
-        "loaded 1\nconnection 1\nquery 00 00 00 00 00 06 11 03 00 6B 00 01\nfault line 5\n";
-    other_than(alloc, script.as_str(), wanted, Replayed::FaultLine(5))
+    let script = behind(alloc, QUERY, line)?;
+    let ended = Replayed::FaultLine(5);
+    other_than(alloc, script.as_str(), QUERY_TEXT, ended)
 }
 
 #[test]
@@ -122,13 +139,9 @@ const WRONG_DEVICES: &[&str] = &[
 ];
 
 fn behind_a_device(alloc: Global, line: &str) -> Result<Option<Run>, AllocError> {
-    let script = format!(in alloc; "# c\ndevice m1 roof 17\n\n{line}\nopen roof\n")?;
-    other_than(
-        alloc,
-        script.as_str(),
-        "fault line 4\n",
-        Replayed::FaultLine(4),
-    )
+    let script = behind(alloc, "# c\ndevice m1 roof 17\n\n", line)?;
+    let ended = Replayed::FaultLine(4);
+    other_than(alloc, script.as_str(), "fault line 4\n", ended)
 }
 
 #[test]
