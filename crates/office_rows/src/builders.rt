@@ -54,13 +54,6 @@ pub(crate) fn office_over<K: Keeper + Drop>(
     }
 }
 
-pub(crate) fn push<T: Drop>(items: &mut Vec<T>, item: T) -> Result<(), OfficeError> {
-    match items.push(item) {
-        Ok(()) => Ok(()),
-        Err(_) => Err(MEMORY),
-    }
-}
-
 fn list(alloc: Global, header: &str, records: &str) -> Result<Event, OfficeError> {
     let mut bytes = Vec::from_slice(alloc, header.as_bytes())?;
     bytes.extend_from_slice(records.as_bytes())?;
@@ -71,20 +64,23 @@ fn text(alloc: Global, name: &str) -> Result<Text, OfficeError> {
     Ok(Text::from_string(String::from_str(alloc, name)?))
 }
 
-fn read(function: u8, start: u16, quantity: u16) -> Read {
-    let span = Span { start, quantity };
-    Read { function, span }
+fn frame(transaction: u16, unit_id: u8, bytes: &[u8]) -> Result<Frame, OfficeError> {
+    let unit = Unit::from_bytes(bytes).ok_or(OfficeError::WrongReply)?;
+    Ok(Frame {
+        transaction,
+        unit_id,
+        unit,
+    })
 }
 
-fn frame(transaction: u16, unit_id: u8, bytes: &[u8]) -> Result<Frame, OfficeError> {
-    match Unit::from_bytes(bytes) {
-        Some(unit) => Ok(Frame {
-            transaction,
-            unit_id,
-            unit,
-        }),
-        None => Err(OfficeError::WrongReply),
-    }
+/// The frame of an ask of a device that has the unit identifier 17.
+pub(crate) fn query(happens: &Happens, transaction: u16) -> Result<Frame, OfficeError> {
+    let Happens::Ask(_, _, _, (function, start, quantity)) = *happens else {
+        return Err(OfficeError::NoQuery);
+    };
+    let [high, low] = start.to_be_bytes();
+    let [above, below] = quantity.to_be_bytes();
+    frame(transaction, 17, &[function, high, low, above, below])
 }
 
 pub(crate) fn event_of(alloc: Global, happens: &Happens) -> Result<Event, OfficeError> {
@@ -93,7 +89,8 @@ pub(crate) fn event_of(alloc: Global, happens: &Happens) -> Result<Event, Office
         Happens::Load(records) => list(alloc, HEADER, records),
         Happens::Open(line) => Ok(Event::Open(text(alloc, line)?)),
         Happens::Ask(conn, device, slot, (function, start, quantity)) => {
-            let read = read(function, start, quantity);
+            let span = Span { start, quantity };
+            let read = Read { function, span };
             Ok(Event::Ask(Conn::new(conn), text(alloc, device)?, slot, read))
         }
         Happens::Arrive(conn, transaction, unit_id, bytes) => {
@@ -106,9 +103,9 @@ pub(crate) fn event_of(alloc: Global, happens: &Happens) -> Result<Event, Office
 
 /// The events of happenings, in their order.
 pub(crate) fn events_of(alloc: Global, all: &[Happens]) -> Result<Vec<Event>, OfficeError> {
-    let mut events = Vec::new(alloc);
+    let mut events = Vec::with_capacity(alloc, all.len())?;
     for happens in all {
-        push(&mut events, event_of(alloc, happens)?)?;
+        let _ = events.push(event_of(alloc, happens)?);
     }
     Ok(events)
 }

@@ -1,9 +1,9 @@
 //! A keeper that refuses, each call in turn, by each fault; and an office begun anew over a keeper.
-use crate::builders::{BARE, MEMORY, TWO, begun, events_of, office_over, shown};
+use crate::builders::{BARE, MEMORY, TWO, begun, event_of, events_of, office_over, shown};
 use crate::refusing::Refusing;
 use crate::scripts::{OTHERS, THREE};
 use crate::steps::Happens::{self, Arrive, Ask, Load, Open};
-use crate::steps::{answered, has_words, take};
+use crate::steps::{has_words, is_refused, is_same, take};
 use office_core::{Event, EventAnswer, Office, OfficeError};
 use poll_book::MemKeeper;
 use poll_book::StoreFault::{self, Disk, Full, Memory, Other};
@@ -41,17 +41,8 @@ fn refusing_office(
     }
 }
 
-/// Asserts that the keeper's fault was told. Memory that was refused to the test ends the attempt.
-fn assert_told(rt: &impl Abort, error: OfficeError, fault: StoreFault) -> Result<(), OfficeError> {
-    if error == MEMORY && fault != Memory {
-        return Err(MEMORY);
-    }
-    assert_eq!(rt; error, OfficeError::Store(fault));
-    Ok(())
-}
-
 /// Takes an event, once more where it was refused, as the twin does that nothing refuses; and tells
-/// how often it was refused.
+/// how often it was refused. Memory that was refused to the test ends the attempt.
 fn assert_taken(
     rt: &impl Abort,
     alloc: Global,
@@ -60,19 +51,19 @@ fn assert_taken(
     event: &Event,
     fault: StoreFault,
 ) -> Result<u32, OfficeError> {
-    let mut refused = 0;
-    let mut told = office.step(event);
-    if let EventAnswer::Refused(OfficeError::Store(cause)) = told {
-        assert_told(rt, OfficeError::Store(cause), fault)?;
-        assert_eq!(rt;
-            shown(alloc, office)?.as_str(),
-            shown(alloc, twin)?.as_str()
-        );
-        told = office.step(event);
-        refused = 1;
+    let answer = office.step(event);
+    if is_refused(&answer, fault) {
+        let tables = shown(alloc, office)?;
+        assert_eq!(rt; tables.as_str(), shown(alloc, twin)?.as_str());
+        let answer = take(office, event)?;
+        assert!(rt; is_same(&answer, &take(twin, event)?), "{answer:?}");
+        return Ok(1);
     }
-    assert_eq!(rt; answered(told)?, answered(twin.step(event))?);
-    Ok(refused)
+    if is_refused(&answer, Memory) {
+        return Err(MEMORY);
+    }
+    assert!(rt; is_same(&answer, &take(twin, event)?), "{answer:?}");
+    Ok(0)
 }
 
 /// Takes the events, of which one meets the refusal, or the office's beginning does.
@@ -87,23 +78,22 @@ fn assert_refused_once(
     let mut twin = office_over(alloc, MemKeeper::new(alloc))?;
     let mut refused = 0u32;
     if let Some(error) = error {
-        assert_told(rt, error, fault)?;
+        if !is_refused(&EventAnswer::Refused(error), fault) {
+            return Err(error);
+        }
         refused = 1;
     }
     for event in events {
         let more = assert_taken(rt, alloc, &mut office, &mut twin, event, fault)?;
         refused = refused.saturating_add(more);
     }
-    assert_eq!(rt;
-        shown(alloc, &mut office)?.as_str(),
-        shown(alloc, &mut twin)?.as_str()
-    );
+    let tables = shown(alloc, &mut office)?;
+    assert_eq!(rt; tables.as_str(), shown(alloc, &mut twin)?.as_str());
     // Another number of refusals is told as an error: it can be of memory refused to the test.
-    if refused == 1 {
-        Ok(())
-    } else {
-        Err(OfficeError::Exhausted)
+    if refused != 1 {
+        return Err(OfficeError::Exhausted);
     }
+    Ok(())
 }
 
 /// An office of which nothing was refused, and which refuses the call after those.
@@ -120,15 +110,10 @@ fn used_office(
     Ok(office)
 }
 
-/// How many calls the events take of the keeper.
-fn calls(alloc: Global, events: &[Event]) -> Result<u32, OfficeError> {
-    let office = used_office(alloc, events, u32::MAX, Other)?;
-    Ok(office.into_keeper().calls)
-}
-
 fn assert_refusals(rt: &impl Abort, alloc: Global, fault: StoreFault) -> Result<(), OfficeError> {
     let events = events_of(alloc, &HAPPENINGS)?;
-    let count = calls(alloc, &events)?;
+    let unrefused = used_office(alloc, &events, u32::MAX, Other)?;
+    let count = unrefused.into_keeper().calls;
     assert!(rt; count as usize > events.len());
     for at in 0..count {
         assert_refused_once(rt, alloc, &events, at, fault)?;
@@ -149,20 +134,19 @@ fn each_call_refused_once(rt: HostRuntime) -> Result<(), Fail> {
 /// The calls that only show: refused once, and then as if nothing had been.
 fn assert_shows(rt: &impl Abort, alloc: Global, fault: StoreFault) -> Result<(), OfficeError> {
     let events = events_of(alloc, &HAPPENINGS)?;
-    let count = calls(alloc, &events)?;
+    let unrefused = used_office(alloc, &events, u32::MAX, Other)?;
+    let count = unrefused.into_keeper().calls;
     let mut office = used_office(alloc, &events, count, fault)?;
-    match office.total("e") {
-        Err(error) => assert_told(rt, error, fault)?,
-        Ok(_) => return Err(OfficeError::Exhausted),
+    if office.total("e") != Err(OfficeError::Store(fault)) {
+        return Err(OfficeError::NoRead);
     }
     assert_eq!(rt; office.total("e")?, Some(65_534));
     let mut office = used_office(alloc, &events, count, fault)?;
-    match office.readings("a", 0, 9) {
-        Err(error) => assert_told(rt, error, fault)?,
-        Ok(_) => return Err(OfficeError::Exhausted),
+    if office.readings("a", 0, 9).err() != Some(OfficeError::Store(fault)) {
+        return Err(OfficeError::NoRead);
     }
-    let rows = office.readings("a", 0, 9)?;
-    assert!(rt; rows.is_some_and(|rows| rows.len() == 2));
+    assert!(rt; has_words(&mut office, "a", 4, &[1])?);
+    assert!(rt; has_words(&mut office, "a", 5, &[555])?);
     Ok(())
 }
 
@@ -179,15 +163,17 @@ fn shows_refused_once(rt: HostRuntime) -> Result<(), Fail> {
 /// Asserts that an office over a used keeper has its points and readings, and no connection.
 fn assert_goes_on(rt: &impl Abort, alloc: Global) -> Result<(), OfficeError> {
     let mut office = office_over(alloc, MemKeeper::new(alloc))?;
-    for happens in &HAPPENINGS {
-        take(alloc, &mut office, happens)?;
+    for event in &events_of(alloc, &HAPPENINGS)? {
+        take(&mut office, event)?;
     }
     let mut office = office_over(alloc, office.into_keeper())?;
     assert_eq!(rt; office.points().len(), 3);
     assert_eq!(rt; office.site().devices.as_slice().len(), 2);
     assert!(rt; has_words(&mut office, "a", 5, &[555])?);
-    let told = take(alloc, &mut office, &Arrive(2, 0, 17, THREE))?;
-    assert_eq!(rt; told, EventAnswer::Refused(OfficeError::NoConnection));
+    let late = event_of(alloc, &Arrive(2, 0, 17, THREE))?;
+    let told = take(&mut office, &late)?;
+    let refused = EventAnswer::Refused(OfficeError::NoConnection);
+    assert!(rt; is_same(&told, &refused), "{told:?}");
     assert_eq!(rt; office.open_line("roof")?.number(), 3);
     let mut office = match begun(alloc, office.into_keeper(), BARE)? {
         Ok(_) => return Err(OfficeError::NoRead),

@@ -1,11 +1,11 @@
 //! Memory that is refused to a call is told, changes nothing, and the call succeeds once more.
-use crate::builders::{MEMORY, event_of, office_over, push, shown};
+use crate::builders::{MEMORY, event_of, office_over, shown};
 use crate::scripts::{GAUGES, THREE};
 use crate::steps::Happens::{self, Arrive, Ask, Load, Open};
 use crate::steps::Told::{self, Loaded, Opened, Recorded, Sent};
-use crate::steps::{answered, told_of};
+use crate::steps::{expected, is_refused, is_same};
 use office_core::{EventAnswer, Office, OfficeError};
-use poll_book::MemKeeper;
+use poll_book::{MemKeeper, StoreFault};
 use std::alloc::Global;
 use std::process::Abort;
 use std::test::Fail;
@@ -35,22 +35,22 @@ fn taken(
     alloc: Global,
     office: &mut Office<MemKeeper>,
     happens: &Happens,
-) -> Result<Told, OfficeError> {
+) -> Result<EventAnswer, OfficeError> {
     let event = event_of(alloc, happens)?;
     let before = shown(alloc, office)?;
-    let mut answer = office.step(&event);
-    if answer == EventAnswer::Refused(MEMORY) {
-        assert_eq!(rt; shown(alloc, office)?.as_str(), before.as_str());
-        answer = office.step(&event);
+    let answer = office.step(&event);
+    if !is_refused(&answer, StoreFault::Memory) {
+        return Ok(answer);
     }
-    Ok(told_of(&answer))
+    assert_eq!(rt; shown(alloc, office)?.as_str(), before.as_str());
+    Ok(office.step(&event))
 }
 
 fn assert_all_taken(rt: &impl Abort, alloc: Global) -> Result<(), OfficeError> {
     let mut office = office_over(alloc, MemKeeper::new(alloc))?;
-    for (happens, expected) in &ROUNDS {
-        let told = taken(rt, alloc, &mut office, happens)?;
-        assert_eq!(rt; told, *expected);
+    for (happens, told) in &ROUNDS {
+        let answer = taken(rt, alloc, &mut office, happens)?;
+        assert!(rt; is_same(&answer, &expected(happens, told)?), "{answer:?}");
     }
     Ok(())
 }
@@ -67,9 +67,9 @@ fn refused_memory_is_told(rt: HostRuntime) -> Result<(), Fail> {
 /// Asserts the answers of a run, of which one may be that memory was refused.
 fn assert_run(rt: &impl Abort, alloc: Global) -> Result<(), OfficeError> {
     let mut office = office_over(alloc, MemKeeper::new(alloc))?;
-    let mut events = Vec::new(alloc);
+    let mut events = Vec::with_capacity(alloc, ROUNDS.len())?;
     for (happens, _) in &ROUNDS {
-        push(&mut events, event_of(alloc, happens)?)?;
+        let _ = events.push(event_of(alloc, happens)?);
     }
     let before = shown(alloc, &mut office)?;
     let answers = match office.run(&events) {
@@ -80,8 +80,11 @@ fn assert_run(rt: &impl Abort, alloc: Global) -> Result<(), OfficeError> {
         }
     };
     assert_eq!(rt; answers.len(), ROUNDS.len());
-    for (answer, (_, expected)) in answers.into_iter().zip(&ROUNDS) {
-        assert_eq!(rt; told_of(&answered(answer)?), *expected);
+    for (answer, (happens, told)) in answers.into_iter().zip(&ROUNDS) {
+        if is_refused(&answer, StoreFault::Memory) {
+            return Err(MEMORY);
+        }
+        assert!(rt; is_same(&answer, &expected(happens, told)?), "{answer:?}");
     }
     Ok(())
 }

@@ -135,6 +135,9 @@ const REFUSED_ARRIVALS: &[Step] = &[
 
 const REFUSED_LISTS: &[Step] = &[
     Is(Load(GAUGES), Loaded(3)),
+    Unknown("d"),
+    Words("a", 0, &[]),
+    Total("a", None),
     Is(Load(GAUGES), Loaded(3)),
     Points(3),
     Is(
@@ -176,14 +179,7 @@ const CONNECTIONS_OF_LINES: &[Step] = &[
     Is(Open("roof"), Opened(4)),
 ];
 
-const UNKNOWN_POINTS_HAVE_NO_TABLES: &[Step] = &[
-    Is(Load(GAUGES), Loaded(3)),
-    Unknown("d"),
-    Words("a", 0, &[]),
-    Total("a", None),
-];
-
-const SCRIPTS: [(&str, &[Step]); 10] = [
+const SCRIPTS: [(&str, &[Step]); 9] = [
     ("a reply records once", REPLY_RECORDS_ONCE),
     ("an exception records nothing", EXCEPTION_RECORDS_NOTHING),
     ("points of later lists wait", POINTS_OF_LATER_LISTS_WAIT),
@@ -193,10 +189,6 @@ const SCRIPTS: [(&str, &[Step]); 10] = [
     ("refused arrivals", REFUSED_ARRIVALS),
     ("refused lists", REFUSED_LISTS),
     ("connections of lines", CONNECTIONS_OF_LINES),
-    (
-        "unknown points have no tables",
-        UNKNOWN_POINTS_HAVE_NO_TABLES,
-    ),
 ];
 
 #[test]

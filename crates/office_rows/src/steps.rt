@@ -1,7 +1,8 @@
 //! Steps of a script, and their play.
-use crate::builders::{MEMORY, event_of, office_over};
-use office_core::{Arrival, EventAnswer, LoadFault, Office, OfficeError, Outcome};
-use poll_book::MemKeeper;
+use crate::builders::{MEMORY, event_of, office_over, query};
+use office_core::{Arrival, Event, EventAnswer, LoadFault, Office, OfficeError, Outcome, Reason};
+use poll_book::{Keeper, MemKeeper, StoreFault};
+use poll_match::Conn;
 use std::alloc::Global;
 use std::process::Abort;
 
@@ -20,8 +21,8 @@ pub(crate) enum Happens {
     Restart,
 }
 
-/// What is answered.
-#[derive(Clone, Copy, Debug, PartialEq, Eq)]
+/// What is answered, as a constant can say it.
+#[derive(Drop)]
 pub(crate) enum Told {
     /// A list of so many rows is taken.
     Loaded(u32),
@@ -47,41 +48,48 @@ pub(crate) enum Step {
     Unknown(&'static str),
 }
 
-pub(crate) fn told_of(answer: &EventAnswer) -> Told {
-    match answer {
-        EventAnswer::Judged(Outcome::Loaded(count)) => Told::Loaded(*count),
-        EventAnswer::Judged(Outcome::RefusedFor(reason)) => {
-            Told::RefusedFor(reason.fault, reason.row, reason.column)
+/// The answer that a step expects to what happens.
+pub(crate) fn expected(happens: &Happens, told: &Told) -> Result<EventAnswer, OfficeError> {
+    match *told {
+        Told::Loaded(count) => Ok(EventAnswer::Judged(Outcome::Loaded(count))),
+        Told::RefusedFor(fault, row, column) => {
+            let reason = Reason { fault, row, column };
+            Ok(EventAnswer::Judged(Outcome::RefusedFor(reason)))
         }
-        EventAnswer::Opened(conn) => Told::Opened(conn.number()),
-        EventAnswer::Query(frame) => Told::Sent(frame.transaction),
-        EventAnswer::Arrived(Arrival::Recorded(count)) => Told::Recorded(*count),
-        EventAnswer::Arrived(Arrival::Excepted(code)) => Told::Excepted(*code),
-        EventAnswer::Restarted => Told::Restarted,
-        EventAnswer::Refused(error) => Told::Refused(*error),
+        Told::Opened(number) => Ok(EventAnswer::Opened(Conn::new(number))),
+        Told::Sent(transaction) => Ok(EventAnswer::Query(query(happens, transaction)?)),
+        Told::Recorded(count) => Ok(EventAnswer::Arrived(Arrival::Recorded(count))),
+        Told::Excepted(code) => Ok(EventAnswer::Arrived(Arrival::Excepted(code))),
+        Told::Restarted => Ok(EventAnswer::Restarted),
+        Told::Refused(error) => Ok(EventAnswer::Refused(error)),
     }
 }
 
-/// An answer, where it isn't that memory is refused.
-pub(crate) fn answered(answer: EventAnswer) -> Result<EventAnswer, OfficeError> {
-    match answer {
-        EventAnswer::Refused(error) if error == MEMORY => Err(MEMORY),
-        other => Ok(other),
-    }
+// A function for each test of answers, since the facts of `==` would burden its caller's proof.
+pub(crate) fn is_same(a: &EventAnswer, b: &EventAnswer) -> bool {
+    *a == *b
 }
 
-/// Takes what happens. Refused memory ends the attempt.
-pub(crate) fn take(
-    alloc: Global,
-    office: &mut Office<MemKeeper>,
-    happens: &Happens,
+/// Whether the keeper's fault was told.
+pub(crate) fn is_refused(answer: &EventAnswer, fault: StoreFault) -> bool {
+    *answer == EventAnswer::Refused(OfficeError::Store(fault))
+}
+
+/// Takes an event. Refused memory ends the attempt.
+pub(crate) fn take<K: Keeper>(
+    office: &mut Office<K>,
+    event: &Event,
 ) -> Result<EventAnswer, OfficeError> {
-    answered(office.step(&event_of(alloc, happens)?))
+    let answer = office.step(event);
+    if is_refused(&answer, StoreFault::Memory) {
+        return Err(MEMORY);
+    }
+    Ok(answer)
 }
 
 /// Whether a point has these words in a slot, which are none where it has no reading.
-pub(crate) fn has_words(
-    office: &mut Office<MemKeeper>,
+pub(crate) fn has_words<K: Keeper>(
+    office: &mut Office<K>,
     point: &str,
     slot: u32,
     words: &[u16],
@@ -98,12 +106,14 @@ pub(crate) fn has_words(
 
 /// Whether so many points are known, which are numbered on from 1.
 fn has_points(office: &Office<MemKeeper>, count: u32) -> bool {
-    office.points().len() == count as usize
-        && office
-            .points()
-            .iter()
-            .zip(1..=count)
-            .all(|(row, number)| row.number == number)
+    let mut last = 0u32;
+    for row in office.points() {
+        last = last.saturating_add(1);
+        if row.number != last {
+            return false;
+        }
+    }
+    last == count
 }
 
 fn holds(office: &mut Office<MemKeeper>, step: &Step) -> Result<bool, OfficeError> {
@@ -128,8 +138,12 @@ pub(crate) fn assert_script(
     let mut office = office_over(alloc, MemKeeper::new(alloc))?;
     for (place, step) in steps.iter().enumerate() {
         if let Step::Is(happens, told) = step {
-            let answer = take(alloc, &mut office, happens)?;
-            assert_eq!(rt; told_of(&answer), *told, "{title}, step {place}");
+            let answer = take(&mut office, &event_of(alloc, happens)?)?;
+            let expected = expected(happens, told)?;
+            assert!(rt;
+                is_same(&answer, &expected),
+                "{title}, step {place}: {answer:?}"
+            );
         }
         assert!(rt; holds(&mut office, step)?, "{title}, step {place}");
     }

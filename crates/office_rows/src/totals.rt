@@ -1,8 +1,8 @@
 //! Totals of counters, by hand: the steps between neighbouring slots, whatever came first.
-use crate::builders::office_over;
+use crate::builders::{event_of, events_of, office_over};
 use crate::steps::Happens::{Arrive, Ask, Load, Open};
 use crate::steps::take;
-use office_core::OfficeError;
+use office_core::{Office, OfficeError};
 use poll_book::MemKeeper;
 use std::alloc::Global;
 use std::process::Abort;
@@ -22,16 +22,13 @@ const GAUGE: Counter = ("e,m1,holding,107,uint16,,,gauge,\n", 1);
 /// A reply to the query of a slot.
 type Reply = (u16, &'static [u8]);
 
-/// The number 65,000.
+// The numbers 65,000, then 64,000 or 65,500, and then 500.
 const FIRST: Reply = (0, &[3, 2, 0xFD, 0xE8]);
 
-/// The number 64,000.
 const SECOND: Reply = (1, &[3, 2, 0xFA, 0x00]);
 
-/// The number 65,500.
 const LATE: Reply = (1, &[3, 2, 0xFF, 0xDC]);
 
-/// The number 500.
 const THIRD: Reply = (2, &[3, 2, 0x01, 0xF4]);
 
 /// The numbers 90, 150 and 20.
@@ -65,7 +62,6 @@ const CASES: [Case; 14] = [
     (SHORT, &[FIRST], &[true], Some(0)),
     (SHORT, &[FIRST, THIRD], &[true, true], Some(1036)),
     (SHORT, &[FIRST, THIRD, LATE], ALL, Some(1036)),
-    // Few readings.
     (SHORT, &[], &[], Some(0)),
     (SHORT, &[(1, &[3, 2, 0x02, 0xBC])], &[true], Some(0)),
     // A number past the roll isn't counted.
@@ -75,30 +71,42 @@ const CASES: [Case; 14] = [
     (LONG, LONG_NUMBERS, &[true, false, true], Some(50)),
 ];
 
-/// Asserts a case of an office that asked in three slots.
+/// An office that asked for a counter in three slots, and had these replies.
+fn office_after(
+    alloc: Global,
+    counter: Counter,
+    replies: &[Reply],
+) -> Result<Office<MemKeeper>, OfficeError> {
+    let (record, quantity) = counter;
+    let mut office = office_over(alloc, MemKeeper::new(alloc))?;
+    let asked = [
+        Load(record),
+        Open("roof"),
+        Ask(1, "m1", 0, (3, 107, quantity)),
+        Ask(1, "m1", 1, (3, 107, quantity)),
+        Ask(1, "m1", 2, (3, 107, quantity)),
+    ];
+    for event in &events_of(alloc, &asked)? {
+        take(&mut office, event)?;
+    }
+    for (slot, unit) in replies {
+        let reply = event_of(alloc, &Arrive(1, *slot, 17, unit))?;
+        take(&mut office, &reply)?;
+    }
+    Ok(office)
+}
+
 fn assert_case(
     rt: &impl Abort,
     alloc: Global,
     place: usize,
     case: Case,
 ) -> Result<(), OfficeError> {
-    let ((record, quantity), replies, counted, total) = case;
-    let mut office = office_over(alloc, MemKeeper::new(alloc))?;
-    take(alloc, &mut office, &Load(record))?;
-    take(alloc, &mut office, &Open("roof"))?;
-    for slot in 0..3 {
-        take(alloc, &mut office, &Ask(1, "m1", slot, (3, 107, quantity)))?;
-    }
-    for (slot, unit) in replies {
-        take(alloc, &mut office, &Arrive(1, *slot, 17, unit))?;
-    }
-    let Some(rows) = office.readings("e", 0, 9)? else {
-        return Err(OfficeError::NoRead);
-    };
-    assert_eq!(rt; rows.len(), counted.len(), "case {place}");
-    for (row, counted) in rows.iter().zip(counted) {
-        assert_eq!(rt; row.counted, *counted, "case {place}");
-    }
+    let (counter, replies, counted, total) = case;
+    let mut office = office_after(alloc, counter, replies)?;
+    let rows = office.readings("e", 0, 9)?.ok_or(OfficeError::NoRead)?;
+    let count: Vec<bool> = rows.iter().map(|row| row.counted).collect(alloc)?;
+    assert_eq!(rt; count.as_slice(), counted, "case {place}");
     assert_eq!(rt; office.total("e")?, total, "case {place}");
     Ok(())
 }
