@@ -23,3 +23,4 @@ pub mod Opening
 pub mod Messages
 pub mod Forms
 pub mod Fitting
+pub mod ByName

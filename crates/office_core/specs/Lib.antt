@@ -11,3 +11,4 @@ pub mod Offices
 pub mod FirstArrivals
 pub mod Fitting
 pub mod Messages
+pub mod ByName

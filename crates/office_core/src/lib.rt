@@ -9,6 +9,7 @@ mod error;
 mod event;
 pub mod laws;
 mod loads;
+mod names;
 mod office;
 mod site;
 

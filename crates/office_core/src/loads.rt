@@ -2,9 +2,11 @@
 ghost use Rattle.std.specs.Prelude.{◌≡◌, ◌≢◌, ◌≤◌, ◌+◌, [], is_none, length, option_map, IfOk, IfErr, OnOk, Ok};
 ghost use Rattle.std.specs.List.{position};
 ghost use Rattle.std.specs.Str.{bytes_eq};
+ghost use Rattle.office_core.specs.ByName.{AreNamesOf};
 ghost use Rattle.office_core.specs.Loads as loads;
 
 use crate::event::{LoadFault, Outcome, Reason};
+use crate::names::Names;
 use point_list::{ListError, ListFault, ListRow, Point, Site, read_list, resolve};
 use poll_book::{PointRow, StoreFault};
 use std::alloc::{AllocError, Global};
@@ -41,33 +43,66 @@ fn is_same_point(a: &Point, b: &Point) -> bool
         && a.roll == b.roll
 }
 
+/// From so many rows on, known points are looked for in a map of their names: it costs as much as looking
+/// for some of them one by one.
+const MANY: usize = 16;
+
+fn names_for(
+    alloc: Global,
+    known: &[PointRow],
+    rows: usize,
+) -> Result<Option<Names<'_>>, AllocError>
+    ensures { IfOk result (AreNamesOf known.now) }
+{
+    if rows < MANY {
+        return Ok(None);
+    }
+    Ok(Some(Names::of(alloc, known)?))
+}
+
+/// The known point of a name, by names of the known points if there are any.
+fn find_known(known: &[PointRow], names: &Option<Names>, name: &[u8]) -> Option<PointRow>
+    requires { AreNamesOf known.now names.now }
+    ensures { result ≡ loads.known_named known.now name.now }
+{
+    match names {
+        Some(names) => names.get(name),
+        None => known_named(known, name),
+    }
+}
+
 /// No point of that name is known, or it is this point.
-fn agrees(known: &[PointRow], point: &Point) -> bool
+fn agrees(known: &[PointRow], names: &Option<Names>, point: &Point) -> bool
+    requires { AreNamesOf known.now names.now }
     ensures { result ≡ loads.agrees point.now (loads.known_named known.now point.now.name) }
 {
-    match known_named(known, point.name.as_bytes()) {
+    match find_known(known, names, point.name.as_bytes()) {
         None => true,
         Some(there) => is_same_point(&there.point, point),
     }
 }
 
-fn is_unknown(known: &[PointRow], point: &Point) -> bool
+fn is_unknown(known: &[PointRow], names: &Option<Names>, point: &Point) -> bool
+    requires { AreNamesOf known.now names.now }
     ensures { result ≡ is_none (loads.known_named known.now point.now.name) }
 {
-    known_named(known, point.name.as_bytes()).is_none()
+    find_known(known, names, point.name.as_bytes()).is_none()
 }
 
-fn place_differing(known: &[PointRow], rows: &[ListRow]) -> Option<usize>
+fn place_differing(known: &[PointRow], names: &Option<Names>, rows: &[ListRow]) -> Option<usize>
+    requires { AreNamesOf known.now names.now }
     ensures { result ≡ position (loads.differs known.now) rows.now }
 {
-    rows.iter().position(|row| !agrees(known, &row.point))
+    rows.iter()
+        .position(|row| !agrees(known, names, &row.point))
 }
 
 /// The number of the first row whose name is known with another definition.
-fn first_differing(known: &[PointRow], rows: &[ListRow]) -> Option<u32>
+fn first_differing(known: &[PointRow], names: &Option<Names>, rows: &[ListRow]) -> Option<u32>
+    requires { AreNamesOf known.now names.now }
     ensures { result ≡ option_map (λ row. row.row) (loads.differing known.now rows.now) }
 {
-    match place_differing(known, rows) {
+    match place_differing(known, names, rows) {
         Some(place) => Some(rows[place].row),
         None => None,
     }
@@ -77,15 +112,17 @@ fn first_differing(known: &[PointRow], rows: &[ListRow]) -> Option<u32>
 fn new_points(
     alloc: Global,
     known: &[PointRow],
+    names: &Option<Names>,
     points: &[Point],
 ) -> Result<Vec<PointRow>, AllocError>
+    requires names_of { AreNamesOf known.now names.now }
     requires many { length known.now ≤ 10000 }
     requires few { length points.now ≤ 10000 }
     ensures rows { IfOk result (λ rows. rows.items ≡ loads.numbered_on (length known.now) (loads.unknown_of known.now points.now)) }
 {
     let mut rows = Vec::new(alloc);
     for point in points {
-        if is_unknown(known, point) {
+        if is_unknown(known, names, point) {
             let number = (known.len() + rows.len()) as u32 + 1;
             rows.push(PointRow {
                 number,
@@ -116,14 +153,15 @@ fn judge_rows(
     ensures memory { IfErr result (λ e. e ≡ StoreFault.Memory) }
 {
     let count = rows.len() as u32;
-    let differing = first_differing(known, &rows);
+    let names = names_for(alloc, known, rows.len())?;
+    let differing = first_differing(known, &names, &rows);
     let Ok(points) = resolve(alloc, rows) else {
         return Err(StoreFault::Memory);
     };
     if let Some(row) = differing {
         return Ok((refused(LoadFault::PointDiffers, row, 1), Vec::new(alloc)));
     }
-    let new = new_points(alloc, known, &points)?;
+    let new = new_points(alloc, known, &names, &points)?;
     if known.len() + new.len() > 10000 {
         let fault = LoadFault::List(ListFault::TooManyPoints);
         return Ok((refused(fault, 0, 0), Vec::new(alloc)));

@@ -20,6 +20,7 @@ const LIST: &[u8] =
     b"name,device,table,address,type,length,scale,role,roll\ne,m1,holding,107,uint16,,,counter,65535\n";
 
 const SENT: [u8; 12] = [0, 0, 0, 0, 0, 6, 17, 3, 0, 107, 0, 1];
+
 const MEMORY: OfficeError = OfficeError::Store(StoreFault::Memory);
 
 fn site(alloc: Global) -> Result<Site, OfficeError>
