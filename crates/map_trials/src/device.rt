@@ -291,15 +291,15 @@ fn sizes_are_checked(rt: HostRuntime) -> Result<(), Fail> {
     Ok(())
 }
 
-fn unstarted(alloc: Global, size: u32) -> Result<Mapping, MapError> {
-    Mapping::new(alloc, size, size, size, size)
+fn unstarted(alloc: Global) -> Result<Mapping, MapError> {
+    Mapping::new(alloc, 65536, 65536, 65536, 65536)
 }
 
 /// Without starts the tables begin at 0, as with these starts.
 #[test]
 fn tables_without_starts(rt: HostRuntime) -> Result<(), Fail> {
-    let whole = match unstarted(rt.alloc(), 65536) {
-        Err(MapError::Memory) => unstarted(rt.alloc(), 65536)?,
+    let whole = match unstarted(rt.alloc()) {
+        Err(MapError::Memory) => unstarted(rt.alloc())?,
         other => other?,
     };
     assert_told(&rt, &"last", &last_register(&whole), &Some(0));

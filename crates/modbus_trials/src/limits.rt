@@ -210,15 +210,18 @@ fn refusals_in_their_order(rt: HostRuntime) {
 
 /// Whether a unit of the bytes holds them, where there is one.
 fn holds_unit(bytes: &[u8]) -> Option<bool> {
-    Unit::from_bytes(bytes).map(|unit| unit.as_bytes() == bytes)
+    let unit = Unit::from_bytes(bytes)?;
+    Some(unit.as_bytes() == bytes)
 }
 
 fn holds_words(words: &[u16]) -> Option<bool> {
-    Registers::from_slice(words).map(|kept| kept.as_slice() == words)
+    let kept = Registers::from_slice(words)?;
+    Some(kept.as_slice() == words)
 }
 
 fn holds_bits(bits: &[bool]) -> Option<bool> {
-    Bits::from_slice(bits).map(|kept| kept.as_slice() == bits)
+    let kept = Bits::from_slice(bits)?;
+    Some(kept.as_slice() == bits)
 }
 
 #[test]

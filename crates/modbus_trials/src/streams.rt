@@ -70,16 +70,21 @@ fn a_frame_is_spelled_and_read(rt: HostRuntime) -> Result<(), Fail> {
     Ok(())
 }
 
-/// Whether the reply is read in three pieces, cut at both places.
-fn is_read_in_three(alloc: Global, first: usize, second: usize) -> Result<bool, AllocError> {
-    let (front, back) = REPLY.split_at(second.min(15));
-    let (left, middle) = front.split_at(first.min(front.len()));
-    gives(alloc, &[left, middle, back], 1, None)
+fn cut(bytes: &[u8], place: usize) -> (&[u8], &[u8]) {
+    bytes.split_at(place.min(bytes.len()))
 }
 
+/// Whether the reply is read in two pieces.
 fn is_read_in_two(alloc: Global, place: usize) -> Result<bool, AllocError> {
-    let (front, back) = REPLY.split_at(place.min(15));
+    let (front, back) = cut(&REPLY, place);
     gives(alloc, &[front, back], 1, None)
+}
+
+/// Whether the reply is read in three pieces, cut at both places.
+fn is_read_in_three(alloc: Global, first: usize, second: usize) -> Result<bool, AllocError> {
+    let (front, back) = cut(&REPLY, second);
+    let (left, middle) = cut(front, first);
+    gives(alloc, &[left, middle, back], 1, None)
 }
 
 #[test]
