@@ -1,36 +1,84 @@
 //! What a keeper in memory gives back, and that a refusal leaves it as it was.
 ghost use Rattle.std.specs.Prelude.{◌<◌, ◌≤◌, length};
 
-use crate::storing::{counter, store, store_once};
+use crate::asserting::assert_told;
+use crate::storing::{apply, counter, reading, readings, store, store_once};
 use point_list::Items;
-use poll_book::{Change, Keeper, MemKeeper, Neighbours, PointRow, StoreFault, Words};
+use poll_book::{Change, Keeper, MemKeeper, PointRow, ReadingRow, StoreFault, Words};
 use std::alloc::{AllocError, Global};
 use std::process::Abort;
 use std::test::Fail;
 use sunspec::PointType;
 
-fn assert_rows(rt: &impl Abort, alloc: Global, text: &PointRow) -> Result<(), StoreFault> {
+/// A keeper of the point alone, with seven connections.
+fn keeper_of(alloc: Global, point: &PointRow) -> Result<MemKeeper, StoreFault> {
     let mut keeper = MemKeeper::new(alloc);
-    keeper.apply(&Change {
-        points: Items::from_vec(vec![in alloc; *text]?),
+    let change = Change {
+        points: Items::from_vec(vec![in alloc; *point]?),
         readings: Items::from_vec(Vec::new(alloc)),
         connections: Some(7),
-    })?;
-    for slot in [30, 10, 20] {
-        let words = [1, 2, 3, 4, slot as u16];
-        assert_eq!(rt; store(alloc, &mut keeper, text, slot, &words)?, 1);
+    };
+    apply(&mut keeper, &change)?;
+    Ok(keeper)
+}
+
+fn is_kept(alloc: Global, keeper: &mut MemKeeper, point: &PointRow) -> Result<bool, StoreFault> {
+    let points = keeper.points(alloc)?;
+    Ok(points.as_slice() == [*point].as_slice())
+}
+
+fn connections(keeper: &mut MemKeeper) -> Result<u32, StoreFault> {
+    keeper.connections()
+}
+
+/// Whether a row is of the slot and its registers, and doesn't count.
+fn is_row(row: &ReadingRow, slot: u16) -> bool {
+    row.slot == slot as u32 && !row.counted && row.words.as_slice() == [1, 2, 3, 4, slot].as_slice()
+}
+
+/// Stores four readings, of which the last is of a slot that has one.
+fn assert_stored(
+    rt: &impl Abort,
+    alloc: Global,
+    keeper: &mut MemKeeper,
+    text: &PointRow,
+) -> Result<(), StoreFault> {
+    for (slot, words, count) in [
+        (30, [1, 2, 3, 4, 30], 1),
+        (10, [1, 2, 3, 4, 10], 1),
+        (20, [1, 2, 3, 4, 20], 1),
+        (20, [9, 9, 9, 9, 9], 0),
+    ] {
+        let told = store(alloc, keeper, text, slot, &words)?;
+        assert_told(rt, &slot, &told, &count);
     }
-    assert_eq!(rt; store(alloc, &mut keeper, text, 20, &[9, 9, 9, 9, 9])?, 0);
-    assert_eq!(rt; keeper.connections(), Ok(7));
-    assert_eq!(rt; keeper.points(alloc)?.as_slice(), [*text].as_slice());
-    let rows = keeper.readings(alloc, 2, 10, 20)?;
-    assert_eq!(rt; rows.len(), 2);
+    Ok(())
+}
+
+fn assert_rows(rt: &impl Abort, alloc: Global, text: &PointRow) -> Result<(), StoreFault> {
+    let mut keeper = keeper_of(alloc, text)?;
+    assert_stored(rt, alloc, &mut keeper, text)?;
+    assert_told(rt, &"connections", &connections(&mut keeper), &Ok(7));
+    assert!(rt; is_kept(alloc, &mut keeper, text)?);
+    let rows = readings(alloc, &mut keeper, 2, 10, 20)?;
+    assert_told(rt, &"rows", &rows.len(), &2);
     for (row, slot) in rows.iter().zip([10, 20]) {
-        assert_eq!(rt; row.slot, slot);
-        assert_eq!(rt; row.words.as_slice(), [1, 2, 3, 4, slot as u16].as_slice());
-        assert!(rt; !row.counted);
+        assert!(rt; is_row(row, slot), "{row:?}");
     }
     assert_readings(rt, alloc, &mut keeper, text)
+}
+
+/// Whether the reading in the slot is of these registers.
+fn has_reading(
+    keeper: &mut MemKeeper,
+    point: &PointRow,
+    slot: u32,
+    words: &[u16],
+) -> Result<bool, StoreFault> {
+    match reading(keeper, point, slot)? {
+        Some(reading) => Ok(reading.words.as_slice() == words),
+        None => Ok(false),
+    }
 }
 
 fn assert_readings(
@@ -39,12 +87,9 @@ fn assert_readings(
     keeper: &mut MemKeeper,
     text: &PointRow,
 ) -> Result<(), StoreFault> {
-    let reading = keeper.reading(text, 30)?;
-    assert!(rt;
-        reading.is_some_and(|reading| reading.words.as_slice() == [1, 2, 3, 4, 30].as_slice())
-    );
-    assert!(rt; keeper.reading(text, 31)?.is_none());
-    assert!(rt; keeper.readings(alloc, 1, 0, 100)?.is_empty());
+    assert!(rt; has_reading(keeper, text, 30, &[1, 2, 3, 4, 30])?);
+    assert!(rt; reading(keeper, text, 31)?.is_none());
+    assert!(rt; readings(alloc, keeper, 1, 0, 100)?.is_empty());
     Ok(())
 }
 
@@ -63,8 +108,9 @@ fn assert_words(rt: &impl Abort, alloc: Global, words: &[u16]) -> Result<(), All
     requires short { length words.now ≤ 125 }
 {
     let held = Words::new(alloc, words)?;
-    assert_eq!(rt; held.as_slice(), words);
-    assert_eq!(rt; held.clone()?.as_slice(), words);
+    let copied = held.clone()?;
+    assert_told(rt, &"held", &held.as_slice(), &words);
+    assert_told(rt, &"copied", &copied.as_slice(), &words);
     Ok(())
 }
 
@@ -78,30 +124,44 @@ fn registers_in_place_and_not(rt: HostRuntime) -> Result<(), Fail> {
     Ok(())
 }
 
-fn assert_text(
-    rt: &impl Abort,
-    alloc: Global,
-    fault: StoreFault,
-    text: &str,
-) -> Result<(), AllocError> {
-    let shown = format!(in alloc; "{fault}")?;
-    assert_eq!(rt; shown.as_str(), text);
-    Ok(())
+/// The text of a refusal, made once more where memory was refused.
+fn text_of(alloc: Global, refusal: StoreFault) -> Result<String, AllocError> {
+    match refusal.to_string(alloc) {
+        Ok(text) => Ok(text),
+        Err(_) => refusal.to_string(alloc),
+    }
 }
 
 #[test]
 fn texts_of_refusals(rt: HostRuntime) -> Result<(), Fail> {
-    for (fault, text) in [
+    for (refusal, text) in [
         (StoreFault::Memory, "memory"),
         (StoreFault::Full, "full"),
         (StoreFault::Disk, "disk"),
         (StoreFault::Other, "other"),
     ] {
-        if assert_text(&rt, rt.alloc(), fault, text).is_err() {
-            assert_text(&rt, rt.alloc(), fault, text)?;
-        }
+        let told = text_of(rt.alloc(), refusal)?;
+        assert_told(&rt, &text, &told.as_str(), &text);
     }
     Ok(())
+}
+
+/// Asserts that memory was refused, and that the slot has no reading.
+fn assert_refused(
+    rt: &impl Abort,
+    keeper: &mut MemKeeper,
+    point: &PointRow,
+    slot: u32,
+    fault: StoreFault,
+) -> Result<(), StoreFault> {
+    assert_told(rt, &slot, &fault, &StoreFault::Memory);
+    assert!(rt; reading(keeper, point, slot)?.is_none());
+    Ok(())
+}
+
+/// How many readings of point 1 there are.
+fn count(alloc: Global, keeper: &mut MemKeeper) -> Result<usize, StoreFault> {
+    Ok(readings(alloc, keeper, 1, 0, 100)?.len())
 }
 
 /// Run under `rt try --test --fail-alloc N`, this one sees each growth refused in turn.
@@ -111,15 +171,14 @@ fn a_refusal_changes_nothing(rt: HostRuntime) -> Result<(), Fail> {
     let mut keeper = MemKeeper::new(rt.alloc());
     for slot in 0..9 {
         let words = [slot as u16];
-        let before = keeper.readings(rt.alloc(), 1, 0, 100);
+        let before = count(rt.alloc(), &mut keeper);
         match store_once(rt.alloc(), &mut keeper, &point, slot, &words) {
-            Ok(count) => assert_eq!(rt; count, 1),
+            Ok(count) => assert_told(&rt, &slot, &count, &1),
             Err(fault) => {
-                assert_eq!(rt; fault, StoreFault::Memory);
-                assert!(rt; keeper.reading(&point, slot)?.is_none());
+                assert_refused(&rt, &mut keeper, &point, slot, fault)?;
                 let Ok(before) = before else { return Ok(()) };
-                let after = keeper.readings(rt.alloc(), 1, 0, 100)?;
-                assert_eq!(rt; after.len(), before.len());
+                let after = count(rt.alloc(), &mut keeper)?;
+                assert_told(&rt, &slot, &after, &before);
             }
         }
     }

@@ -1,6 +1,10 @@
+//! Points and their readings in a keeper. The calls of the keeper stand in functions without
+//! clauses: a test needs none of their promises, and each would be a fact in each of its goals.
 use mb_pdu::{Registers, Table};
 use point_list::{Items, Label, Name, Point, Role};
-use poll_book::{Change, Keeper, MemKeeper, PointRow, StoreFault, record};
+use poll_book::{
+    Change, Keeper, MemKeeper, Neighbours, PointRow, Reading, ReadingRow, StoreFault, record,
+};
 use std::alloc::Global;
 use sunspec::PointType;
 
@@ -21,6 +25,55 @@ pub(crate) fn counter(number: u32, kind: PointType, roll: u64) -> Option<PointRo
     })
 }
 
+/// A change of these readings alone.
+fn change_of(alloc: Global, readings: Vec<ReadingRow>) -> Change {
+    Change {
+        points: Items::from_vec(Vec::new(alloc)),
+        readings: Items::from_vec(readings),
+        connections: None,
+    }
+}
+
+pub(crate) fn apply(keeper: &mut MemKeeper, change: &Change) -> Result<(), StoreFault> {
+    keeper.apply(change)
+}
+
+pub(crate) fn total(keeper: &mut MemKeeper, point: &PointRow) -> Result<u128, StoreFault> {
+    keeper.total(point)
+}
+
+pub(crate) fn reading(
+    keeper: &mut MemKeeper,
+    point: &PointRow,
+    slot: u32,
+) -> Result<Option<Reading>, StoreFault> {
+    keeper.reading(point, slot)
+}
+
+pub(crate) fn readings(
+    alloc: Global,
+    keeper: &mut MemKeeper,
+    point: u32,
+    from: u32,
+    to: u32,
+) -> Result<Vec<ReadingRow>, StoreFault> {
+    keeper.readings(alloc, point, from, to)
+}
+
+/// The rows that these registers of the point make in the slot.
+fn rows_of(
+    alloc: Global,
+    keeper: &mut MemKeeper,
+    point: &PointRow,
+    slot: u32,
+    words: &[u16],
+) -> Result<Vec<ReadingRow>, StoreFault> {
+    match Registers::from_slice(words) {
+        Some(registers) => record(alloc, keeper, &[(*point, registers)], slot),
+        None => Err(StoreFault::Other),
+    }
+}
+
 /// Records these registers of the point in the slot, and says how many readings were new.
 pub(crate) fn store_once(
     alloc: Global,
@@ -29,16 +82,9 @@ pub(crate) fn store_once(
     slot: u32,
     words: &[u16],
 ) -> Result<usize, StoreFault> {
-    let Some(registers) = Registers::from_slice(words) else {
-        return Err(StoreFault::Other);
-    };
-    let rows = record(alloc, keeper, &[(*point, registers)], slot)?;
+    let rows = rows_of(alloc, keeper, point, slot, words)?;
     let count = rows.len();
-    keeper.apply(&Change {
-        points: Items::from_vec(Vec::new(alloc)),
-        readings: Items::from_vec(rows),
-        connections: None,
-    })?;
+    apply(keeper, &change_of(alloc, rows))?;
     Ok(count)
 }
 

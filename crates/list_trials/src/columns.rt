@@ -264,12 +264,9 @@ fn roles_and_rolls(rt: HostRuntime) {
 
 #[test]
 fn the_first_of_two_faults(rt: HostRuntime) {
-    use ListFault::*;
-    let cases: [(&str, Option<(ListFault, u8)>); 1] = [(
-        "e,m2,wall,1,float32,,,pet,x",
-        Some((UnknownDevice, 2)),
-    )];
-    assert_faults(&rt, rt.alloc(), &cases);
+    let record = "e,m2,wall,1,float32,,,pet,x";
+    let fault = Some((ListFault::UnknownDevice, 2));
+    assert_told(&rt, &record, &fault_of(rt.alloc(), record), &fault);
 }
 
 #[test]

@@ -6,15 +6,19 @@ use std::alloc::Global;
 use std::process::Abort;
 use std::test::Fail;
 
+// The calls of a mapping stand in functions without clauses: a test needs none of their promises,
+// and each would be a fact in each of its goals.
+
+fn made(alloc: Global, start: u32, bits: u32, registers: u32) -> Result<Mapping, MapError> {
+    Mapping::new_start_address(
+        alloc, start, bits, start, bits, start, registers, start, registers,
+    )
+}
+
 /// The four tables, and a second try where memory was refused.
 fn mapping(alloc: Global, start: u32, bits: u32, registers: u32) -> Result<Mapping, MapError> {
-    let make = || {
-        Mapping::new_start_address(
-            alloc, start, bits, start, bits, start, registers, start, registers,
-        )
-    };
-    match make() {
-        Err(MapError::Memory) => make(),
+    match made(alloc, start, bits, registers) {
+        Err(MapError::Memory) => made(alloc, start, bits, registers),
         other => other,
     }
 }
@@ -24,17 +28,25 @@ fn answered(mapping: &mut Mapping, asked: &[u8]) -> Option<Unit> {
     Some(mapping.reply(&asked))
 }
 
+fn set(mapping: &mut Mapping, table: Table, address: u16, number: u16) -> bool {
+    mapping.set(table, address, number)
+}
+
+fn get(mapping: &Mapping, table: Table, address: u16) -> Option<u16> {
+    mapping.get(table, address)
+}
+
 fn assert_answer(rt: &impl Abort, mapping: &mut Mapping, asked: &[u8], answer: &[u8]) {
     let told = answered(mapping, asked);
     let bytes = told.as_ref().map(|unit| unit.as_bytes());
     assert_told(rt, &asked, &bytes, &Some(answer));
 }
 
-/// Whether a request is answered normally, or the code of its exception.
+/// The code of the exception that answers a request, or 0 where the answer is none.
 fn code(mapping: &mut Mapping, asked: &[u8]) -> Option<u8> {
     match answered(mapping, asked)?.as_bytes() {
         [function, code] if *function >= 0x80 => Some(*code),
-        _ => None,
+        _ => Some(0),
     }
 }
 
@@ -62,14 +74,19 @@ fn checks_come_in_order(rt: HostRuntime) -> Result<(), Fail> {
 #[test]
 fn masks_are_written(rt: HostRuntime) -> Result<(), Fail> {
     let mut mapping = mapping(rt.alloc(), 0, 10, 10)?;
-    assert!(rt; mapping.set(Table::Holding, 4, 0x12));
+    assert!(rt; set(&mut mapping, Table::Holding, 4, 0x12));
     assert_answer(
         &rt,
         &mut mapping,
         b"\x16\x00\x04\x00\xF2\x00\x25",
         b"\x16\x00\x04\x00\xF2\x00\x25",
     );
-    assert_told(&rt, &"masked", &mapping.get(Table::Holding, 4), &Some(0x17));
+    assert_told(
+        &rt,
+        &"masked",
+        &get(&mapping, Table::Holding, 4),
+        &Some(0x17),
+    );
     Ok(())
 }
 
@@ -116,23 +133,23 @@ fn reads_keep_to_their_limits(rt: HostRuntime) -> Result<(), Fail> {
     let mut mapping = mapping(rt.alloc(), 256, 2000, 125)?;
     for (function, most) in [(1u8, 2000u16), (2, 2000), (3, 125), (4, 125)] {
         let rows = [
-            (256, 1, None),
-            (256, most, None),
-            (256 + most - 1, 1, None),
-            (256, 0, Some(3)),
-            (256, most + 1, Some(3)),
-            (255, 1, Some(2)),
-            (255, 2, Some(2)),
-            (256 + most - 1, 2, Some(2)),
-            (256 + most, 1, Some(2)),
-            (65535, 1, Some(2)),
-            (65535, 2, Some(2)),
+            (256, 1, 0),
+            (256, most, 0),
+            (256 + most - 1, 1, 0),
+            (256, 0, 3),
+            (256, most + 1, 3),
+            (255, 1, 2),
+            (255, 2, 2),
+            (256 + most - 1, 2, 2),
+            (256 + most, 1, 2),
+            (65535, 1, 2),
+            (65535, 2, 2),
         ];
         for (start, quantity, wanted) in rows {
             let [high, low] = start.to_be_bytes();
             let [many, few] = quantity.to_be_bytes();
             let asked = [function, high, low, many, few];
-            assert_told(&rt, &asked, &code(&mut mapping, &asked), &wanted);
+            assert_told(&rt, &asked, &code(&mut mapping, &asked), &Some(wanted));
         }
     }
     Ok(())
@@ -159,24 +176,24 @@ fn write(
 fn counted_writes_keep_to_their_limits(rt: HostRuntime) -> Result<(), Fail> {
     let alloc = rt.alloc();
     let mut mapping = mapping(alloc, 256, 1968, 125)?;
-    let rows: [(&[u8], u16, u8, Option<u8>); 17] = [
-        (b"\x0F\x01\x00", 1, 1, None),
-        (b"\x0F\x01\x00", 1968, 246, None),
-        (b"\x0F\x01\x00", 0, 0, Some(3)),
-        (b"\x0F\x01\x00", 1969, 247, Some(3)),
-        (b"\x0F\x00\xFF", 1, 1, Some(2)),
-        (b"\x0F\x08\xAF", 2, 1, Some(2)),
-        (b"\x10\x01\x00", 1, 2, None),
-        (b"\x10\x01\x00", 123, 246, None),
-        (b"\x10\x01\x00", 0, 0, Some(3)),
-        (b"\x10\x01\x00", 124, 246, Some(3)),
-        (b"\x10\x01\x7C", 2, 4, Some(2)),
-        (b"\x17\x01\x00\x00\x7D\x01\x00", 121, 242, None),
-        (b"\x17\x01\x00\x00\x7E\x01\x00", 121, 242, Some(3)),
-        (b"\x17\x01\x00\x00\x00\x01\x00", 1, 2, Some(3)),
-        (b"\x17\x01\x00\x00\x01\x01\x00", 122, 242, Some(3)),
-        (b"\x17\x01\x00\x00\x01\x00\xFF", 1, 2, Some(2)),
-        (b"\x17\x00\xFF\x00\x01\x01\x00", 1, 2, Some(2)),
+    let rows: [(&[u8], u16, u8, u8); 17] = [
+        (b"\x0F\x01\x00", 1, 1, 0),
+        (b"\x0F\x01\x00", 1968, 246, 0),
+        (b"\x0F\x01\x00", 0, 0, 3),
+        (b"\x0F\x01\x00", 1969, 247, 3),
+        (b"\x0F\x00\xFF", 1, 1, 2),
+        (b"\x0F\x08\xAF", 2, 1, 2),
+        (b"\x10\x01\x00", 1, 2, 0),
+        (b"\x10\x01\x00", 123, 246, 0),
+        (b"\x10\x01\x00", 0, 0, 3),
+        (b"\x10\x01\x00", 124, 246, 3),
+        (b"\x10\x01\x7C", 2, 4, 2),
+        (b"\x17\x01\x00\x00\x7D\x01\x00", 121, 242, 0),
+        (b"\x17\x01\x00\x00\x7E\x01\x00", 121, 242, 3),
+        (b"\x17\x01\x00\x00\x00\x01\x00", 1, 2, 3),
+        (b"\x17\x01\x00\x00\x01\x01\x00", 122, 242, 3),
+        (b"\x17\x01\x00\x00\x01\x00\xFF", 1, 2, 2),
+        (b"\x17\x00\xFF\x00\x01\x01\x00", 1, 2, 2),
     ];
     for (head, quantity, count, wanted) in rows {
         let asked = match write(alloc, head, quantity, count) {
@@ -184,7 +201,7 @@ fn counted_writes_keep_to_their_limits(rt: HostRuntime) -> Result<(), Fail> {
             Err(_) => write(alloc, head, quantity, count)?,
         };
         let told = code(&mut mapping, asked.as_slice());
-        assert_told(&rt, &(head, quantity), &told, &wanted);
+        assert_told(&rt, &(head, quantity), &told, &Some(wanted));
     }
     Ok(())
 }
@@ -192,19 +209,19 @@ fn counted_writes_keep_to_their_limits(rt: HostRuntime) -> Result<(), Fail> {
 #[test]
 fn single_writes_keep_to_their_limits(rt: HostRuntime) -> Result<(), Fail> {
     let mut mapping = mapping(rt.alloc(), 256, 1968, 125)?;
-    let rows: [(&[u8], Option<u8>); 9] = [
-        (b"\x05\x00\xFF\xFF\x00", Some(2)),
-        (b"\x05\x01\x00\xFF\x00", None),
-        (b"\x05\x08\xB0\xFF\x00", Some(2)),
-        (b"\x06\x00\xFF\x00\x00", Some(2)),
-        (b"\x06\x01\x7C\x00\x00", None),
-        (b"\x06\x01\x7D\x00\x00", Some(2)),
-        (b"\x16\x00\xFF\x00\x00\x00\x00", Some(2)),
-        (b"\x16\x01\x00\x00\x00\x00\x00", None),
-        (b"\x16\x01\x7D\x00\x00\x00\x00", Some(2)),
+    let rows: [(&[u8], u8); 9] = [
+        (b"\x05\x00\xFF\xFF\x00", 2),
+        (b"\x05\x01\x00\xFF\x00", 0),
+        (b"\x05\x08\xB0\xFF\x00", 2),
+        (b"\x06\x00\xFF\x00\x00", 2),
+        (b"\x06\x01\x7C\x00\x00", 0),
+        (b"\x06\x01\x7D\x00\x00", 2),
+        (b"\x16\x00\xFF\x00\x00\x00\x00", 2),
+        (b"\x16\x01\x00\x00\x00\x00\x00", 0),
+        (b"\x16\x01\x7D\x00\x00\x00\x00", 2),
     ];
     for (asked, wanted) in rows {
-        assert_told(&rt, &asked, &code(&mut mapping, asked), &wanted);
+        assert_told(&rt, &asked, &code(&mut mapping, asked), &Some(wanted));
     }
     Ok(())
 }
@@ -238,7 +255,7 @@ fn cells_are_set(rt: HostRuntime) -> Result<(), Fail> {
         (Table::Input, 5, 65535, true),
     ];
     for (table, address, number, is_set) in writes {
-        let told = mapping.set(table, address, number);
+        let told = set(&mut mapping, table, address, number);
         assert_told(&rt, &(table, address), &told, &is_set);
     }
     let cells = [
@@ -248,33 +265,45 @@ fn cells_are_set(rt: HostRuntime) -> Result<(), Fail> {
         (Table::Holding, 4, None),
     ];
     for (table, address, number) in cells {
-        let told = mapping.get(table, address);
+        let told = get(&mapping, table, address);
         assert_told(&rt, &(table, address), &told, &number);
     }
     Ok(())
 }
 
+fn refusal(alloc: Global, start: u32, size: u32) -> Option<MapError> {
+    Mapping::new_start_address(alloc, 0, 1, 0, 1, 0, 1, start, size).err()
+}
+
+/// What the holding register at the last address holds.
+fn last_register(mapping: &Mapping) -> Option<u16> {
+    get(mapping, Table::Holding, 65535)
+}
+
 #[test]
 fn sizes_are_checked(rt: HostRuntime) -> Result<(), Fail> {
-    let alloc = rt.alloc();
-    let mut empty = mapping(alloc, 65536, 0, 0)?;
+    let mut empty = mapping(rt.alloc(), 65536, 0, 0)?;
     assert_answer(&rt, &mut empty, b"\x01\xFF\xFF\x00\x01", b"\x81\x02");
-    let whole = mapping(alloc, 0, 65536, 65536)?;
-    assert_told(&rt, &"whole", &whole.get(Table::Holding, 65535), &Some(0));
     for (start, size) in [(65536, 1), (0, 65537), (u32::MAX, u32::MAX)] {
-        let refused = Mapping::new_start_address(alloc, 0, 1, 0, 1, 0, 1, start, size).err();
-        assert_told(&rt, &(start, size), &refused, &Some(MapError::TooLarge));
+        let told = refusal(rt.alloc(), start, size);
+        assert_told(&rt, &(start, size), &told, &Some(MapError::TooLarge));
     }
     Ok(())
 }
 
-/// Without starts the tables begin at 0.
+fn unstarted(alloc: Global) -> Result<Mapping, MapError> {
+    Mapping::new(alloc, 65536, 65536, 65536, 65536)
+}
+
+/// Without starts the tables begin at 0, as with these starts.
 #[test]
 fn tables_without_starts(rt: HostRuntime) -> Result<(), Fail> {
-    let whole = match Mapping::new(rt.alloc(), 65536, 65536, 65536, 65536) {
-        Err(MapError::Memory) => Mapping::new(rt.alloc(), 65536, 65536, 65536, 65536)?,
+    let whole = match unstarted(rt.alloc()) {
+        Err(MapError::Memory) => unstarted(rt.alloc())?,
         other => other?,
     };
-    assert_told(&rt, &"last", &whole.get(Table::Holding, 65535), &Some(0));
+    assert_told(&rt, &"last", &last_register(&whole), &Some(0));
+    let started = mapping(rt.alloc(), 0, 65536, 65536)?;
+    assert_told(&rt, &"last", &last_register(&started), &Some(0));
     Ok(())
 }

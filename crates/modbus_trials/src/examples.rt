@@ -149,16 +149,23 @@ fn are_registers(request: &Request, bytes: &[u8], expected: &[u16]) -> bool {
 }
 
 /// The coils 20 to 38: CD is 1100 1101, the coils 27 to 20.
-const COILS: &[bool] = &[
-    true, false, true, true, false, false, true, true, // 27 to 20
-    true, true, false, true, false, true, true, false, // 35 to 28
-    true, false, true,
-];
+fn coils() -> [bool; 19] {
+    [
+        true, false, true, true, false, false, true, true, // 20 to 27
+        true, true, false, true, false, true, true, false, // 28 to 35
+        true, false, true,
+    ]
+}
 
 #[test]
 fn coils_of_the_standard(rt: HostRuntime) -> Result<(), Fail> {
     let request = request_of(&[1, 0, 0x13, 0, 0x13])?;
-    assert!(rt; are_bits(&request, &[1, 3, 0xCD, 0x6B, 5], COILS));
+    let span = Span {
+        start: 19,
+        quantity: 19,
+    };
+    assert_told(&rt, &"asked", &request, &Request::ReadCoils(span));
+    assert!(rt; are_bits(&request, &[1, 3, 0xCD, 0x6B, 5], &coils()));
     Ok(())
 }
 

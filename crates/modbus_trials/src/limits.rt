@@ -208,38 +208,42 @@ fn refusals_in_their_order(rt: HostRuntime) {
     }
 }
 
-fn holds_unit(bytes: &[u8]) -> bool {
-    Unit::from_bytes(bytes).is_some_and(|unit| unit.as_bytes() == bytes)
+/// Whether a unit of the bytes holds them, where there is one.
+fn holds_unit(bytes: &[u8]) -> Option<bool> {
+    let unit = Unit::from_bytes(bytes)?;
+    Some(unit.as_bytes() == bytes)
 }
 
-fn holds_words(words: &[u16]) -> bool {
-    Registers::from_slice(words).is_some_and(|kept| kept.as_slice() == words)
+fn holds_words(words: &[u16]) -> Option<bool> {
+    let kept = Registers::from_slice(words)?;
+    Some(kept.as_slice() == words)
 }
 
-fn holds_bits(bits: &[bool]) -> bool {
-    Bits::from_slice(bits).is_some_and(|kept| kept.as_slice() == bits)
+fn holds_bits(bits: &[bool]) -> Option<bool> {
+    let kept = Bits::from_slice(bits)?;
+    Some(kept.as_slice() == bits)
 }
 
 #[test]
 fn units_hold_what_fits(rt: HostRuntime) {
     let bytes = [7u8; 254];
-    for (length, fits) in [(0, false), (1, true), (253, true), (254, false)] {
-        assert_told(&rt, &length, &holds_unit(&bytes[..length]), &fits);
+    for (length, expected) in [(0, None), (1, Some(true)), (253, Some(true)), (254, None)] {
+        assert_told(&rt, &length, &holds_unit(&bytes[..length]), &expected);
     }
 }
 
 #[test]
 fn registers_hold_what_fits(rt: HostRuntime) {
     let words = [7u16; 126];
-    for (length, fits) in [(0, false), (1, true), (125, true), (126, false)] {
-        assert_told(&rt, &length, &holds_words(&words[..length]), &fits);
+    for (length, expected) in [(0, None), (1, Some(true)), (125, Some(true)), (126, None)] {
+        assert_told(&rt, &length, &holds_words(&words[..length]), &expected);
     }
 }
 
 #[test]
 fn bits_hold_what_fits(rt: HostRuntime) {
     let bits = [true; 2001];
-    for (length, fits) in [(0, false), (1, true), (2000, true), (2001, false)] {
-        assert_told(&rt, &length, &holds_bits(&bits[..length]), &fits);
+    for (length, expected) in [(0, None), (1, Some(true)), (2000, Some(true)), (2001, None)] {
+        assert_told(&rt, &length, &holds_bits(&bits[..length]), &expected);
     }
 }

@@ -70,17 +70,28 @@ fn a_frame_is_spelled_and_read(rt: HostRuntime) -> Result<(), Fail> {
     Ok(())
 }
 
+fn cut(bytes: &[u8], place: usize) -> (&[u8], &[u8]) {
+    bytes.split_at(place.min(bytes.len()))
+}
+
+/// Whether the reply is read in two pieces.
+fn is_read_in_two(alloc: Global, place: usize) -> Result<bool, AllocError> {
+    let (front, back) = cut(&REPLY, place);
+    gives(alloc, &[front, back], 1, None)
+}
+
 /// Whether the reply is read in three pieces, cut at both places.
 fn is_read_in_three(alloc: Global, first: usize, second: usize) -> Result<bool, AllocError> {
-    let (front, back) = REPLY.split_at(second.min(15));
-    let (left, middle) = front.split_at(first.min(front.len()));
+    let (front, back) = cut(&REPLY, second);
+    let (left, middle) = cut(front, first);
     gives(alloc, &[left, middle, back], 1, None)
 }
 
 #[test]
 fn cut_in_two_and_in_three(rt: HostRuntime) -> Result<(), Fail> {
     for second in 0..=15 {
-        // A first cut at the second one leaves two pieces and an empty one between them.
+        let is_read = is_read_in_two(rt.alloc(), second)?;
+        assert!(rt; is_read, "cut at {second}");
         for first in 0..=second {
             let is_read = is_read_in_three(rt.alloc(), first, second)?;
             assert!(rt; is_read, "cut at {first} and {second}");
@@ -189,45 +200,36 @@ fn pieces_of_headers_are_not_judged(rt: HostRuntime) -> Result<(), Fail> {
     Ok(())
 }
 
-/// Whether a stream is one frame with this head, which is spelled so again.
-fn is_one_frame(
-    alloc: Global,
-    stream: &[u8],
-    transaction: u16,
-    unit_id: u8,
-) -> Result<bool, AllocError> {
-    let mut reader = FrameReader::new(alloc);
-    let mut fed = feed(&mut reader, stream)?;
-    let last = fed.frames.pop();
-    Ok(
-        fed.frames.is_empty()
-            && last.is_some_and(|frame| is_frame(&frame, transaction, unit_id, stream)),
-    )
-}
-
-fn is_frame(frame: &Frame, transaction: u16, unit_id: u8, stream: &[u8]) -> bool {
-    frame.transaction == transaction
-        && frame.unit_id == unit_id
-        && has_unit(frame, &stream[stream.len().min(7)..])
-        && is_spelled(frame, stream)
-}
-
 fn has_unit(frame: &Frame, bytes: &[u8]) -> bool {
     frame.unit.as_bytes() == bytes
 }
 
-#[test]
-fn the_largest_frame(rt: HostRuntime) -> Result<(), Fail> {
-    let mut largest = [0u8; 260];
-    largest[5] = 254;
-    largest[259] = 9;
-    assert!(rt; is_one_frame(rt.alloc(), &largest, 0, 0)?);
-    Ok(())
+fn has_head(frame: &Frame, transaction: u16, unit_id: u8) -> bool {
+    frame.transaction == transaction && frame.unit_id == unit_id
+}
+
+/// The last frame of a piece, if it has no other.
+fn only_frame(reader: &mut FrameReader, piece: &[u8]) -> Result<Option<Frame>, AllocError> {
+    let mut fed = feed(reader, piece)?;
+    let last = fed.frames.pop();
+    if fed.frames.is_empty() {
+        Ok(last)
+    } else {
+        Ok(None)
+    }
 }
 
 #[test]
-fn the_smallest_frame(rt: HostRuntime) -> Result<(), Fail> {
+fn the_largest_and_the_smallest_frame(rt: HostRuntime) -> Result<(), Fail> {
+    let mut largest = [0u8; 260];
+    largest[5] = 254;
+    largest[259] = 9;
+    let mut reader = FrameReader::new(rt.alloc());
+    let frame = only_frame(&mut reader, &largest)?.ok_or("a frame")?;
+    assert!(rt; has_unit(&frame, &largest[7..]) && is_spelled(&frame, &largest));
     let smallest = [1u8, 2, 0, 0, 0, 2, 3, 4];
-    assert!(rt; is_one_frame(rt.alloc(), &smallest, 0x0102, 3)?);
+    let frame = only_frame(&mut reader, &smallest)?.ok_or("a frame")?;
+    assert!(rt; has_head(&frame, 0x0102, 3) && has_unit(&frame, &[4]));
+    assert!(rt; is_spelled(&frame, &smallest));
     Ok(())
 }
