@@ -21,7 +21,7 @@ use Rattle.office_script.specs.Frames.{fields_in, is_whole}
 use Rattle.office_script.specs.declared.command.Verb.{Verb}
 use Rattle.office_script.specs.declared.command.Verb.TheVariants as verb
 use Rattle.office_script.specs.Commands.{verb_of, event_by, number_limit, byte_limit, word_limit, list_header, list_with, point_of, open_of, read_of, asking, ask_of, frame_in, arriving, reply_of, event_of_words, record_in, event_with, event_of}
-use Rattle.office_script.proofs.Texts.{all_ascii}
+use Rattle.point_list.proofs.Labels.{all_ascii}
 
 same : {A : Type 0} (x y : A) → Some x ≡ Some y → y ≡ x
 same x y e = cc

@@ -1,39 +1,19 @@
 -- Words as texts, and as bytes.
 use Rattle.std.proofs.Common.{◌≡◌, ◌<◌, ◌+◌, ◌*◌, ◌/◌, ◌%◌, ◌==◌, ℕ, zero, suc, Bool, true, false, cond, List, [], ◌∷◌, ◌++◌, length, take, get_or, slice_index, refl, sym, ap, ◌∙◌, arith, Option, Some, None, Result, Ok, Err}
-use Rattle.std.specs.Prelude.{MatchBool, option_map}
-use Rattle.std.proofs.lemmas.Bool.{and_parts, and_from}
+use Rattle.std.specs.Prelude.{option_map}
+use Rattle.std.proofs.lemmas.Bool.{and_parts}
 use Rattle.std.proofs.lemmas.Bool.Decides.{nat_tests}
 use Rattle.std.proofs.lemmas.Str.{IsUtf8-from_ascii}
-use Rattle.std.proofs.lemmas.Str.Ascii.{IsAscii-nil, IsAscii-cons}
 use Rattle.std.specs.Borrow.{Bor}
 use Rattle.std.specs.Char.{is_ascii}
 use Rattle.std.specs.List.{list_all}
 use Rattle.std.specs.Result.{result_ok}
-use Rattle.std.specs.Str.{IsAscii, IsNotAscii, IsUtf8}
+use Rattle.std.specs.Str.{IsUtf8}
+use Rattle.point_list.proofs.Labels.{all_ascii}
 use Rattle.hex.specs.Hex.{hex_digit_value, digit_or_error, decode_pairs, decode_sized, ◌>>=◌}
 use Rattle.hex.specs.declared.error.FromHexError.{FromHexError}
 use Rattle.hex.specs.declared.error.FromHexError.TheVariants.{OddLength, InvalidStringLength}
 use Rattle.office_script.specs.Words.{is_text, joined, texts, byte_of, bytes_of, onto_bytes}
-
-ascii_below : (b : ℕ) → is_ascii b ≡ true → b < 128
-ascii_below b h = grind (arith, nat_tests)
-
-pub all_ascii : (text : List ℕ) → list_all is_ascii text ≡ true → IsAscii text
-all_ascii [] h = IsAscii-nil
-all_ascii (b ∷ bs) h = let (here, more) = and_parts (is_ascii b) (list_all is_ascii bs) h in IsAscii-cons b bs (ascii_below b here) (all_ascii bs more)
-
-ascii_passes : (text : List ℕ) → IsAscii text → list_all is_ascii text ≡ true
-ascii_passes [] h = refl
-ascii_passes (b ∷ bs) h = and_from (is_ascii b) (list_all is_ascii bs) (let low = h 0 in grind (arith, nat_tests, low)) (ascii_passes bs (λ i. h (suc i)))
-
--- std's test of a text
-pub ascii_test : (text : List ℕ) (b : Bool) → MatchBool b (IsAscii text) (IsNotAscii text) → b ≡ list_all is_ascii text
-ascii_test text true h = sym (ascii_passes text h)
-ascii_test text false (i, high) = by (list_all is_ascii text) (all_ascii text)
-  where
-    by : (b : Bool) → (b ≡ true → IsAscii text) → false ≡ b
-    by false h = refl
-    by true h = let low = h refl i in absurd (omega (arith, low, high))
 
 -- a word of ASCII is UTF-8
 pub is_utf8 : (word : List ℕ) → is_text word ≡ true → IsUtf8 word

@@ -7,11 +7,11 @@ ghost use Rattle.office_script.specs.Commands.{ask_of, byte_limit, event_for, ev
 
 use crate::cutting::words;
 use crate::whole_frame::whole_frame;
-use crate::word::{bytes, is_ascii, is_text, number, text};
+use crate::word::{bytes, is_text, number, text};
 use mb_mbap::Frame;
 use mb_pdu::Span;
 use office_core::Event;
-use point_list::Items;
+use point_list::{Items, is_ascii};
 use poll_match::Conn;
 use read_planner::Read;
 use std::alloc::{AllocError, Global};

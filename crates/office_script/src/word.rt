@@ -1,13 +1,11 @@
 //! What a word spells: a number, a text, or a byte in hexadecimal digits.
 ghost use Rattle.std.specs.Prelude.{◌≡◌, IfOk, option_map, true};
-ghost use Rattle.std.specs.Char.{is_ascii};
-ghost use Rattle.std.specs.List.{list_all};
 ghost use Rattle.sunspec.specs.Digits.{number_within};
 ghost use Rattle.office_script.specs.Words as words;
 ghost use Rattle.office_script.specs.Words.{byte_of, bytes_of, texts};
 
 use hex::FromHex;
-use point_list::Text;
+use point_list::{Text, is_ascii};
 use std::alloc::{AllocError, Global};
 use std::str;
 use sunspec::digits::within;
@@ -20,13 +18,6 @@ pub(crate) fn number(word: &[u8], limit: u32) -> Option<u32>
         Some(number) => Some(number as u32),
         None => None,
     }
-}
-
-/// Whether all bytes are ASCII.
-pub(crate) fn is_ascii(bytes: &[u8]) -> bool
-    ensures { result ≡ list_all is_ascii bytes.now }
-{
-    bytes.is_ascii()
 }
 
 /// Whether a word is one byte or more, all of them ASCII.

@@ -26,7 +26,8 @@ impl Model for Label {
     ghost inverse = { λ text. record { text = text } };
 }
 
-fn is_ascii(text: &[u8]) -> bool
+/// Whether all bytes are ASCII.
+pub fn is_ascii(text: &[u8]) -> bool
     ensures { result ≡ list_all is_ascii text.now }
 {
     text.iter().all(|byte| byte.is_ascii())

@@ -17,7 +17,7 @@ mod texts;
 
 pub use error::{ListError, ListFault};
 pub use items::Items;
-pub use label::Label;
+pub use label::{Label, is_ascii};
 pub use list::{read_list, resolve};
 pub use name::Name;
 pub use point::{ListRow, Point, Role};
