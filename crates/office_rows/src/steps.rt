@@ -1,7 +1,7 @@
 //! Steps of a script, and their play.
 use crate::builders::{MEMORY, event_of, office_over, query};
 use office_core::{Arrival, Event, EventAnswer, LoadFault, Office, OfficeError, Outcome, Reason};
-use poll_book::{Keeper, MemKeeper, StoreFault};
+use poll_book::{Keeper, MemKeeper, PointRow, StoreFault};
 use poll_match::Conn;
 use std::alloc::Global;
 use std::process::Abort;
@@ -49,6 +49,7 @@ pub(crate) enum Step {
 }
 
 /// The answer that a step expects to what happens.
+#[tactic(none)]
 pub(crate) fn expected(happens: &Happens, told: &Told) -> Result<EventAnswer, OfficeError> {
     match *told {
         Told::Loaded(count) => Ok(EventAnswer::Judged(Outcome::Loaded(count))),
@@ -65,12 +66,12 @@ pub(crate) fn expected(happens: &Happens, told: &Told) -> Result<EventAnswer, Of
     }
 }
 
-// A function for each test of answers, since the facts of `==` would burden its caller's proof.
+#[tactic(none)]
 pub(crate) fn is_same(a: &EventAnswer, b: &EventAnswer) -> bool {
     *a == *b
 }
 
-/// Whether the keeper's fault was told.
+#[tactic(none)]
 pub(crate) fn is_refused(answer: &EventAnswer, fault: StoreFault) -> bool {
     *answer == EventAnswer::Refused(OfficeError::Store(fault))
 }
@@ -104,10 +105,9 @@ pub(crate) fn has_words<K: Keeper>(
     })
 }
 
-/// Whether so many points are known, which are numbered on from 1.
-fn has_points(office: &Office<MemKeeper>, count: u32) -> bool {
+fn are_numbered_on(points: &[PointRow], count: u32) -> bool {
     let mut last = 0u32;
-    for row in office.points() {
+    for row in points {
         last = last.saturating_add(1);
         if row.number != last {
             return false;
@@ -121,7 +121,7 @@ fn holds(office: &mut Office<MemKeeper>, step: &Step) -> Result<bool, OfficeErro
         Step::Is(_, _) => Ok(true),
         Step::Words(point, slot, words) => has_words(office, point, slot, words),
         Step::Total(point, total) => Ok(office.total(point)? == total),
-        Step::Points(count) => Ok(has_points(office, count)),
+        Step::Points(count) => Ok(are_numbered_on(office.points(), count)),
         Step::Unknown(point) => {
             Ok(office.readings(point, 0, u32::MAX)?.is_none() && office.total(point)?.is_none())
         }
