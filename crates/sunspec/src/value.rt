@@ -4,8 +4,8 @@ ghost use Rattle.mb_pdu.specs.Packing.{words_text};
 ghost use Rattle.sunspec.specs.PointType.{IsSized, bits};
 ghost use Rattle.sunspec.specs.Value.{AreRegistersOf, number_meant, register_sum, text_meant, value};
 
-use crate::point_type::{Content, PointType, greatest_of};
 use crate::fixed_text::ShortText;
+use crate::point_type::{Content, PointType, greatest_of};
 
 /// What the registers of a point mean.
 #[derive(Clone, Copy, Debug, PartialEq, Eq)]
