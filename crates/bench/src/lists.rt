@@ -1,8 +1,6 @@
-//! Reading a list of 10,000 points and a site of 64 lines and 256 devices, and loading the list twice.
+//! Reading a list of 10,000 points and a site of 64 lines and 256 devices.
 use crate::pace::print_each;
-use office_core::Office;
 use point_list::{Site, read_list, read_site};
-use poll_book::MemKeeper;
 use std::alloc::{AllocError, Global};
 use std::io;
 use std::rt::Clock;
@@ -62,24 +60,6 @@ fn measure_list<R: Print + Clock + AllocGlobal>(rt: &R, site: &Site, text: &str)
     print_each(rt, "point of a list", POINTS, took)
 }
 
-/// Loads the list into an office that knows none of its points, and once more where it knows them all.
-fn measure_loads<R: Print + Clock>(
-    rt: &R,
-    office: &mut Office<MemKeeper>,
-    text: &str,
-) -> io::Result<()> {
-    for known in [0, POINTS] {
-        let start = Instant::now(rt)?;
-        let outcome = office.load(text.as_bytes());
-        let took = start.elapsed(rt)?;
-        println!(rt;
-            "loaded over {known} known points in {} us: {outcome:?}",
-            took.as_micros()
-        )?;
-    }
-    Ok(())
-}
-
 pub fn measure<R: Print + Clock + AllocGlobal>(rt: &R) -> io::Result<()> {
     let text = site_text(rt.alloc())?;
     let start = Instant::now(rt)?;
@@ -93,9 +73,5 @@ pub fn measure<R: Print + Clock + AllocGlobal>(rt: &R) -> io::Result<()> {
         took.as_micros()
     )?;
     let list = list_text(rt.alloc())?;
-    measure_list(rt, &site, list.as_str())?;
-    match Office::new(rt.alloc(), MemKeeper::new(rt.alloc()), site) {
-        Ok(mut office) => measure_loads(rt, &mut office, list.as_str()),
-        Err((error, _)) => println!(rt; "no office: {error}"),
-    }
+    measure_list(rt, &site, list.as_str())
 }

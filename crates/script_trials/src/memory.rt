@@ -11,8 +11,9 @@ fn refused_memory(rt: HostRuntime) -> Result<(), Fail> {
         Ok(run) => run,
         Err(_) => played(rt.alloc(), COUNTER.as_bytes(), room)?,
     };
+    let ended = run.ended;
     let text = shown(&run.text);
-    let is_right = match run.ended {
+    let is_right = match ended {
         Err(ReplayFault::Memory) => COUNTER_TEXT.starts_with(text),
         ended => ended == Ok(Replayed::Done) && text == COUNTER_TEXT,
     };
