@@ -1,6 +1,10 @@
-//! Reading a list of 10,000 points and a site of 64 lines and 256 devices.
+//! Reading a list of 10,000 points and a site of 64 lines and 256 devices, and loading the list twice.
+ghost use Rattle.point_list.specs.Sites.{IsSound};
+
 use crate::pace::print_each;
+use office_core::{Office, OfficeError, Outcome};
 use point_list::{Site, read_list, read_site};
+use poll_book::MemKeeper;
 use std::alloc::{AllocError, Global};
 use std::io;
 use std::rt::Clock;
@@ -60,6 +64,36 @@ fn measure_list<R: Print + Clock + AllocGlobal>(rt: &R, site: &Site, text: &str)
     print_each(rt, "point of a list", POINTS, took)
 }
 
+// The calls of an office stand in functions that promise nothing of them: a measure needs nothing.
+
+fn begun(alloc: Global, site: Site) -> Result<Office<MemKeeper>, OfficeError>
+    requires { IsSound site }
+{
+    Office::new(alloc, MemKeeper::new(alloc), site).map_err(|(error, _)| error)
+}
+
+fn load(office: &mut Office<MemKeeper>, text: &str) -> Result<Outcome, OfficeError> {
+    office.load(text.as_bytes())
+}
+
+/// Loads the list into an office that knows none of its points, and once more where it knows them all.
+fn measure_loads<R: Print + Clock>(
+    rt: &R,
+    office: &mut Office<MemKeeper>,
+    text: &str,
+) -> io::Result<()> {
+    for known in [0, POINTS] {
+        let start = Instant::now(rt)?;
+        let outcome = load(office, text);
+        let took = start.elapsed(rt)?;
+        println!(rt;
+            "loaded over {known} known points in {} us: {outcome:?}",
+            took.as_micros()
+        )?;
+    }
+    Ok(())
+}
+
 pub fn measure<R: Print + Clock + AllocGlobal>(rt: &R) -> io::Result<()> {
     let text = site_text(rt.alloc())?;
     let start = Instant::now(rt)?;
@@ -73,5 +107,9 @@ pub fn measure<R: Print + Clock + AllocGlobal>(rt: &R) -> io::Result<()> {
         took.as_micros()
     )?;
     let list = list_text(rt.alloc())?;
-    measure_list(rt, &site, list.as_str())
+    measure_list(rt, &site, list.as_str())?;
+    match begun(rt.alloc(), site) {
+        Ok(mut office) => measure_loads(rt, &mut office, list.as_str()),
+        Err(error) => println!(rt; "no office: {error}"),
+    }
 }

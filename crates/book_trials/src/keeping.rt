@@ -1,8 +1,8 @@
 //! What a keeper in memory gives back, and that a refusal leaves it as it was.
 ghost use Rattle.std.specs.Prelude.{◌<◌, ◌≤◌, length};
 
-use crate::asserting::assert_told;
 use crate::storing::{apply, counter, reading, readings, store, store_once};
+use asserting::{assert_shown, assert_told};
 use point_list::Items;
 use poll_book::{Change, Keeper, MemKeeper, PointRow, ReadingRow, StoreFault, Words};
 use std::alloc::{AllocError, Global};
@@ -124,14 +124,6 @@ fn registers_in_place_and_not(rt: HostRuntime) -> Result<(), Fail> {
     Ok(())
 }
 
-/// The text of a refusal, made once more where memory was refused.
-fn text_of(alloc: Global, refusal: StoreFault) -> Result<String, AllocError> {
-    match refusal.to_string(alloc) {
-        Ok(text) => Ok(text),
-        Err(_) => refusal.to_string(alloc),
-    }
-}
-
 #[test]
 fn texts_of_refusals(rt: HostRuntime) -> Result<(), Fail> {
     for (refusal, text) in [
@@ -140,8 +132,7 @@ fn texts_of_refusals(rt: HostRuntime) -> Result<(), Fail> {
         (StoreFault::Disk, "disk"),
         (StoreFault::Other, "other"),
     ] {
-        let told = text_of(rt.alloc(), refusal)?;
-        assert_told(&rt, &text, &told.as_str(), &text);
+        assert_shown(&rt, rt.alloc(), &refusal, text)?;
     }
     Ok(())
 }

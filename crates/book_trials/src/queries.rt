@@ -1,10 +1,10 @@
 //! Connections and queries as the Messaging Guide matches them.
-use crate::asserting::assert_told;
+use asserting::{assert_shown, assert_told};
 use mb_mbap::Frame;
 use mb_pdu::{Span, Unit};
 use poll_match::{Asked, Conn, MatchError, Matcher};
 use read_planner::Read;
-use std::alloc::{AllocError, Global};
+use std::alloc::Global;
 use std::test::Fail;
 
 fn asking(slot: u32, start: u16, quantity: u16) -> Asked {
@@ -188,14 +188,6 @@ fn connections_open_and_close(rt: HostRuntime) -> Result<(), Fail> {
     Ok(())
 }
 
-/// The text of a refusal, made once more where memory was refused.
-fn text_of(alloc: Global, refusal: &MatchError) -> Result<String, AllocError> {
-    match refusal.to_string(alloc) {
-        Ok(text) => Ok(text),
-        Err(_) => refusal.to_string(alloc),
-    }
-}
-
 #[test]
 fn texts_of_refusals(rt: HostRuntime) -> Result<(), Fail> {
     use MatchError::*;
@@ -209,12 +201,7 @@ fn texts_of_refusals(rt: HostRuntime) -> Result<(), Fail> {
         (Exhausted, "no query number is left"),
     ];
     for (refusal, text) in cases {
-        assert_told(
-            &rt,
-            &refusal,
-            &text_of(rt.alloc(), &refusal)?.as_str(),
-            &text,
-        );
+        assert_shown(&rt, rt.alloc(), &refusal, text)?;
     }
     Ok(())
 }

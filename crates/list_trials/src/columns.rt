@@ -1,5 +1,5 @@
 //! Each column at its limits and one past them, and which fault comes first.
-use crate::asserting::assert_told;
+use asserting::assert_told;
 use mb_pdu::Table;
 use point_list::{
     Device, Items, Label, Line, ListError, ListFault, ListRow, Name, Point, Role, Site, Text,
@@ -32,6 +32,12 @@ fn site_of(alloc: Global, name: &str) -> Result<Site, AllocError> {
     })
 }
 
+const MEMORY: ListError = ListError {
+    fault: ListFault::Memory,
+    row: 0,
+    column: 0,
+};
+
 /// What the list of the header and this text reads as, and once more where memory was refused.
 pub(crate) fn read(alloc: Global, body: &str) -> Result<Vec<ListRow>, ListError> {
     match read_once(alloc, body) {
@@ -41,25 +47,29 @@ pub(crate) fn read(alloc: Global, body: &str) -> Result<Vec<ListRow>, ListError>
 }
 
 pub(crate) fn read_once(alloc: Global, body: &str) -> Result<Vec<ListRow>, ListError> {
-    let memory = ListError {
-        fault: ListFault::Memory,
-        row: 0,
-        column: 0,
-    };
-    let Ok(site) = site(alloc) else {
-        return Err(memory);
+    read_in(alloc, "m1", body)
+}
+
+/// The same in a site with a device of this name.
+fn read_in(alloc: Global, device: &str, body: &str) -> Result<Vec<ListRow>, ListError> {
+    let Ok(site) = site_of(alloc, device) else {
+        return Err(MEMORY);
     };
     match format!(in alloc; "{HEADER}{body}") {
         Ok(text) => read_list(alloc, text.as_bytes(), &site),
-        Err(_) => Err(memory),
+        Err(_) => Err(MEMORY),
+    }
+}
+
+fn fault(read: Result<Vec<ListRow>, ListError>) -> Option<(ListFault, u8)> {
+    match read {
+        Ok(_) => None,
+        Err(e) => Some((e.fault, e.column)),
     }
 }
 
 fn fault_of(alloc: Global, record: &str) -> Option<(ListFault, u8)> {
-    match read(alloc, record) {
-        Ok(_) => None,
-        Err(e) => Some((e.fault, e.column)),
-    }
+    fault(read(alloc, record))
 }
 
 fn first_row(alloc: Global, record: &str) -> Option<ListRow> {
@@ -85,20 +95,25 @@ fn what_a_record_says(rt: HostRuntime) -> Result<(), Fail> {
     Ok(())
 }
 
-/// The fault of a point of the device of this name, in a site that has it.
-fn fault_at(alloc: Global, device: &str) -> Result<Option<(ListFault, u8)>, AllocError> {
-    let site = site_of(alloc, device)?;
-    let text = format!(in alloc; "{HEADER}e,{device},holding,107,uint16,,,gauge,\n")?;
-    match read_list(alloc, text.as_bytes(), &site) {
-        Ok(_) => Ok(None),
-        Err(e) if e.fault == ListFault::Memory => Err(AllocError),
-        Err(e) => Ok(Some((e.fault, e.column))),
+/// What the list of a point of the device of this name reads as, in a site that has it.
+fn read_at(alloc: Global, device: &str) -> Result<Vec<ListRow>, ListError> {
+    match format!(in alloc; "e,{device},holding,107,uint16,,,gauge,\n") {
+        Ok(record) => read_in(alloc, device, record.as_str()),
+        Err(_) => Err(MEMORY),
+    }
+}
+
+/// The fault of that list, read once more where memory was refused.
+fn fault_at(alloc: Global, device: &str) -> Option<(ListFault, u8)> {
+    match read_at(alloc, device) {
+        Err(e) if e.fault == ListFault::Memory => fault(read_at(alloc, device)),
+        other => fault(other),
     }
 }
 
 /// A point can have a device of any name of 1 to 64 ASCII characters.
 #[test]
-fn names_of_devices(rt: HostRuntime) -> Result<(), Fail> {
+fn names_of_devices(rt: HostRuntime) {
     let unknown = Some((ListFault::UnknownDevice, 2));
     let cases = [
         ("m1", None),
@@ -115,13 +130,8 @@ fn names_of_devices(rt: HostRuntime) -> Result<(), Fail> {
         ("z\u{e4}hler", unknown),
     ];
     for (device, wanted) in &cases {
-        let fault = match fault_at(rt.alloc(), device) {
-            Ok(fault) => fault,
-            Err(_) => fault_at(rt.alloc(), device)?,
-        };
-        assert_told(&rt, device, &fault, wanted);
+        assert_told(&rt, device, &fault_at(rt.alloc(), device), wanted);
     }
-    Ok(())
 }
 
 /// Asserts the fault of each list of one record and its column, or that there is none.

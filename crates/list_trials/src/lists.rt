@@ -1,9 +1,8 @@
 //! Whole lists: the header, line ends, names twice, and how many points there may be.
-use crate::asserting::assert_told;
 use crate::columns::{read, read_once, site};
+use asserting::{assert_shown, assert_told};
 use point_list::{ListError, ListFault, Point, read_list, resolve};
 use std::alloc::{AllocError, Global};
-use std::fmt;
 use std::test::Fail;
 
 fn error(fault: ListFault, row: u32, column: u8) -> ListError {
@@ -143,14 +142,6 @@ fn refused_memory_is_told(rt: HostRuntime) {
     assert!(rt; told == Ok(2) || told == memory, "{told:?}");
 }
 
-/// What is shown of it, and once more where memory was refused.
-fn text_of<T: fmt::Display>(alloc: Global, shown: &T) -> Result<String, AllocError> {
-    match format!(in alloc; "{shown}") {
-        Ok(text) => Ok(text),
-        Err(_) => format!(in alloc; "{shown}"),
-    }
-}
-
 #[test]
 fn texts_of_faults(rt: HostRuntime) -> Result<(), Fail> {
     use ListFault::*;
@@ -172,10 +163,8 @@ fn texts_of_faults(rt: HostRuntime) -> Result<(), Fail> {
         (BadSite, "bad site"),
     ];
     for (fault, text) in cases {
-        assert_told(&rt, &fault, &text_of(rt.alloc(), &fault)?.as_str(), &text);
+        assert_shown(&rt, rt.alloc(), &fault, text)?;
     }
     let whole = error(BadRole, 3, 8);
-    let text = text_of(rt.alloc(), &whole)?;
-    assert_told(&rt, &whole, &text.as_str(), &"bad role row 3 column 8");
-    Ok(())
+    Ok(assert_shown(&rt, rt.alloc(), &whole, "bad role row 3 column 8")?)
 }

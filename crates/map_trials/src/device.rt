@@ -1,5 +1,5 @@
 //! Requests to the tables of a device, on both sides of each limit.
-use crate::asserting::assert_told;
+use asserting::assert_told;
 use mb_map::{MapError, Mapping, Table};
 use mb_pdu::Unit;
 use std::alloc::Global;
@@ -162,13 +162,10 @@ fn write(
     quantity: u16,
     count: u8,
 ) -> Result<Vec<u8>, std::alloc::AllocError> {
-    let mut bytes = Vec::with_capacity(alloc, 300)?;
-    bytes.extend_from_slice(head)?;
-    bytes.extend_from_slice(&quantity.to_be_bytes())?;
-    bytes.push(count)?;
-    for _ in 0..count {
-        bytes.push(0)?;
-    }
+    let [high, low] = quantity.to_be_bytes();
+    let mut bytes = Vec::from_slice(alloc, head)?;
+    bytes.extend_from_slice(&[high, low, count])?;
+    bytes.resize(bytes.len() + count as usize, 0)?;
     Ok(bytes)
 }
 
@@ -291,15 +288,15 @@ fn sizes_are_checked(rt: HostRuntime) -> Result<(), Fail> {
     Ok(())
 }
 
-fn unstarted(alloc: Global) -> Result<Mapping, MapError> {
-    Mapping::new(alloc, 65536, 65536, 65536, 65536)
+fn unstarted(alloc: Global, size: u32) -> Result<Mapping, MapError> {
+    Mapping::new(alloc, size, size, size, size)
 }
 
 /// Without starts the tables begin at 0, as with these starts.
 #[test]
 fn tables_without_starts(rt: HostRuntime) -> Result<(), Fail> {
-    let whole = match unstarted(rt.alloc()) {
-        Err(MapError::Memory) => unstarted(rt.alloc())?,
+    let whole = match unstarted(rt.alloc(), 65536) {
+        Err(MapError::Memory) => unstarted(rt.alloc(), 65536)?,
         other => other?,
     };
     assert_told(&rt, &"last", &last_register(&whole), &Some(0));

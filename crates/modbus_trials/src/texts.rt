@@ -1,18 +1,8 @@
 //! What is shown of errors.
-use crate::asserting::assert_told;
+use asserting::assert_shown;
 use mb_mbap::FrameFault;
 use mb_pdu::UnitError;
-use std::alloc::{AllocError, Global};
-use std::fmt::Display;
 use std::test::Fail;
-
-/// The text of an error, made once more where memory was refused.
-fn text_of<T: Display>(alloc: Global, error: &T) -> Result<String, AllocError> {
-    match error.to_string(alloc) {
-        Ok(text) => Ok(text),
-        Err(_) => error.to_string(alloc),
-    }
-}
 
 #[test]
 fn texts_of_refused_units(rt: HostRuntime) -> Result<(), Fail> {
@@ -28,7 +18,7 @@ fn texts_of_refused_units(rt: HostRuntime) -> Result<(), Fail> {
         (WrongReply, "this is no reply to the request"),
     ];
     for (error, text) in cases {
-        assert_told(&rt, &error, &text_of(rt.alloc(), &error)?.as_str(), &text);
+        assert_shown(&rt, rt.alloc(), &error, text)?;
     }
     Ok(())
 }
@@ -42,7 +32,7 @@ fn texts_of_faulty_streams(rt: HostRuntime) -> Result<(), Fail> {
         (Failed, "an earlier header was bad"),
     ];
     for (fault, text) in cases {
-        assert_told(&rt, &fault, &text_of(rt.alloc(), &fault)?.as_str(), &text);
+        assert_shown(&rt, rt.alloc(), &fault, text)?;
     }
     Ok(())
 }

@@ -108,6 +108,14 @@ module _ (holds : Tables → Type 0) (now : Site) (known : List PointRow) (all :
       ∙ sym (ap (λ t. query_frame (length (asked before conn)) (question_to t device slot read (length known))) there))
       all' (subst (λ q. Changes conn (with_query q) all all') (sym same) queried)
 
+-- an ask that is refused for its line, its device or its read
+pub asking_judged : (holds : Tables → Type 0) (now : Site) (known : List PointRow) (all : List OpenOne) (conn : ℕ) (device : List ℕ) (slot : ℕ) (read : Read) (line : Option ℕ)
+    → line_of (held conn all) ≡ line → (e : OfficeError) → ((made : ℕ) → ask_fault line now known made device read ≡ Some e)
+    → Goes (StandsFor holds now known all) (StandsFor holds now known all) (event.Ask conn device slot read) (answer.Refused e)
+asking_judged holds now known all conn device slot read line is e fault =
+    ask_refused_goes holds now known all conn device slot read e
+    (λ before stands. ap (λ o. ask_fault o now known (length (asked before conn)) device read) (sym (line_held holds now known all before stands conn) ∙ is) ∙ fault (length (asked before conn)))
+
 -- no refusal of an ask is the store's
 pub ask_caused : (may_refuse : StoreFault → Type 0) (line : Option ℕ) (now : Site) (known : List PointRow) (made : ℕ) (device : List ℕ) (read : Read) (e : OfficeError)
     → ask_fault line now known made device read ≡ Some e → IsCaused may_refuse e

@@ -67,3 +67,59 @@ pub enum EventAnswer {
     Restarted,
     Refused(OfficeError),
 }
+
+impl From<Result<Outcome, OfficeError>> for EventAnswer {
+    ghost use Rattle.std.specs.Prelude.{◌≡◌};
+    ghost use Rattle.office_core.specs.Offices.{judged};
+
+    ghost from_gives = { λ told answer. answer ≡ judged told };
+
+    fn from(told: Result<Outcome, OfficeError>) -> EventAnswer {
+        match told {
+            Ok(outcome) => EventAnswer::Judged(outcome),
+            Err(error) => EventAnswer::Refused(error),
+        }
+    }
+}
+
+impl From<Result<Conn, OfficeError>> for EventAnswer {
+    ghost use Rattle.std.specs.Prelude.{◌≡◌};
+    ghost use Rattle.office_core.specs.Offices.{opened};
+
+    ghost from_gives = { λ told answer. answer ≡ opened told };
+
+    fn from(told: Result<Conn, OfficeError>) -> EventAnswer {
+        match told {
+            Ok(conn) => EventAnswer::Opened(conn),
+            Err(error) => EventAnswer::Refused(error),
+        }
+    }
+}
+
+impl From<Result<Frame, OfficeError>> for EventAnswer {
+    ghost use Rattle.std.specs.Prelude.{◌≡◌};
+    ghost use Rattle.office_core.specs.Offices.{asked_so};
+
+    ghost from_gives = { λ told answer. answer ≡ asked_so told };
+
+    fn from(told: Result<Frame, OfficeError>) -> EventAnswer {
+        match told {
+            Ok(frame) => EventAnswer::Query(frame),
+            Err(error) => EventAnswer::Refused(error),
+        }
+    }
+}
+
+impl From<Result<Arrival, OfficeError>> for EventAnswer {
+    ghost use Rattle.std.specs.Prelude.{◌≡◌};
+    ghost use Rattle.office_core.specs.Offices.{arrived};
+
+    ghost from_gives = { λ told answer. answer ≡ arrived told };
+
+    fn from(told: Result<Arrival, OfficeError>) -> EventAnswer {
+        match told {
+            Ok(arrival) => EventAnswer::Arrived(arrival),
+            Err(error) => EventAnswer::Refused(error),
+        }
+    }
+}

@@ -278,24 +278,12 @@ impl<K: Keeper> Office<K> {
         ensures clean { K.is_clean (keeper_of self.new) → K.is_clean (keeper_of self.old) }
     {
         match event {
-            Event::Load(list) => match self.load(list.as_slice()) {
-                Ok(outcome) => EventAnswer::Judged(outcome),
-                Err(error) => EventAnswer::Refused(error),
-            },
-            Event::Open(line) => match self.open_line(line.as_str()) {
-                Ok(conn) => EventAnswer::Opened(conn),
-                Err(error) => EventAnswer::Refused(error),
-            },
+            Event::Load(list) => EventAnswer::from(self.load(list.as_slice())),
+            Event::Open(line) => EventAnswer::from(self.open_line(line.as_str())),
             Event::Ask(conn, device, slot, read) => {
-                match self.ask(*conn, device.as_str(), *slot, *read) {
-                    Ok(frame) => EventAnswer::Query(frame),
-                    Err(error) => EventAnswer::Refused(error),
-                }
+                EventAnswer::from(self.ask(*conn, device.as_str(), *slot, *read))
             }
-            Event::Arrive(conn, frame) => match self.arrive(*conn, frame) {
-                Ok(arrival) => EventAnswer::Arrived(arrival),
-                Err(error) => EventAnswer::Refused(error),
-            },
+            Event::Arrive(conn, frame) => EventAnswer::from(self.arrive(*conn, frame)),
             Event::Restart => {
                 self.restart();
                 EventAnswer::Restarted

@@ -2,7 +2,7 @@
 ghost use Rattle.std.specs.Prelude.{IfOk};
 ghost use Rattle.point_list.specs.Sites.{IsSound};
 
-use crate::steps::Happens;
+use crate::steps::{Happens, rows, total};
 use mb_mbap::Frame;
 use mb_pdu::{Span, Unit};
 use office_core::{Event, Office, OfficeError};
@@ -48,10 +48,7 @@ pub(crate) fn office_over<K: Keeper + Drop>(
     alloc: Global,
     keeper: K,
 ) -> Result<Office<K>, OfficeError> {
-    match begun(alloc, keeper, TWO)? {
-        Ok(office) => Ok(office),
-        Err((error, _)) => Err(error),
-    }
+    begun(alloc, keeper, TWO)?.map_err(|(error, _)| error)
 }
 
 fn list(alloc: Global, header: &str, records: &str) -> Result<Event, OfficeError> {
@@ -117,8 +114,8 @@ pub(crate) fn shown<K: Keeper>(
 ) -> Result<String, OfficeError> {
     let mut text = String::new(alloc);
     for point in ["a", "b", "c", "e", "f"] {
-        let rows = office.readings(point, 0, u32::MAX)?;
-        let total = office.total(point)?;
+        let rows = rows(office, point, 0, u32::MAX)?;
+        let total = total(office, point)?;
         let line = format!(in alloc; "{point} {rows:?} {total:?}\n")?;
         text.push_str(line.as_str())?;
     }

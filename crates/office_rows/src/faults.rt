@@ -1,9 +1,10 @@
 //! A keeper that refuses, each call in turn, by each fault; and an office begun anew over a keeper.
-use crate::builders::{BARE, MEMORY, TWO, begun, event_of, events_of, office_over, shown};
+use crate::builders::{BARE, MEMORY, TWO, begun, events_of, office_over, shown};
 use crate::refusing::Refusing;
 use crate::scripts::{OTHERS, THREE};
 use crate::steps::Happens::{self, Arrive, Ask, Load, Open};
-use crate::steps::{has_words, is_refused, is_same, take};
+use crate::steps::{answered, has_words, is_refused, opened, rows, take, take_happening, total};
+use asserting::assert_told;
 use office_core::{Event, EventAnswer, Office, OfficeError};
 use poll_book::MemKeeper;
 use poll_book::StoreFault::{self, Disk, Full, Memory, Other};
@@ -13,7 +14,7 @@ use std::test::Fail;
 
 const PAIR: &str = "a,m1,holding,107,uint16,,,gauge,\ne,m1,holding,108,uint16,,,counter,\n";
 
-const HAPPENINGS: [Happens; 13] = [
+const HAPPENINGS: &[Happens] = &[
     Load(PAIR),
     Open("roof"),
     Ask(1, "m1", 5, (3, 107, 3)),
@@ -51,19 +52,44 @@ fn assert_taken(
     event: &Event,
     fault: StoreFault,
 ) -> Result<u32, OfficeError> {
-    let answer = office.step(event);
+    let answer = answered(office, event);
     if is_refused(&answer, fault) {
-        let tables = shown(alloc, office)?;
-        assert_eq!(rt; tables.as_str(), shown(alloc, twin)?.as_str());
-        let answer = take(office, event)?;
-        assert!(rt; is_same(&answer, &take(twin, event)?), "{answer:?}");
+        assert_told(rt, &fault, &shown(alloc, office)?, &shown(alloc, twin)?);
+        assert_told(rt, &fault, &take(office, event)?, &take(twin, event)?);
         return Ok(1);
     }
     if is_refused(&answer, Memory) {
         return Err(MEMORY);
     }
-    assert!(rt; is_same(&answer, &take(twin, event)?), "{answer:?}");
+    assert_told(rt, &fault, &answer, &take(twin, event)?);
     Ok(0)
+}
+
+/// Takes the events, and tells how often the office was refused.
+fn assert_all_taken(
+    rt: &impl Abort,
+    alloc: Global,
+    office: &mut Office<Refusing>,
+    twin: &mut Office<MemKeeper>,
+    events: &[Event],
+    fault: StoreFault,
+) -> Result<u32, OfficeError> {
+    let mut refused = 0u32;
+    for event in events {
+        let more = assert_taken(rt, alloc, office, twin, event, fault)?;
+        refused = refused.saturating_add(more);
+    }
+    assert_told(rt, &fault, &shown(alloc, office)?, &shown(alloc, twin)?);
+    Ok(refused)
+}
+
+/// How often the office's beginning was refused.
+fn refused_first(error: Option<OfficeError>, fault: StoreFault) -> Result<u32, OfficeError> {
+    match error {
+        Some(OfficeError::Store(told)) if told == fault => Ok(1),
+        Some(error) => Err(error),
+        None => Ok(0),
+    }
 }
 
 /// Takes the events, of which one meets the refusal, or the office's beginning does.
@@ -74,26 +100,14 @@ fn assert_refused_once(
     at: u32,
     fault: StoreFault,
 ) -> Result<(), OfficeError> {
-    let (mut office, error) = refusing_office(alloc, at, fault)?;
     let mut twin = office_over(alloc, MemKeeper::new(alloc))?;
-    let mut refused = 0u32;
-    if let Some(error) = error {
-        if !is_refused(&EventAnswer::Refused(error), fault) {
-            return Err(error);
-        }
-        refused = 1;
-    }
-    for event in events {
-        let more = assert_taken(rt, alloc, &mut office, &mut twin, event, fault)?;
-        refused = refused.saturating_add(more);
-    }
-    let tables = shown(alloc, &mut office)?;
-    assert_eq!(rt; tables.as_str(), shown(alloc, &mut twin)?.as_str());
+    let (mut office, error) = refusing_office(alloc, at, fault)?;
+    let refused = assert_all_taken(rt, alloc, &mut office, &mut twin, events, fault)?;
     // Another number of refusals is told as an error: it can be of memory refused to the test.
-    if refused != 1 {
-        return Err(OfficeError::Exhausted);
+    match refused.saturating_add(refused_first(error, fault)?) {
+        1 => Ok(()),
+        _ => Err(OfficeError::Exhausted),
     }
-    Ok(())
 }
 
 /// An office of which nothing was refused, and which refuses the call after those.
@@ -105,16 +119,21 @@ fn used_office(
 ) -> Result<Office<Refusing>, OfficeError> {
     let (mut office, _) = refusing_office(alloc, at, fault)?;
     for event in events {
-        office.step(event);
+        let _ = answered(&mut office, event);
     }
     Ok(office)
 }
 
+/// How many calls of a keeper the events make.
+fn calls(alloc: Global, events: &[Event]) -> Result<u32, OfficeError> {
+    let office = used_office(alloc, events, u32::MAX, Other)?;
+    Ok(office.into_keeper().calls)
+}
+
 fn assert_refusals(rt: &impl Abort, alloc: Global, fault: StoreFault) -> Result<(), OfficeError> {
-    let events = events_of(alloc, &HAPPENINGS)?;
-    let unrefused = used_office(alloc, &events, u32::MAX, Other)?;
-    let count = unrefused.into_keeper().calls;
-    assert!(rt; count as usize > events.len());
+    let events = events_of(alloc, HAPPENINGS)?;
+    let count = calls(alloc, &events)?;
+    assert_told(rt, &count, &(count as usize > events.len()), &true);
     for at in 0..count {
         assert_refused_once(rt, alloc, &events, at, fault)?;
     }
@@ -131,23 +150,39 @@ fn each_call_refused_once(rt: HostRuntime) -> Result<(), Fail> {
     Ok(())
 }
 
-/// The calls that only show: refused once, and then as if nothing had been.
-fn assert_shows(rt: &impl Abort, alloc: Global, fault: StoreFault) -> Result<(), OfficeError> {
-    let events = events_of(alloc, &HAPPENINGS)?;
-    let unrefused = used_office(alloc, &events, u32::MAX, Other)?;
-    let count = unrefused.into_keeper().calls;
-    let mut office = used_office(alloc, &events, count, fault)?;
-    if office.total("e") != Err(OfficeError::Store(fault)) {
+/// Asserts that a total is refused once, and then as if nothing had been.
+fn assert_total(
+    rt: &impl Abort,
+    office: &mut Office<Refusing>,
+    fault: StoreFault,
+) -> Result<(), OfficeError> {
+    if total(office, "e").err() != Some(OfficeError::Store(fault)) {
         return Err(OfficeError::NoRead);
     }
-    assert_eq!(rt; office.total("e")?, Some(65_534));
-    let mut office = used_office(alloc, &events, count, fault)?;
-    if office.readings("a", 0, 9).err() != Some(OfficeError::Store(fault)) {
-        return Err(OfficeError::NoRead);
-    }
-    assert!(rt; has_words(&mut office, "a", 4, &[1])?);
-    assert!(rt; has_words(&mut office, "a", 5, &[555])?);
+    assert_told(rt, &fault, &total(office, "e")?, &Some(65_534));
     Ok(())
+}
+
+/// Asserts that readings are refused once, and then as if nothing had been.
+fn assert_rows(
+    rt: &impl Abort,
+    office: &mut Office<Refusing>,
+    fault: StoreFault,
+) -> Result<(), OfficeError> {
+    if rows(office, "a", 0, 9).err() != Some(OfficeError::Store(fault)) {
+        return Err(OfficeError::NoRead);
+    }
+    assert_told(rt, &fault, &has_words(office, "a", 4, &[1])?, &true);
+    assert_told(rt, &fault, &has_words(office, "a", 5, &[555])?, &true);
+    Ok(())
+}
+
+/// The calls that only show.
+fn assert_shows(rt: &impl Abort, alloc: Global, fault: StoreFault) -> Result<(), OfficeError> {
+    let events = events_of(alloc, HAPPENINGS)?;
+    let count = calls(alloc, &events)?;
+    assert_total(rt, &mut used_office(alloc, &events, count, fault)?, fault)?;
+    assert_rows(rt, &mut used_office(alloc, &events, count, fault)?, fault)
 }
 
 #[test]
@@ -160,27 +195,51 @@ fn shows_refused_once(rt: HostRuntime) -> Result<(), Fail> {
     Ok(())
 }
 
-/// Asserts that an office over a used keeper has its points and readings, and no connection.
-fn assert_goes_on(rt: &impl Abort, alloc: Global) -> Result<(), OfficeError> {
+/// A keeper to which all has happened.
+fn used_keeper(alloc: Global) -> Result<MemKeeper, OfficeError> {
     let mut office = office_over(alloc, MemKeeper::new(alloc))?;
-    for event in &events_of(alloc, &HAPPENINGS)? {
-        take(&mut office, event)?;
+    take_all(alloc, &mut office)?;
+    Ok(office.into_keeper())
+}
+
+fn take_all(alloc: Global, office: &mut Office<MemKeeper>) -> Result<(), OfficeError> {
+    for happens in HAPPENINGS {
+        take_happening(alloc, office, happens)?;
     }
-    let mut office = office_over(alloc, office.into_keeper())?;
-    assert_eq!(rt; office.points().len(), 3);
-    assert_eq!(rt; office.site().devices.as_slice().len(), 2);
-    assert!(rt; has_words(&mut office, "a", 5, &[555])?);
-    let late = event_of(alloc, &Arrive(2, 0, 17, THREE))?;
-    let told = take(&mut office, &late)?;
+    Ok(())
+}
+
+/// Asserts that an office over a used keeper has its points and readings, and no connection.
+fn assert_begun(
+    rt: &impl Abort,
+    alloc: Global,
+    office: &mut Office<MemKeeper>,
+) -> Result<(), OfficeError> {
+    assert_told(rt, &"points", &office.points().len(), &3);
+    assert_told(rt, &"devices", &office.site().devices.as_slice().len(), &2);
+    let is_kept = has_words(office, "a", 5, &[555])?;
+    assert_told(rt, &"reading", &is_kept, &true);
+    let late = take_happening(alloc, office, &Arrive(2, 0, 17, THREE))?;
     let refused = EventAnswer::Refused(OfficeError::NoConnection);
-    assert!(rt; is_same(&told, &refused), "{told:?}");
-    assert_eq!(rt; office.open_line("roof")?.number(), 3);
-    let mut office = match begun(alloc, office.into_keeper(), BARE)? {
-        Ok(_) => return Err(OfficeError::NoRead),
-        Err((OfficeError::SiteDiffers, keeper)) => office_over(alloc, keeper)?,
-        Err((error, _)) => return Err(error),
-    };
-    assert_eq!(rt; office.open_line("roof")?.number(), 4);
+    assert_told(rt, &"late", &late, &refused);
+    assert_told(rt, &"number", &opened(office, "roof")?, &3);
+    Ok(())
+}
+
+/// The keeper that an office of another site gives back.
+fn given_back(alloc: Global, keeper: MemKeeper) -> Result<MemKeeper, OfficeError> {
+    match begun(alloc, keeper, BARE)? {
+        Ok(_) => Err(OfficeError::NoRead),
+        Err((OfficeError::SiteDiffers, keeper)) => Ok(keeper),
+        Err((error, _)) => Err(error),
+    }
+}
+
+fn assert_goes_on(rt: &impl Abort, alloc: Global) -> Result<(), OfficeError> {
+    let mut office = office_over(alloc, used_keeper(alloc)?)?;
+    assert_begun(rt, alloc, &mut office)?;
+    let mut last = office_over(alloc, given_back(alloc, office.into_keeper())?)?;
+    assert_told(rt, &"number", &opened(&mut last, "roof")?, &4);
     Ok(())
 }
 

@@ -3,14 +3,15 @@ use crate::builders::{MEMORY, event_of, office_over, shown};
 use crate::scripts::{GAUGES, THREE};
 use crate::steps::Happens::{self, Arrive, Ask, Load, Open};
 use crate::steps::Told::{self, Loaded, Opened, Recorded, Sent};
-use crate::steps::{expected, is_refused, is_same};
-use office_core::{EventAnswer, Office, OfficeError};
+use crate::steps::{answered, expected, is_refused};
+use asserting::assert_told;
+use office_core::{Event, EventAnswer, Office, OfficeError};
 use poll_book::{MemKeeper, StoreFault};
-use std::alloc::Global;
+use std::alloc::{AllocError, Global};
 use std::process::Abort;
 use std::test::Fail;
 
-const ROUNDS: [(Happens, Told); 16] = [
+const ROUNDS: &[(Happens, Told)] = &[
     (Load(GAUGES), Loaded(3)),
     (Open("roof"), Opened(1)),
     (Ask(1, "m1", 0, (3, 107, 3)), Sent(0)),
@@ -38,21 +39,28 @@ fn taken(
 ) -> Result<EventAnswer, OfficeError> {
     let event = event_of(alloc, happens)?;
     let before = shown(alloc, office)?;
-    let answer = office.step(&event);
+    let answer = answered(office, &event);
     if !is_refused(&answer, StoreFault::Memory) {
         return Ok(answer);
     }
-    assert_eq!(rt; shown(alloc, office)?.as_str(), before.as_str());
-    Ok(office.step(&event))
+    assert_told(rt, &"tables", &shown(alloc, office)?, &before);
+    Ok(answered(office, &event))
+}
+
+fn assert_taken(
+    rt: &impl Abort,
+    alloc: Global,
+    office: &mut Office<MemKeeper>,
+) -> Result<(), OfficeError> {
+    for (happens, told) in ROUNDS {
+        let answer = taken(rt, alloc, office, happens)?;
+        assert_told(rt, &"answer", &answer, &expected(happens, told)?);
+    }
+    Ok(())
 }
 
 fn assert_all_taken(rt: &impl Abort, alloc: Global) -> Result<(), OfficeError> {
-    let mut office = office_over(alloc, MemKeeper::new(alloc))?;
-    for (happens, told) in &ROUNDS {
-        let answer = taken(rt, alloc, &mut office, happens)?;
-        assert!(rt; is_same(&answer, &expected(happens, told)?), "{answer:?}");
-    }
-    Ok(())
+    assert_taken(rt, alloc, &mut office_over(alloc, MemKeeper::new(alloc))?)
 }
 
 /// Run under `rt try --test --fail-alloc N`, this one sees each allocation of a call refused.
@@ -64,29 +72,57 @@ fn refused_memory_is_told(rt: HostRuntime) -> Result<(), Fail> {
     Ok(())
 }
 
-/// Asserts the answers of a run, of which one may be that memory was refused.
-fn assert_run(rt: &impl Abort, alloc: Global) -> Result<(), OfficeError> {
-    let mut office = office_over(alloc, MemKeeper::new(alloc))?;
-    let mut events = Vec::with_capacity(alloc, ROUNDS.len())?;
-    for (happens, _) in &ROUNDS {
-        let _ = events.push(event_of(alloc, happens)?);
+fn run(office: &mut Office<MemKeeper>, events: &[Event]) -> Result<Vec<EventAnswer>, AllocError> {
+    office.run(events)
+}
+
+/// The answers of a run, made once more where memory was refused to it and nothing changed.
+fn answers(
+    rt: &impl Abort,
+    alloc: Global,
+    office: &mut Office<MemKeeper>,
+    events: &[Event],
+) -> Result<Vec<EventAnswer>, OfficeError> {
+    let before = shown(alloc, office)?;
+    if let Ok(answers) = run(office, events) {
+        return Ok(answers);
     }
-    let before = shown(alloc, &mut office)?;
-    let answers = match office.run(&events) {
-        Ok(answers) => answers,
-        Err(_) => {
-            assert_eq!(rt; shown(alloc, &mut office)?.as_str(), before.as_str());
-            office.run(&events)?
-        }
-    };
-    assert_eq!(rt; answers.len(), ROUNDS.len());
-    for (answer, (happens, told)) in answers.into_iter().zip(&ROUNDS) {
-        if is_refused(&answer, StoreFault::Memory) {
+    assert_told(rt, &"tables", &shown(alloc, office)?, &before);
+    Ok(run(office, events)?)
+}
+
+/// Asserts the answers of a run, of which one may be that memory was refused.
+fn assert_answers(rt: &impl Abort, answers: &[EventAnswer]) -> Result<(), OfficeError> {
+    assert_told(rt, &"answers", &answers.len(), &ROUNDS.len());
+    for (answer, (happens, told)) in answers.iter().zip(ROUNDS) {
+        if is_refused(answer, StoreFault::Memory) {
             return Err(MEMORY);
         }
-        assert!(rt; is_same(&answer, &expected(happens, told)?), "{answer:?}");
+        assert_told(rt, &"answer", answer, &expected(happens, told)?);
     }
     Ok(())
+}
+
+fn events(alloc: Global) -> Result<Vec<Event>, OfficeError> {
+    let mut events = Vec::with_capacity(alloc, ROUNDS.len())?;
+    for (happens, _) in ROUNDS {
+        let _ = events.push(event_of(alloc, happens)?);
+    }
+    Ok(events)
+}
+
+fn run_answers(
+    rt: &impl Abort,
+    alloc: Global,
+    events: &[Event],
+) -> Result<Vec<EventAnswer>, OfficeError> {
+    let mut office = office_over(alloc, MemKeeper::new(alloc))?;
+    answers(rt, alloc, &mut office, events)
+}
+
+fn assert_run(rt: &impl Abort, alloc: Global) -> Result<(), OfficeError> {
+    let events = events(alloc)?;
+    assert_answers(rt, &run_answers(rt, alloc, &events)?)
 }
 
 #[test]

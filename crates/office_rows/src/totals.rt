@@ -1,7 +1,8 @@
 //! Totals of counters, by hand: the steps between neighbouring slots, whatever came first.
-use crate::builders::{event_of, events_of, office_over};
+use crate::builders::office_over;
 use crate::steps::Happens::{Arrive, Ask, Load, Open};
-use crate::steps::take;
+use crate::steps::{rows, take_happening, total};
+use asserting::assert_told;
 use office_core::{Office, OfficeError};
 use poll_book::MemKeeper;
 use std::alloc::Global;
@@ -51,7 +52,7 @@ const ALL: &[bool] = &[true, true, true];
 /// slot, and the total.
 type Case = (Counter, &'static [Reply], &'static [bool], Option<u128>);
 
-const CASES: [Case; 14] = [
+const CASES: &[Case] = &[
     (SHORT, &[FIRST, SECOND, THIRD], ALL, Some(66572)),
     (SHORT, &[FIRST, THIRD, SECOND], ALL, Some(66572)),
     (SHORT, &[SECOND, FIRST, THIRD], ALL, Some(66572)),
@@ -71,29 +72,28 @@ const CASES: [Case; 14] = [
     (LONG, LONG_NUMBERS, &[true, false, true], Some(50)),
 ];
 
-/// An office that asked for a counter in three slots, and had these replies.
-fn office_after(
+/// Asks for a counter in three slots, and takes these replies.
+fn take_replies(
     alloc: Global,
+    office: &mut Office<MemKeeper>,
     counter: Counter,
     replies: &[Reply],
-) -> Result<Office<MemKeeper>, OfficeError> {
+) -> Result<(), OfficeError> {
     let (record, quantity) = counter;
-    let mut office = office_over(alloc, MemKeeper::new(alloc))?;
-    let asked = [
-        Load(record),
-        Open("roof"),
-        Ask(1, "m1", 0, (3, 107, quantity)),
-        Ask(1, "m1", 1, (3, 107, quantity)),
-        Ask(1, "m1", 2, (3, 107, quantity)),
-    ];
-    for event in &events_of(alloc, &asked)? {
-        take(&mut office, event)?;
+    take_happening(alloc, office, &Load(record))?;
+    take_happening(alloc, office, &Open("roof"))?;
+    for slot in 0..3 {
+        take_happening(alloc, office, &Ask(1, "m1", slot, (3, 107, quantity)))?;
     }
     for (slot, unit) in replies {
-        let reply = event_of(alloc, &Arrive(1, *slot, 17, unit))?;
-        take(&mut office, &reply)?;
+        take_happening(alloc, office, &Arrive(1, *slot, 17, unit))?;
     }
-    Ok(office)
+    Ok(())
+}
+
+fn counted_flags(alloc: Global, office: &mut Office<MemKeeper>) -> Result<Vec<bool>, OfficeError> {
+    let rows = rows(office, "e", 0, 9)?.ok_or(OfficeError::NoRead)?;
+    Ok(rows.iter().map(|row| row.counted).collect(alloc)?)
 }
 
 fn assert_case(
@@ -102,12 +102,12 @@ fn assert_case(
     place: usize,
     case: Case,
 ) -> Result<(), OfficeError> {
-    let (counter, replies, counted, total) = case;
-    let mut office = office_after(alloc, counter, replies)?;
-    let rows = office.readings("e", 0, 9)?.ok_or(OfficeError::NoRead)?;
-    let count: Vec<bool> = rows.iter().map(|row| row.counted).collect(alloc)?;
-    assert_eq!(rt; count.as_slice(), counted, "case {place}");
-    assert_eq!(rt; office.total("e")?, total, "case {place}");
+    let (counter, replies, counted, sum) = case;
+    let mut office = office_over(alloc, MemKeeper::new(alloc))?;
+    take_replies(alloc, &mut office, counter, replies)?;
+    let told = counted_flags(alloc, &mut office)?;
+    assert_told(rt, &place, &told.as_slice(), &counted);
+    assert_told(rt, &place, &total(&mut office, "e")?, &sum);
     Ok(())
 }
 

@@ -1,6 +1,6 @@
 //! Values and texts of points, at the limits of each type.
-use crate::asserting::assert_told;
-use std::alloc::{AllocError, Global};
+use asserting::{assert_shown, assert_told};
+use std::alloc::Global;
 use std::test::Fail;
 use sunspec::{
     PointType, ShortText, SunError, Value, digits, read_value, scaled_text, shown_text,
@@ -379,14 +379,6 @@ fn scales_as_digits(rt: HostRuntime) {
     }
 }
 
-/// The text of a refusal, made once more where memory was refused.
-fn text_of(alloc: Global, refusal: &SunError) -> Result<String, AllocError> {
-    match refusal.to_string(alloc) {
-        Ok(shown) => Ok(shown),
-        Err(_) => refusal.to_string(alloc),
-    }
-}
-
 #[test]
 fn texts_of_refusals(rt: HostRuntime) -> Result<(), Fail> {
     for (refusal, text) in [
@@ -394,12 +386,7 @@ fn texts_of_refusals(rt: HostRuntime) -> Result<(), Fail> {
         (SunError::BadScale, "bad scale"),
         (SunError::Memory, "out of memory"),
     ] {
-        assert_told(
-            &rt,
-            &refusal,
-            &text_of(rt.alloc(), &refusal)?.as_str(),
-            &text,
-        );
+        assert_shown(&rt, rt.alloc(), &refusal, text)?;
     }
     Ok(())
 }

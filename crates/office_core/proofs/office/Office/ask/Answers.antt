@@ -1,4 +1,4 @@
-use Rattle.std.proofs.Common.{◌≡◌, ◌∙◌, length, subst, sym, ap, rules}
+use Rattle.std.proofs.Common.{◌≡◌, ◌∙◌, ℕ, Some, length, subst, sym, ap, rules}
 use Rattle.poll_match.specs.declared.asked.Asked.TheVariants.{Read}
 use Rattle.poll_match.specs.Window.{IsNextFrame, Changes, held, with_query}
 use Rattle.office_core.specs.declared.event.Event.TheVariants.{Ask}
@@ -7,9 +7,34 @@ use Rattle.office_core.specs.Sites.{target}
 use Rattle.office_core.specs.Cover.{is_readable}
 use Rattle.office_core.specs.Keeping.{Endures}
 use Rattle.office_core.specs.Standing.{Goes, StandsFor}
-use Rattle.office_core.proofs.Asking.{ask_caused, asking_refused, asking_goes}
+use Rattle.office_core.specs.History.{ask_fault}
+use Rattle.office_core.proofs.Asking.{ask_caused, asking_judged, asking_refused, asking_goes}
 use Rattle.office_core.proofs.Telling.{asked_err, caused_err}
 use Rattle.office_core.proofs.office.Office.ask.Goals as goal
+
+pub returns-in_err-to-clause-goes : goal.returns-in_err-to-clause-goes
+returns-in_err-to-clause-goes g c clean =
+    let office = c.args.self.now in
+    let holds = g.K.Neighbours.holds office.keeper in
+    let stands = StandsFor holds office.site office.points.items office.matcher in
+    let device = c.args.device.now in
+    let e = c.in_err-to.field-0.0 in
+    let fault : (made : ℕ) → ask_fault c.line_of-line.result office.site office.points.items made device c.args.read ≡ Some e =
+    λ made. (λ i. ask_fault c.line_of-line.result office.site (sym c.deref.ensures.value i) made (sym c.as_bytes.ensures.value i) c.args.read) ∙ c.in_err-to.ensures made in
+    subst (Goes stands stands (Ask c.args.conn device c.args.slot c.args.read)) (sym (asked_err c.from_residual.result e c.from_residual.ensures.1))
+    (asking_judged holds office.site office.points.items office.matcher c.args.conn device c.args.slot c.args.read c.line_of-line.result (sym c.line_of-line.ensures) e fault)
+
+pub returns-in_err-to-clause-crash : goal.returns-in_err-to-clause-crash
+returns-in_err-to-clause-crash g c clean =
+    let office = c.args.self.now in
+    let holds = Endures (g.K.Neighbours.holds office.keeper) (g.K.Neighbours.may_leave office.keeper) in
+    let stands = StandsFor holds office.site office.points.items office.matcher in
+    let device = c.args.device.now in
+    let e = c.in_err-to.field-0.0 in
+    let fault : (made : ℕ) → ask_fault c.line_of-line.result office.site office.points.items made device c.args.read ≡ Some e =
+    λ made. (λ i. ask_fault c.line_of-line.result office.site (sym c.deref.ensures.value i) made (sym c.as_bytes.ensures.value i) c.args.read) ∙ c.in_err-to.ensures made in
+    subst (Goes stands stands (Ask c.args.conn device c.args.slot c.args.read)) (sym (asked_err c.from_residual.result e c.from_residual.ensures.1))
+    (asking_judged holds office.site office.points.items office.matcher c.args.conn device c.args.slot c.args.read c.line_of-line.result (sym c.line_of-line.ensures) e fault)
 
 pub returns-in_err-next_query-clause-goes : goal.returns-in_err-next_query-clause-goes
 returns-in_err-next_query-clause-goes g c clean =
