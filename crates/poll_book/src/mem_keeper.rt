@@ -1,7 +1,7 @@
-ghost use Rattle.std.specs.Prelude.{◌≡◌, ◌≤◌, IfOk, IfSome};
+ghost use Rattle.std.specs.Prelude.{◌≡◌, ◌≤◌, IfOk, IfSome, OnErr, OnOk};
 ghost use Rattle.poll_book.specs.Tables as table;
 ghost use Rattle.poll_book.specs.Tables.{no_tables, readings_between};
-ghost use Rattle.poll_book.specs.Changes.{as_rows};
+ghost use Rattle.poll_book.specs.Changes.{applied, as_rows};
 ghost use Rattle.poll_book.specs.Histories.{IsRising, counted_in, reading_number, slot_of, slots_of};
 ghost use Rattle.poll_book.specs.Totals.{step_from, steps};
 
@@ -53,6 +53,22 @@ impl MemKeeper {
             connections: 0,
             alloc,
         }
+    }
+
+    // What `apply` does to these tables, whatever its clauses say of all that a keeper may hold.
+    fn write(&mut self, change: &Change) -> Result<(), AllocError>
+        ensures written { OnOk result (self.new ≡ applied change.now self.old) }
+        ensures same { OnErr result (self.new ≡ self.old) }
+    {
+        let added = change.readings.as_slice();
+        make_histories(self.alloc, &mut self.histories, added)?;
+        let rows = staged(self.alloc, &mut self.histories, added)?;
+        self.points.extend_from_slice(change.points.as_slice())?;
+        put_all(&mut self.histories, rows);
+        if let Some(connections) = change.connections {
+            self.connections = connections;
+        }
+        Ok(())
     }
 }
 
@@ -172,14 +188,6 @@ impl Keeper for MemKeeper {
     }
 
     fn apply(&mut self, change: &Change) -> Result<(), StoreFault> {
-        let added = change.readings.as_slice();
-        make_histories(self.alloc, &mut self.histories, added)?;
-        let rows = staged(self.alloc, &mut self.histories, added)?;
-        self.points.extend_from_slice(change.points.as_slice())?;
-        put_all(&mut self.histories, rows);
-        if let Some(connections) = change.connections {
-            self.connections = connections;
-        }
-        Ok(())
+        Ok(self.write(change)?)
     }
 }
