@@ -1,11 +1,12 @@
 use Rattle.std.proofs.Common.{◌≡◌, ◌+◌, ◌≤◌, Result, Ok, Err, IfOk, get_or, set, vec_len, sym, ap, subst, ◌∙◌, arith}
-use Rattle.std.specs.Prelude.{Contains, OnOk, ◌++◌, ◌∷◌, [], vec_capacity}
+use Rattle.std.specs.Prelude.{Contains, OnOk, map, ◌++◌, ◌∷◌, [], vec_capacity}
 use Rattle.std.specs.declared.alloc.AllocError.{AllocError}
 use Rattle.std.proofs.lemmas.List.{get_or_default}
+use Rattle.std.proofs.lemmas.List.Elements.{All-get_or}
 use Rattle.poll_book.specs.declared.history.History.{History}
 use Rattle.poll_book.specs.declared.rows.ReadingRow.{ReadingRow}
-use Rattle.poll_book.specs.Histories.{point_of, IsAt, HaveRoom}
-use Rattle.poll_book.proofs.Rooms.{points_set, readings_set, room_made}
+use Rattle.poll_book.specs.Histories.{point_of, slot_of, IsAt, IsRising, HaveRoom}
+use Rattle.poll_book.proofs.Rooms.{ordered_set, points_set, readings_set, room_made}
 use Rattle.poll_book.proofs.histories.make_room.Goals as goal
 
 abbrev new : goal.After-histories-1 → History
@@ -21,6 +22,17 @@ old_is c = c.index_mut.ensures.value ∙ get_or_default c.args.histories.now.ite
 
 same : (c : goal.After-histories-1) → (new c).point ≡ c.args.point
 same c = ap point_of (old_is c) ∙ (here c).same (new c)
+
+pub unwrap-place-requires : goal.unwrap-place-requires
+unwrap-place-requires c = c.history_place.ensures.known (subst (λ l. Contains (map point_of l) c.args.point) (sym c.deref.ensures.value) c.requires.made)
+
+pub returns-clause-ordered : goal.returns-clause-ordered
+returns-clause-ordered c =
+    let hs = c.args.histories.now.items in
+    let at = c.unwrap-place.result in
+    let rising = All-get_or (λ (h : History). IsRising slot_of h.slots.items) hs at (new c) (here c).in_range c.requires.ordered.slots in
+    ordered_set hs c.args.point at (new c) (here c) (same c) c.requires.ordered
+    (subst (IsRising slot_of) (sym (c.reserve.ensures.items ∙ ap (λ (h : History). h.slots.items) (old_is c))) rising)
 
 pub returns-clause-same : goal.returns-clause-same
 returns-clause-same c =
