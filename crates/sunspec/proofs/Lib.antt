@@ -6,3 +6,4 @@ pub mod Encodings
 pub mod ScaledTexts
 pub mod Numbers
 pub mod RoundTrips
+pub mod Printable

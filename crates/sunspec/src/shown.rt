@@ -34,11 +34,25 @@ pub fn shown_text(
     if !is_scale(scale) {
         return Err(SunError::BadScale);
     }
-    match read_value(kind, words) {
-        Value::Unimplemented => Ok(None),
-        Value::Text(text) => Ok(Some(printable_text(alloc, text.as_bytes())?)),
-        Value::Number(number) => Ok(Some(number_text(alloc, kind, words, number, scale)?)),
-    }
+    Ok(text_within(alloc, kind, words, scale)?)
+}
+
+fn text_within(
+    alloc: Global,
+    kind: &PointType,
+    words: &[u16],
+    scale: i32,
+) -> Result<Option<String>, AllocError>
+    requires sized { IsSized kind.now }
+    requires registers { AreRegistersOf kind.now words.now }
+    requires scale { IsScale scale }
+    ensures { IfOk result (λ text. option_map string_bytes text ≡ shown kind.now scale words.now) }
+{
+    Ok(match read_value(kind, words) {
+        Value::Unimplemented => None,
+        Value::Text(text) => Some(printable_text(alloc, text.as_bytes())?),
+        Value::Number(number) => Some(number_text(alloc, kind, words, number, scale)?),
+    })
 }
 
 fn number_text(
@@ -64,14 +78,20 @@ fn printable_text(alloc: Global, bytes: &[u8]) -> Result<String, AllocError>
 {
     let mut text = String::new(alloc);
     for byte in bytes {
-        let shown = if (0x20..=0x7E).contains(byte) {
-            *byte
-        } else {
-            b'?'
-        };
-        text.push(char::from(shown))?;
+        text.push(char::from(printable(*byte)))?;
     }
     Ok(text)
+}
+
+fn printable(byte: u8) -> u8
+    ensures shown { result ≡ printable byte }
+    ensures ascii { result < 128 }
+{
+    if (0x20..=0x7E).contains(&byte) {
+        byte
+    } else {
+        b'?'
+    }
 }
 
 fn dotted_text(alloc: Global, words: &[u16]) -> Result<String, AllocError>
