@@ -1,4 +1,4 @@
-use Rattle.std.proofs.Common.{◌≡◌, ◌<◌, ◌∙◌, ◌∷◌, ◌++◌, ℕ, List, ap, get_or, length, arith}
+use Rattle.std.proofs.Common.{◌<◌, ◌∙◌, ◌∷◌, ◌++◌, ℕ, List, ap, get_or, length, arith}
 use Rattle.mb_pdu.specs.Packing.{two, bytes_for}
 use Rattle.mb_pdu.proofs.Fronts.{byte_front, word_front, rest_from}
 use Rattle.mb_pdu.proofs.reading.coils_of.Goals as goal
