@@ -5,7 +5,7 @@ use Rattle.poll_book.specs.declared.rows.PointRow.{PointRow}
 use Rattle.poll_book.specs.Changes.{AreNumbered}
 use Rattle.office_core.specs.declared.event.Event.TheVariants.{Load}
 use Rattle.office_core.specs.declared.event.EventAnswer.TheVariants as answer
-use Rattle.office_core.specs.Errors.{refused_store}
+use Rattle.office_core.specs.Errors.{no_memory, refused_store}
 use Rattle.office_core.specs.Loads.{added, loading, outcome}
 use Rattle.office_core.specs.Keeping.{Endures}
 use Rattle.office_core.specs.Offices.{judged}
@@ -15,6 +15,44 @@ use Rattle.office_core.proofs.Newness.{new_points, applied_points}
 use Rattle.office_core.proofs.Steps.{loaded_goes, store_goes}
 use Rattle.office_core.proofs.Telling.{judged_err}
 use Rattle.office_core.proofs.office.Office.load.Goals as goal
+
+pub returns-in_err-outcome-clause-goes : goal.returns-in_err-outcome-clause-goes
+returns-in_err-outcome-clause-goes g c clean =
+    let office = c.args.self.now in
+    let holds = g.K.Neighbours.holds office.keeper in
+    let stands = StandsFor holds office.site office.points.items office.matcher in
+    let e = refused_store c.in_err-outcome.field-0.0 in
+    subst (Goes stands stands (Load c.args.list.now)) (sym (judged_err c.from_residual.result e c.from_residual.ensures.1))
+    (store_goes holds office.site office.points.items office.matcher holds (λ kept h copy. h) office.matcher (λ conn. refl) (Load c.args.list.now) (answer.Refused e) refl)
+
+pub returns-in_err-outcome-clause-crash : goal.returns-in_err-outcome-clause-crash
+returns-in_err-outcome-clause-crash g c clean =
+    let office = c.args.self.now in
+    let holds = Endures (g.K.Neighbours.holds office.keeper) (g.K.Neighbours.may_leave office.keeper) in
+    let stands = StandsFor holds office.site office.points.items office.matcher in
+    let e = refused_store c.in_err-outcome.field-0.0 in
+    subst (Goes stands stands (Load c.args.list.now)) (sym (judged_err c.from_residual.result e c.from_residual.ensures.1))
+    (store_goes holds office.site office.points.items office.matcher holds (λ kept h copy. h) office.matcher (λ conn. refl) (Load c.args.list.now) (answer.Refused e) refl)
+
+pub returns-in_err-reserve-clause-goes : goal.returns-in_err-reserve-clause-goes
+returns-in_err-reserve-clause-goes g c clean =
+    let office = c.args.self.now in
+    let holds = g.K.Neighbours.holds office.keeper in
+    let known = office.points.items in
+    let told = c.from_residual-in_err-reserve.result in
+    subst (λ l. Goes (StandsFor holds office.site known office.matcher) (StandsFor holds office.site l office.matcher) (Load c.args.list.now) (judged told)) (sym c.reserve.ensures.items)
+    (subst (Goes (StandsFor holds office.site known office.matcher) (StandsFor holds office.site known office.matcher) (Load c.args.list.now)) (sym (judged_err told no_memory c.from_residual-in_err-reserve.ensures.1))
+    (store_goes holds office.site known office.matcher holds (λ kept h copy. h) office.matcher (λ conn. refl) (Load c.args.list.now) (answer.Refused no_memory) refl))
+
+pub returns-in_err-reserve-clause-crash : goal.returns-in_err-reserve-clause-crash
+returns-in_err-reserve-clause-crash g c clean =
+    let office = c.args.self.now in
+    let holds = Endures (g.K.Neighbours.holds office.keeper) (g.K.Neighbours.may_leave office.keeper) in
+    let known = office.points.items in
+    let told = c.from_residual-in_err-reserve.result in
+    subst (λ l. Goes (StandsFor holds office.site known office.matcher) (StandsFor holds office.site l office.matcher) (Load c.args.list.now) (judged told)) (sym c.reserve.ensures.items)
+    (subst (Goes (StandsFor holds office.site known office.matcher) (StandsFor holds office.site known office.matcher) (Load c.args.list.now)) (sym (judged_err told no_memory c.from_residual-in_err-reserve.ensures.1))
+    (store_goes holds office.site known office.matcher holds (λ kept h copy. h) office.matcher (λ conn. refl) (Load c.args.list.now) (answer.Refused no_memory) refl))
 
 pub returns-in_err-commit-clause-crash : goal.returns-in_err-commit-clause-crash
 returns-in_err-commit-clause-crash g c clean =
