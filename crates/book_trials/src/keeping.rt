@@ -57,15 +57,28 @@ fn assert_stored(
 
 fn assert_rows(rt: &impl Abort, alloc: Global, text: &PointRow) -> Result<(), StoreFault> {
     let mut keeper = keeper_of(alloc, text)?;
-    assert_stored(rt, alloc, &mut keeper, text)?;
-    assert_told(rt, &"connections", &connections(&mut keeper), &Ok(7));
-    assert!(rt; is_kept(alloc, &mut keeper, text)?);
-    let rows = readings(alloc, &mut keeper, 2, 10, 20)?;
+    assert_kept(rt, alloc, &mut keeper, text)
+}
+
+fn assert_kept(
+    rt: &impl Abort,
+    alloc: Global,
+    keeper: &mut MemKeeper,
+    text: &PointRow,
+) -> Result<(), StoreFault> {
+    assert_stored(rt, alloc, keeper, text)?;
+    assert_told(rt, &"connections", &connections(keeper), &Ok(7));
+    assert_told(rt, &"kept", &is_kept(alloc, keeper, text)?, &true);
+    assert_slots(rt, &readings(alloc, keeper, 2, 10, 20)?);
+    assert_readings(rt, alloc, keeper, text)
+}
+
+/// Asserts that these are the rows of slots 10 and 20.
+fn assert_slots(rt: &impl Abort, rows: &[ReadingRow]) {
     assert_told(rt, &"rows", &rows.len(), &2);
     for (row, slot) in rows.iter().zip([10, 20]) {
-        assert!(rt; is_row(row, slot), "{row:?}");
+        assert_told(rt, row, &is_row(row, slot), &true);
     }
-    assert_readings(rt, alloc, &mut keeper, text)
 }
 
 /// Whether the reading in the slot is of these registers.
@@ -87,9 +100,11 @@ fn assert_readings(
     keeper: &mut MemKeeper,
     text: &PointRow,
 ) -> Result<(), StoreFault> {
-    assert!(rt; has_reading(keeper, text, 30, &[1, 2, 3, 4, 30])?);
-    assert!(rt; reading(keeper, text, 31)?.is_none());
-    assert!(rt; readings(alloc, keeper, 1, 0, 100)?.is_empty());
+    let is_read = has_reading(keeper, text, 30, &[1, 2, 3, 4, 30])?;
+    assert_told(rt, &30, &is_read, &true);
+    assert_told(rt, &31, &reading(keeper, text, 31)?.is_none(), &true);
+    let none = readings(alloc, keeper, 1, 0, 100)?.is_empty();
+    assert_told(rt, &"readings", &none, &true);
     Ok(())
 }
 

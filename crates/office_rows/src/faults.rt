@@ -92,6 +92,20 @@ fn refused_first(error: Option<OfficeError>, fault: StoreFault) -> Result<u32, O
     }
 }
 
+/// How often an office that refuses a call is refused, from its beginning on.
+fn refusals(
+    rt: &impl Abort,
+    alloc: Global,
+    twin: &mut Office<MemKeeper>,
+    events: &[Event],
+    at: u32,
+    fault: StoreFault,
+) -> Result<u32, OfficeError> {
+    let (mut office, error) = refusing_office(alloc, at, fault)?;
+    let refused = assert_all_taken(rt, alloc, &mut office, twin, events, fault)?;
+    Ok(refused.saturating_add(refused_first(error, fault)?))
+}
+
 /// Takes the events, of which one meets the refusal, or the office's beginning does.
 fn assert_refused_once(
     rt: &impl Abort,
@@ -101,10 +115,8 @@ fn assert_refused_once(
     fault: StoreFault,
 ) -> Result<(), OfficeError> {
     let mut twin = office_over(alloc, MemKeeper::new(alloc))?;
-    let (mut office, error) = refusing_office(alloc, at, fault)?;
-    let refused = assert_all_taken(rt, alloc, &mut office, &mut twin, events, fault)?;
     // Another number of refusals is told as an error: it can be of memory refused to the test.
-    match refused.saturating_add(refused_first(error, fault)?) {
+    match refusals(rt, alloc, &mut twin, events, at, fault)? {
         1 => Ok(()),
         _ => Err(OfficeError::Exhausted),
     }
@@ -177,12 +189,32 @@ fn assert_rows(
     Ok(())
 }
 
+fn assert_shown_total(
+    rt: &impl Abort,
+    alloc: Global,
+    events: &[Event],
+    at: u32,
+    fault: StoreFault,
+) -> Result<(), OfficeError> {
+    assert_total(rt, &mut used_office(alloc, events, at, fault)?, fault)
+}
+
+fn assert_shown_rows(
+    rt: &impl Abort,
+    alloc: Global,
+    events: &[Event],
+    at: u32,
+    fault: StoreFault,
+) -> Result<(), OfficeError> {
+    assert_rows(rt, &mut used_office(alloc, events, at, fault)?, fault)
+}
+
 /// The calls that only show.
 fn assert_shows(rt: &impl Abort, alloc: Global, fault: StoreFault) -> Result<(), OfficeError> {
     let events = events_of(alloc, HAPPENINGS)?;
     let count = calls(alloc, &events)?;
-    assert_total(rt, &mut used_office(alloc, &events, count, fault)?, fault)?;
-    assert_rows(rt, &mut used_office(alloc, &events, count, fault)?, fault)
+    assert_shown_total(rt, alloc, &events, count, fault)?;
+    assert_shown_rows(rt, alloc, &events, count, fault)
 }
 
 #[test]
