@@ -1,0 +1,34 @@
+//! The fewest reads.
+ghost use Rattle.std.specs.Prelude.{◌≡◌, ◌+◌, ◌≤◌, All, IfOk, List, length};
+ghost use Rattle.sunspec.specs.PointType.{IsSized};
+ghost use Rattle.read_planner.specs.declared.Read.{Read};
+ghost use Rattle.read_planner.specs.Allowed.{AreAllowed, HoldsAll};
+ghost use Rattle.read_planner.specs.Chosen.{AreChosen};
+ghost use Rattle.read_planner.specs.Place.{places_of, size_of};
+
+use crate::Read;
+use crate::place::{Place, place_of};
+use crate::walk::reads_of;
+use point_list::Point;
+use std::alloc::{AllocError, Global};
+
+/// Where points lie.
+fn places_of(alloc: Global, points: &[Point]) -> Result<Vec<Place>, AllocError>
+    ensures { IfOk result (λ places. places.items ≡ places_of points.now) }
+{
+    points.iter().map(place_of).collect(alloc)
+}
+
+/// The fewest reads that hold each of these points whole.
+pub fn plan(alloc: Global, points: &[Point], gap: u16) -> Result<Vec<Read>, AllocError>
+    requires sized { All (λ point. IsSized point.kind) points.now }
+    requires inside { All (λ point. point.address + size_of point ≤ 65536) points.now }
+    ensures allowed { IfOk result (λ reads. AreAllowed (places_of points.now) gap reads.items) }
+    ensures whole { IfOk result (λ reads. HoldsAll reads.items (places_of points.now)) }
+    ensures fewest { IfOk result (λ reads. (others : List Read) → AreAllowed (places_of points.now) gap others → HoldsAll others (places_of points.now) → length reads.items ≤ length others) }
+    ensures chosen { IfOk result (λ reads. AreChosen (places_of points.now) gap reads.items) }
+{
+    let mut places = places_of(alloc, points)?;
+    places.sort_unstable();
+    reads_of(alloc, places.as_slice(), gap)
+}
