@@ -1,14 +1,15 @@
 -- No list of allowed reads that holds all points is shorter than the chosen one.
-use Rattle.std.proofs.Common.{◌≡◌, ◌∙◌, ◌≤◌, ◌<◌, ◌+◌, ◌-◌, ℕ, suc, List, [], ◌∷◌, ◌++◌, length, arith, refl, sym, ap, subst, ◌⊎◌, inl, inr}
-use Rattle.std.specs.Prelude.{All, Any, Contains}
+use Rattle.std.proofs.Common.{◌≡◌, ◌∙◌, ◌≤◌, ◌<◌, ℕ, suc, List, [], ◌∷◌, ◌++◌, length, arith, refl, sym, ap, inl, inr}
+use Rattle.std.specs.Prelude.{All, Contains}
 use Rattle.std.specs.List.{AllByRecursion}
-use Rattle.std.proofs.lemmas.List.Elements.{All-contains}
+use Rattle.std.proofs.lemmas.List.Elements.{All-contains, All-weaker}
 use Rattle.std.proofs.lemmas.List.Quantifiers.{Any-push}
 use Rattle.read_planner.specs.declared.Read.{Read}
 use Rattle.read_planner.specs.declared.place.Place.{Place}
 use Rattle.read_planner.specs.Read.{end_of}
 use Rattle.read_planner.specs.Allowed.{IsAllowed, AreAllowed, HoldsWhole, IsHeld, HoldsAll}
-use Rattle.read_planner.specs.Chosen.{IsUpTo, IsNext, AreNext, AreChosen}
+use Rattle.read_planner.specs.Chosen.{IsNext, AreNext, AreChosen}
+use Rattle.read_planner.specs.Walk.{IsPlace}
 use Rattle.read_planner.proofs.Members.{any_append, any_moved}
 use Rattle.read_planner.proofs.Pigeons.{AnyOf, AreApart, any_of, pigeons}
 use Rattle.read_planner.proofs.Cutting.{cut, read_between}
@@ -67,27 +68,28 @@ starts places gap some earlier (read ∷ later) (next, chosen) =
       left = (
         (next.begins.among, next.begins.left),
         each_of now (λ place. Contains places place × (IsHeld earlier place → ⊥))
-        (λ place (c, out). (c, λ held. out (any_append (λ (read : Read). HoldsWhole read place) earlier (read ∷ []) held))) s.firsts s.left
+            (λ place (c, out). (c, λ held. out (any_append (λ (read : Read). HoldsWhole read place) earlier (read ∷ []) held))) s.firsts s.left,
       );
       apart = (
         each_of now (λ other. (both : Read) → Serves places gap next.first both → Serves places gap other both → ⊥)
-        (λ other (c, out). apart places gap earlier read next first_some other c
-          (λ held. out (any_append (λ (read : Read). HoldsWhole read other) earlier (read ∷ []) held))
-          (λ held. out (Any-push (λ (read : Read). HoldsWhole read other) earlier read held)))
-        s.firsts s.left,
-        s.apart
+            (λ other (c, out). apart places gap earlier read next first_some other c
+            (λ held. out (any_append (λ (read : Read). HoldsWhole read other) earlier (read ∷ []) held))
+            (λ held. out (Any-push (λ (read : Read). HoldsWhole read other) earlier read held)))
+            s.firsts s.left,
+        s.apart,
       );
     }
 
-pub fewest : (places : List Place) (gap : ℕ) (reads : List Read) → All (λ (place : Place). place.start < place.end) places → AreChosen places gap reads
+pub fewest : (places : List Place) (gap : ℕ) (reads : List Read) → All IsPlace places → AreChosen places gap reads
     → (others : List Read) → AreAllowed places gap others → HoldsAll others places → length reads ≤ length others
-fewest places gap reads some chosen others allowed holds =
+fewest places gap reads each chosen others allowed holds =
+    let some = All-weaker IsPlace (λ (place : Place). place.start < place.end) (λ place is. is.some) places each in
     let s = starts places gap some [] reads chosen in
     let served = each_of (λ place. Contains places place × (IsHeld [] place → ⊥)) (λ place. AnyOf (Serves places gap place) others)
-      (λ place (c, out). any_of (Serves places gap place) others
-        (any_moved (λ (read : Read). HoldsWhole read place) (Serves places gap place) others others
-          (λ read in' whole. (in', (All-contains (IsAllowed places gap) others read allowed in', whole)))
-          (All-contains (IsHeld others) places place holds c)))
-      s.firsts s.left in
+    (λ place (c, out). any_of (Serves places gap place) others
+    (any_moved (λ (read : Read). HoldsWhole read place) (Serves places gap place) others others
+    (λ read in' whole. (in', (All-contains (IsAllowed places gap) others read allowed in', whole)))
+    (All-contains (IsHeld others) places place holds c)))
+    s.firsts s.left in
     let few = pigeons (Serves places gap) s.firsts others served s.apart in
     omega (arith, few, s.count)

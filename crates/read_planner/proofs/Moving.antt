@@ -1,6 +1,6 @@
 -- Plans of places that stand in another order.
-use Rattle.std.proofs.Common.{◌≡◌, ◌≤◌, ◌<◌, ◌+◌, ℕ, List, [], ◌∷◌, ◌++◌, refl, ◌⊎◌, inl, inr}
-use Rattle.std.specs.Prelude.{All, Any, Contains}
+use Rattle.std.proofs.Common.{◌≡◌, ◌≤◌, ℕ, List, [], ◌∷◌, ◌++◌}
+use Rattle.std.specs.Prelude.{Contains}
 use Rattle.std.specs.Prelude.{IsPermutation}
 use Rattle.std.proofs.lemmas.List.Elements.{All-contains, All-weaker}
 use Rattle.std.proofs.lemmas.List.Sorted.{Contains-permutation, IsPermutation-sym}
@@ -8,7 +8,7 @@ use Rattle.read_planner.specs.declared.Read.{Read}
 use Rattle.read_planner.specs.declared.place.Place.{Place}
 use Rattle.read_planner.specs.Read.{end_of}
 use Rattle.read_planner.specs.Allowed.{IsAllowed, AreAllowed, HoldsWhole, IsHeld, HoldsAll}
-use Rattle.read_planner.specs.Chosen.{IsFirstLeft, IsLongest, IsLastEnd, IsNext, AreNext, AreChosen}
+use Rattle.read_planner.specs.Chosen.{IsNext, AreNext}
 use Rattle.read_planner.specs.Walk.{IsPlan}
 use Rattle.read_planner.proofs.Members.{all_in, any_moved}
 use Rattle.read_planner.proofs.Reaching.{more_bridged}
@@ -19,10 +19,10 @@ IsWithin xs ys = (x : Place) → Contains xs x → Contains ys x
 
 allowed_moved : (xs ys : List Place) (gap : ℕ) → IsWithin xs ys → (read : Read) → IsAllowed xs gap read → IsAllowed ys gap read
 allowed_moved xs ys gap move read allowed = record {
-    valid = allowed.valid;
-    inside = allowed.inside;
-    bridged = λ address from below. more_bridged xs ys gap read.function address move (allowed.bridged address from below);
-  }
+  valid = allowed.valid;
+  inside = allowed.inside;
+  bridged = λ address from below. more_bridged xs ys gap read.function address move (allowed.bridged address from below);
+}
 
 are_allowed_moved : (xs ys : List Place) (gap : ℕ) → IsWithin xs ys → (reads : List Read) → AreAllowed xs gap reads → AreAllowed ys gap reads
 are_allowed_moved xs ys gap move reads allowed = All-weaker (IsAllowed xs gap) (IsAllowed ys gap) (allowed_moved xs ys gap move) reads allowed
@@ -32,24 +32,24 @@ holds_moved xs ys back reads holds = all_in (IsHeld reads) ys (λ x c. All-conta
 
 next_moved : (xs ys : List Place) (gap : ℕ) → IsWithin xs ys → IsWithin ys xs → (earlier : List Read) (read : Read) → IsNext xs gap earlier read → IsNext ys gap earlier read
 next_moved xs ys gap move back earlier read next = record {
-    first = next.first;
-    begins = record {
-      among = move next.first next.begins.among;
-      left = next.begins.left;
-      least = λ other c left. next.begins.least other (back other c) left;
-    };
-    longest = next.longest;
-    is_longest = record {
-      allowed = allowed_moved xs ys gap move next.longest next.is_longest.allowed;
-      greatest = λ other allowed function start. next.is_longest.greatest other (allowed_moved ys xs gap back other allowed) function start;
-    };
-    function = next.function;
-    start = next.start;
-    ends = record {
-      some = let P = λ (place : Place). HoldsWhole next.longest place × (place.end ≡ end_of read) in any_moved P P xs ys (λ x c p. (move x c, p)) next.ends.some;
-      greatest = let P = λ (place : Place). HoldsWhole next.longest place → place.end ≤ end_of read in all_in P ys (λ x c. All-contains P xs x next.ends.greatest (back x c));
-    };
-  }
+  first = next.first;
+  begins = record {
+    among = move next.first next.begins.among;
+    left = next.begins.left;
+    least = λ other c left. next.begins.least other (back other c) left;
+  };
+  longest = next.longest;
+  is_longest = record {
+    allowed = allowed_moved xs ys gap move next.longest next.is_longest.allowed;
+    greatest = λ other allowed function start. next.is_longest.greatest other (allowed_moved ys xs gap back other allowed) function start;
+  };
+  function = next.function;
+  start = next.start;
+  ends = record {
+    some = let P = λ (place : Place). HoldsWhole next.longest place × (place.end ≡ end_of read) in any_moved P P xs ys (λ x c p. (move x c, p)) next.ends.some;
+    greatest = let P = λ (place : Place). HoldsWhole next.longest place → place.end ≤ end_of read in all_in P ys (λ x c. All-contains P xs x next.ends.greatest (back x c));
+  };
+}
 
 chosen_moved : (xs ys : List Place) (gap : ℕ) → IsWithin xs ys → IsWithin ys xs → (earlier later : List Read) → AreNext xs gap earlier later → AreNext ys gap earlier later
 chosen_moved xs ys gap move back earlier [] chosen = tt

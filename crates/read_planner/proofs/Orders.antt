@@ -1,7 +1,7 @@
 -- Places in order.
-use Rattle.std.proofs.Common.{◌≡◌, ◌≤◌, ◌<◌, ◌+◌, ◌-◌, ℕ, suc, zero, Bool, true, false, List, [], ◌∷◌, ◌++◌, length, get_or, take, drop, cond, arith, refl, sym, subst, ◌⊎◌, inl, inr}
+use Rattle.std.proofs.Common.{◌≡◌, ◌≤◌, ◌<◌, ◌+◌, ℕ, suc, Bool, true, false, List, [], ◌∷◌, ◌++◌, length, get_or, take, drop, cond, arith, refl, sym, subst, inl, inr}
 use Rattle.std.proofs.Common.{nat_cmp, is_lt, eqb, ltb}
-use Rattle.std.specs.Prelude.{All, Contains, IsSorted}
+use Rattle.std.specs.Prelude.{Contains, IsSorted}
 use Rattle.std.specs.Cmp.{IsTotalOrder}
 use Rattle.std.specs.Ordering.{ordering_then}
 use Rattle.std.specs.declared.cmp.Ordering.{Ordering}
@@ -14,7 +14,6 @@ use Rattle.std.proofs.lemmas.List.Elements.{All-contains}
 use Rattle.read_planner.specs.declared.place.Place.{Place}
 use Rattle.read_planner.specs.Chosen.{IsUpTo}
 use Rattle.read_planner.specs.Walk.{AreInOrder}
-use Rattle.read_planner.proofs.Members.{all_in}
 
 -- what comes later is in order
 pub order_append : (xs ys : List Place) → AreInOrder (xs ++ ys) → AreInOrder ys
@@ -31,9 +30,9 @@ later_up places i d other order lt c =
 pub in_order : (places : List Place) → ((i j : ℕ) (d : Place) → i ≤ j → j < length places → IsUpTo (get_or places i d) (get_or places j d)) → AreInOrder places
 in_order [] up = tt
 in_order (place ∷ places) up = (
-    λ k d lt. up 0 (suc k) d (omega arith) (omega arith),
-    in_order places (λ i j d le lt. up (suc i) (suc j) d (omega arith) (omega arith))
-  )
+  λ k d lt. up 0 (suc k) d (omega arith) (omega arith),
+  in_order places (λ i j d le lt. up (suc i) (suc j) d (omega arith) (omega arith)),
+)
 
 -- by function, start and end
 abbrev pub place_cmp : Place → Place → Ordering
@@ -47,7 +46,7 @@ not_less : (a b : Place) → is_lt (place_cmp b a) ≡ false → IsUpTo a b
 not_less a b = by (ltb b.function a.function) (eqb b.function a.function) (ltb b.start a.start) refl refl refl
   where
     by : (x y z : Bool) → ltb b.function a.function ≡ x → eqb b.function a.function ≡ y → ltb b.start a.start ≡ z
-      → is_lt (ordering_then (cond x Less (cond y Equal Greater)) (ordering_then (cond z Less (cond (eqb b.start a.start) Equal Greater)) (nat_cmp b.end a.end))) ≡ false → IsUpTo a b
+        → is_lt (ordering_then (cond x Less (cond y Equal Greater)) (ordering_then (cond z Less (cond (eqb b.start a.start) Equal Greater)) (nat_cmp b.end a.end))) ≡ false → IsUpTo a b
     by true y z p q r h = absurd (cc)
     by false true true p q r h = absurd (cc)
     by false true false p q r h = inr (sym (eqb-true b.function a.function q), ltb-false b.start a.start r)
@@ -57,4 +56,4 @@ not_less a b = by (ltb b.function a.function) (eqb b.function a.function) (ltb b
 pub sorted_order : (places : List Place) → IsSorted place_cmp places → AreInOrder places
 sorted_order places sorted = in_order places (λ i j d le lt.
     not_less (get_or places i d) (get_or places j d)
-      (sorted_far (λ a b. is_lt (place_cmp a b)) (ranks_by places_total (λ place. place)) places sorted i j d le lt))
+    (sorted_far (λ a b. is_lt (place_cmp a b)) (ranks_by places_total (λ place. place)) places sorted i j d le lt))

@@ -1,5 +1,5 @@
 -- Where each of these needs one of those, and none of those serves two, there are no fewer of those.
-use Rattle.std.proofs.Common.{◌≡◌, ◌≤◌, ℕ, zero, suc, List, [], ◌∷◌, length, arith, refl, subst, sym, ◌⊎◌, inl, inr}
+use Rattle.std.proofs.Common.{◌≡◌, ◌≤◌, zero, suc, List, [], ◌∷◌, length, arith, subst, sym, ◌⊎◌, inl, inr}
 use Rattle.std.specs.Prelude.{Any}
 use Rattle.std.specs.List.{AllByRecursion}
 
@@ -48,7 +48,7 @@ pigeons H [] ys served apart = omega arith
 pigeons {X} {Y} H (x ∷ xs) ys (served, rest) (alone, apart) =
     let d = drawn H x ys served in
     let left : AllByRecursion (λ other. AnyOf (H other) d.rest) xs =
-      both (λ other. AnyOf (H other) ys) (λ other. (y : Y) → H x y → H other y → ⊥) (λ other. AnyOf (H other) d.rest)
-      (λ other any no. elim (d.others other any) [ inl it ↦ absurd (no d.one d.serves it) | inr more ↦ more ]) xs rest alone in
+    both (λ other. AnyOf (H other) ys) (λ other. (y : Y) → H x y → H other y → ⊥) (λ other. AnyOf (H other) d.rest)
+    (λ other any no. elim (d.others other any) [ inl it ↦ absurd (no d.one d.serves it) | inr more ↦ more ]) xs rest alone in
     let fewer = pigeons H xs d.rest left apart in
     omega (arith, fewer, d.count)

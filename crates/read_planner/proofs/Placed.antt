@@ -1,5 +1,5 @@
 -- Where points of known types lie.
-use Rattle.std.proofs.Common.{◌≡◌, ◌≤◌, ◌<◌, ◌+◌, ℕ, List, map, arith}
+use Rattle.std.proofs.Common.{◌≤◌, ◌+◌, ℕ, List, arith}
 use Rattle.std.specs.Prelude.{All}
 use Rattle.std.proofs.lemmas.List.Elements.{All-map}
 use Rattle.mb_pdu.specs.declared.table.Table.{Table}
@@ -8,7 +8,6 @@ use Rattle.sunspec.specs.declared.point_type.PointType.{PointType}
 use Rattle.sunspec.specs.declared.point_type.PointType.TheVariants.{Int16, Uint16, Acc16, Enum16, Bitfield16, Sunssf, Int32, Uint32, Acc32, Enum32, Bitfield32, Int64, Uint64, Acc64, Ipaddr, Str, Bit}
 use Rattle.sunspec.specs.PointType.{IsSized, row}
 use Rattle.point_list.specs.declared.point.Point.{Point}
-use Rattle.read_planner.specs.declared.place.Place.{Place}
 use Rattle.read_planner.specs.Place.{function_of, size_in, size_of, place_of, places_of}
 use Rattle.read_planner.specs.Walk.{IsPlace}
 

@@ -1,12 +1,12 @@
 -- How far reads from a first place on get.
-use Rattle.std.proofs.Common.{◌≡◌, ◌∙◌, ◌≤◌, ◌<◌, ◌+◌, ◌-◌, min, max, ℕ, suc, zero, List, [], ◌∷◌, ◌++◌, length, get_or, take, drop, arith, refl, sym, ap, subst, ◌⊎◌, inl, inr}
+use Rattle.std.proofs.Common.{◌≡◌, ◌∙◌, ◌≤◌, ◌<◌, ◌+◌, ◌-◌, max, ℕ, List, [], ◌∷◌, ◌++◌, length, get_or, take, drop, arith, refl, sym, subst, ◌⊎◌, inl, inr}
 use Rattle.std.specs.Prelude.{All, Any, Contains}
 use Rattle.std.proofs.lemmas.Bool.Decides.{leb_tells}
 use Rattle.std.proofs.lemmas.List.{drop_more, take_more, take-append-drop}
 use Rattle.std.proofs.lemmas.List.Elements.{All-contains, All-push, All-weaker, Contains-append_left, Contains-append_right, Contains-append_cases}
 use Rattle.read_planner.specs.declared.place.Place.{Place}
 use Rattle.read_planner.specs.Place.{Occupies}
-use Rattle.read_planner.specs.Allowed.{IsBridged, IsTaken}
+use Rattle.read_planner.specs.Allowed.{IsBridged}
 use Rattle.read_planner.specs.Chosen.{IsUpTo}
 use Rattle.read_planner.specs.Walk.{AreInOrder, IsPlace, bound_of, IsReached, IsBeyond, Reaches, IsReadEnd}
 use Rattle.read_planner.proofs.Members.{cons_cases, first_in, later_in, any_in, any_moved, any_first, all_in}
@@ -29,26 +29,26 @@ more_bridged xs ys gap function address move (step, few, taken) =
 
 kept : (first : Place) (seen more : List Place) (x : Place) → Contains (first ∷ seen) x → Contains (first ∷ (seen ++ more)) x
 kept first seen more x c = elim (cons_cases first seen x c) [
-    | inl is ↦ subst (λ (y : Place). Contains (first ∷ (seen ++ more)) y) is (first_in first (seen ++ more))
-    | inr there ↦ later_in first (seen ++ more) x (Contains-append_left seen more x there)
-  ]
+  | inl is ↦ subst (λ (y : Place). Contains (first ∷ (seen ++ more)) y) is (first_in first (seen ++ more))
+  | inr there ↦ later_in first (seen ++ more) x (Contains-append_left seen more x there)
+]
 
 new_in : (first : Place) (seen : List Place) (place : Place) → Contains (first ∷ (seen ++ place ∷ [])) place
 new_in first seen place = later_in first (seen ++ place ∷ []) place (Contains-append_right seen (place ∷ []) place (first_in place []))
 
 pub seen_first : (first : Place) (gap : ℕ) → IsPlace first → IsSeen first [] gap first.end first.end
 seen_first first gap is = record {
-    reaches = record {
-      first_end = omega arith;
-      inside = is.inside;
-      within = omega arith;
-      fits = omega (arith, is.fits, is.inside);
-      bridged = λ address from below. (0, omega arith, any_first (λ (place : Place). Occupies place first.function (address + 0)) first [] (record { table = refl; from = omega arith; below = omega arith }));
-      last = any_first (λ (place : Place). (place.function ≡ first.function) × (place.end ≡ first.end)) first [] (refl, refl);
-      first_in = omega arith;
-    };
-    all = λ k d lt. absurd (omega arith);
-  }
+  reaches = record {
+    first_end = omega arith;
+    inside = is.inside;
+    within = omega arith;
+    fits = omega (arith, is.fits, is.inside);
+    bridged = λ address from below. (0, omega arith, any_first (λ (place : Place). Occupies place first.function (address + 0)) first [] (record { table = refl; from = omega arith; below = omega arith }));
+    last = any_first (λ (place : Place). (place.function ≡ first.function) × (place.end ≡ first.end)) first [] (refl, refl);
+    first_in = omega arith;
+  };
+  all = λ k d lt. absurd (omega arith);
+}
 
 bridged_more : (first : Place) (seen : List Place) (gap reach end : ℕ) (place : Place) → Reaches first seen gap reach end → place.function ≡ first.function
     → place.start < place.end → place.start ≤ reach + gap
@@ -56,11 +56,11 @@ bridged_more : (first : Place) (seen : List Place) (gap reach end : ℕ) (place 
 bridged_more first seen gap reach end place r function some near address from below =
     elim (leb_tells reach address) [
       | inl (e, le) ↦ (
-          place.start - address,
-          omega arith,
-          any_in (λ (x : Place). Occupies x first.function (address + (place.start - address))) (first ∷ (seen ++ place ∷ [])) place (new_in first seen place)
-            (record { table = function; from = omega arith; below = omega arith })
-        )
+        place.start - address,
+        omega arith,
+        any_in (λ (x : Place). Occupies x first.function (address + (place.start - address))) (first ∷ (seen ++ place ∷ [])) place (new_in first seen place)
+            (record { table = function; from = omega arith; below = omega arith }),
+      )
       | inr (e, lt) ↦ more_bridged (first ∷ seen) (first ∷ (seen ++ place ∷ [])) gap first.function address (kept first seen (place ∷ [])) (r.bridged address from lt)
     ]
 
@@ -100,9 +100,9 @@ seen_more first seen gap reach end place new s is function near n =
         first_in = omega (arith, r.first_in, e.0);
       };
       all = All-push (IsReached first (max reach place.end) new) seen place
-        (All-weaker (IsReached first reach end) (IsReached first (max reach place.end) new)
+          (All-weaker (IsReached first reach end) (IsReached first (max reach place.end) new)
           (λ x was. record { function = was.function; reached = omega (arith, was.reached); in_time = λ soon. omega (arith, was.in_time soon, e.0) }) seen s.all)
-        (record { function = function; reached = omega arith; in_time = e.1 });
+          (record { function = function; reached = omega arith; in_time = e.1 });
     }
 
 -- what comes after a place that is out of reach is out of reach
@@ -132,9 +132,9 @@ stopped first seen rest gap reach end s beyond =
         first_in = r.first_in;
       };
       sorted = all_in (λ place. IsReached first reach end place ⊎ IsBeyond first gap reach place) (seen ++ rest) (λ x c. elim (Contains-append_cases seen rest x c) [
-          | inl here ↦ inl (All-contains (IsReached first reach end) seen x s.all here)
-          | inr there ↦ inr (All-contains (IsBeyond first gap reach) rest x beyond there)
-        ]);
+        | inl here ↦ inl (All-contains (IsReached first reach end) seen x s.all here)
+        | inr there ↦ inr (All-contains (IsBeyond first gap reach) rest x beyond there)
+      ]);
     }
 
 pub ends_after_all : (first : Place) (places : List Place) (gap reach end : ℕ) → IsSeen first places gap reach end → IsReadEnd first places gap end
@@ -152,10 +152,10 @@ ends_before first places gap reach end i d s order lt beyond =
     let place = get_or places i d in
     let up : IsUpTo first place = order.0 i d lt in
     let later : All (IsBeyond first gap reach) (drop i places) = subst (All (IsBeyond first gap reach)) (sym (drop_more places i d lt))
-      (all_in (IsBeyond first gap reach) (place ∷ drop (i + 1) places) (λ x c. elim (cons_cases place (drop (i + 1) places) x c) [
-        | inl same ↦ subst (IsBeyond first gap reach) same beyond
-        | inr there ↦ beyond_up first place x gap reach (function_up first place up) (later_up places i d x order.1 lt there) beyond
-      ])) in
+    (all_in (IsBeyond first gap reach) (place ∷ drop (i + 1) places) (λ x c. elim (cons_cases place (drop (i + 1) places) x c) [
+      | inl same ↦ subst (IsBeyond first gap reach) same beyond
+      | inr there ↦ beyond_up first place x gap reach (function_up first place up) (later_up places i d x order.1 lt there) beyond
+    ])) in
     subst (λ (xs : List Place). IsReadEnd first xs gap end) (take-append-drop i places) (stopped first (take i places) (drop i places) gap reach end s later)
 
 -- a place of another function that comes later
@@ -171,4 +171,4 @@ seen_at first places gap reach end i d further new s each lt function near n is 
     let place = get_or places i d in
     let more = seen_more first (take i places) gap reach end place new s (each i d lt) function near n in
     subst (λ far. IsSeen first (take (i + 1) places) gap far new) (sym is)
-      (subst (λ (xs : List Place). IsSeen first xs gap (max reach place.end) new) (sym (take_more places i d lt)) more)
+    (subst (λ (xs : List Place). IsSeen first xs gap (max reach place.end) new) (sym (take_more places i d lt)) more)

@@ -1,21 +1,15 @@
 -- The walk over places in order: one read more.
-use Rattle.std.proofs.Common.{◌≡◌, ◌∙◌, ◌≤◌, ◌<◌, ◌+◌, ◌-◌, min, ℕ, suc, zero, Bool, true, false, List, [], ◌∷◌, ◌++◌, length, get_or, take, drop, arith, refl, sym, ap, subst, append_assoc, length-take, length-drop, ◌⊎◌, inl, inr, eqb}
-use Rattle.std.specs.Prelude.{All, Any, Contains, nat_le, ◌&&◌}
-use Rattle.std.specs.List.{prefix_len}
-use Rattle.std.proofs.lemmas.Bool.{and_parts, eqb-true, leb-true, leb-false, eq-eqb}
+use Rattle.std.proofs.Common.{◌≡◌, ◌∙◌, ◌≤◌, ◌<◌, ◌+◌, min, ℕ, List, [], ◌∷◌, ◌++◌, arith, refl, sym, subst, ◌⊎◌, inl, inr}
+use Rattle.std.specs.Prelude.{All, Contains}
 use Rattle.std.proofs.lemmas.Bool.Decides.{leb_tells}
-use Rattle.std.proofs.lemmas.List.{take-append-drop, get_or-take, get_or-drop}
-use Rattle.std.proofs.lemmas.List.Sums.{prefix_len_passes, prefix_len_stops}
-use Rattle.std.proofs.lemmas.List.Elements.{All-contains, All-push, All-weaker, Contains-append_right, Contains-append_left, Contains-append_cases}
-use Rattle.std.proofs.lemmas.List.Quantifiers.{Any-push}
+use Rattle.std.proofs.lemmas.List.Elements.{All-contains, Contains-append_right, Contains-append_cases}
 use Rattle.read_planner.specs.declared.Read.{Read}
 use Rattle.read_planner.specs.declared.place.Place.{Place}
 use Rattle.read_planner.specs.Read.{end_of, limit_of}
-use Rattle.read_planner.specs.Place.{Occupies}
-use Rattle.read_planner.specs.Allowed.{IsAllowed, AreAllowed, HoldsWhole, IsHeld, HoldsAll}
-use Rattle.read_planner.specs.Chosen.{IsUpTo, IsFirstLeft, IsLongest, IsLastEnd, IsNext, AreNext, AreChosen}
-use Rattle.read_planner.specs.Walk.{AreInOrder, IsPlace, IsPlan, bound_of, ends_by, IsReached, IsBeyond, IsReadEnd}
-use Rattle.read_planner.proofs.Members.{cons_cases, first_in, later_in, all_in, any_in, any_moved, any_append}
+use Rattle.read_planner.specs.Allowed.{IsAllowed, AreAllowed, HoldsWhole, IsHeld}
+use Rattle.read_planner.specs.Chosen.{IsUpTo, IsNext, AreChosen}
+use Rattle.read_planner.specs.Walk.{IsPlace, bound_of, IsReached, IsBeyond, IsReadEnd}
+use Rattle.read_planner.proofs.Members.{cons_cases, first_in, all_in, any_moved}
 use Rattle.read_planner.proofs.Cutting.{few_of, valid_of, read_between}
 use Rattle.read_planner.proofs.Reaching.{more_bridged}
 
@@ -57,9 +51,9 @@ first_place places gap reads first others end w = All-contains IsPlace places fi
 -- what is held already ends sooner
 held_ends : (first : Place) (reads : List Read) → All (EndsBefore first) reads → (x : Place) → IsHeld reads x → x.function ≡ first.function → x.end < first.end
 held_ends first reads past x (k, read, lt, is, whole) function = elim (All-contains (EndsBefore first) reads read past (k, lt, is)) [
-    | inl less ↦ absurd (omega (arith, less, whole.function))
-    | inr (same, sooner) ↦ omega (arith, sooner, whole.end)
-  ]
+  | inl less ↦ absurd (omega (arith, less, whole.function))
+  | inr (same, sooner) ↦ omega (arith, sooner, whole.end)
+]
 
 -- what a place of the same function is to the read: it ended sooner, it is reached, or it is out of reach
 abbrev Stands : Place → ℕ → ℕ → ℕ → Place → Type 0
@@ -91,8 +85,8 @@ longest_allowed places gap reads first others end w far le some =
       valid = valid_of (read_between first.function first.start far) (omega arith) (omega arith);
       inside = omega arith;
       bridged = λ address from below.
-        more_bridged (first ∷ others) places gap first.function address (in_places places gap reads first others end w)
-        (w.ends.reaches.bridged address from (omega arith));
+          more_bridged (first ∷ others) places gap first.function address (in_places places gap reads first others end w)
+          (w.ends.reaches.bridged address from (omega arith));
     }
 
 none_longer : (places : List Place) (gap : ℕ) (reads : List Read) (first : Place) (others : List Place) (end : ℕ) (w : IsAt places gap reads first others end)
@@ -157,25 +151,31 @@ next_read places gap reads first others end w read function start ends =
       start = (start, refl);
       ends = record {
         some = any_moved (λ (x : Place). (x.function ≡ first.function) × (x.end ≡ end)) (λ (x : Place). HoldsWhole long x × (x.end ≡ end_of read)) (first ∷ others) places
-          (λ x c (table, last). (all x c, (record {
-            function = sym table;
-            start = elim (cons_cases first others x c) [
-              | inl same ↦ subst (λ (y : Place). first.start ≤ y.start) same (omega arith)
-              | inr later ↦ elim (All-contains (IsUpTo first) others x w.order later) [ inl less ↦ absurd (omega arith) | inr (same, up) ↦ up ]
-            ];
-            end = omega (arith, last, r.fits, r.within);
-          }, last ∙ sym ends))) r.last;
+            (λ x c (table, last). (
+              all x c,
+              (
+                record {
+                  function = sym table;
+                  start = elim (cons_cases first others x c) [
+                    | inl same ↦ subst (λ (y : Place). first.start ≤ y.start) same (omega arith)
+                    | inr later ↦ elim (All-contains (IsUpTo first) others x w.order later) [ inl less ↦ absurd (omega arith) | inr (same, up) ↦ up ]
+                  ];
+                  end = omega (arith, last, r.fits, r.within);
+                },
+                last ∙ sym ends,
+              ),
+            )) r.last;
         greatest = all_in (λ (x : Place). HoldsWhole long x → x.end ≤ end_of read) places (λ x c whole.
-          let lies = whole.end in
-          let each = All-contains IsPlace places x w.each c in
-          let each_some = each.some in
-          let ended = r.first_in in
-          elim (stands places gap reads first others end w x c (sym whole.function)) [
-            | inl sooner ↦ omega (arith, ends)
-            | inr rest ↦ elim rest [
-              | inl (seen, up) ↦ omega (arith, ends, seen.in_time (omega arith))
-              | inr out ↦ elim out [ inl late ↦ absurd (omega arith) | inr far ↦ absurd (omega arith) ]
-            ]
-          ]);
+            let lies = whole.end in
+            let each = All-contains IsPlace places x w.each c in
+            let each_some = each.some in
+            let ended = r.first_in in
+            elim (stands places gap reads first others end w x c (sym whole.function)) [
+              | inl sooner ↦ omega (arith, ends)
+              | inr rest ↦ elim rest [
+                | inl (seen, up) ↦ omega (arith, ends, seen.in_time (omega arith))
+                | inr out ↦ elim out [ inl late ↦ absurd (omega arith) | inr far ↦ absurd (omega arith) ]
+              ]
+            ]);
       };
     }

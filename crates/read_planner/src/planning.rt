@@ -19,7 +19,20 @@ fn places_of(alloc: Global, points: &[Point]) -> Result<Vec<Place>, AllocError>
     points.iter().map(place_of).collect(alloc)
 }
 
-/// The fewest reads that hold each of these points whole.
+/// The fewest reads that hold each of these points of one device whole, where a read may bridge up
+/// to `gap` neighbouring addresses that no point has (Modbus Application Protocol V1.1b3, sections
+/// 6.1 to 6.4).
+///
+/// The points may stand in any order, overlap, lie inside each other and repeat. Each is of a type
+/// with 1 to 125 registers and ends by address 65,535. A point of single bits holds one address,
+/// and one of registers as many as its type has.
+///
+/// Coils are read by function 1, discrete inputs by 2, holding registers by 3, input registers by
+/// 4. A read asks for 1 to 2,000 bits or 1 to 125 registers and ends by address 65,535. The reads
+/// come by function, then by start: each begins with the first point that those before it leave,
+/// and ends with the last end of a point in the longest allowed read from there.
+///
+/// `AllocError` comes where memory is refused, and then there are no reads.
 pub fn plan(alloc: Global, points: &[Point], gap: u16) -> Result<Vec<Read>, AllocError>
     requires sized { All (λ point. IsSized point.kind) points.now }
     requires inside { All (λ point. point.address + size_of point ≤ 65536) points.now }
