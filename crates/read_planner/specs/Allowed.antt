@@ -1,5 +1,5 @@
 -- Which reads are allowed, and which points they hold (Modbus Application Protocol V1.1b3, sections 6.1 to 6.4).
-use Rattle.std.specs.Prelude.{◌≡◌, ℕ, ◌+◌, ◌<◌, ◌≤◌, List, All, Any, true}
+use Rattle.std.specs.Prelude.{◌≡◌, ℕ, ◌+◌, ◌<◌, ◌≤◌, List, All, Any, length, true}
 use Rattle.read_planner.specs.declared.Read.{Read}
 use Rattle.read_planner.specs.declared.place.Place.{Place}
 use Rattle.read_planner.specs.Read.{is_valid_read, end_of}
@@ -34,3 +34,7 @@ HoldsAll reads places = All (IsHeld reads) places
 
 abbrev pub AreAllowed : List Place → ℕ → List Read → Type 0
 AreAllowed places gap reads = All (IsAllowed places gap) reads
+
+-- no list of allowed reads that holds all points is shorter
+abbrev pub AreFewest : List Place → ℕ → List Read → Type 0
+AreFewest places gap reads = (others : List Read) → AreAllowed places gap others → HoldsAll others places → length reads ≤ length others

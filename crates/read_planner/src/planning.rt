@@ -1,8 +1,7 @@
 //! The fewest reads.
-ghost use Rattle.std.specs.Prelude.{◌≡◌, ◌+◌, ◌≤◌, All, IfOk, List, length};
+ghost use Rattle.std.specs.Prelude.{◌≡◌, ◌+◌, ◌≤◌, All, IfOk};
 ghost use Rattle.sunspec.specs.PointType.{IsSized};
-ghost use Rattle.read_planner.specs.declared.Read.{Read};
-ghost use Rattle.read_planner.specs.Allowed.{AreAllowed, HoldsAll};
+ghost use Rattle.read_planner.specs.Allowed.{AreAllowed, AreFewest, HoldsAll};
 ghost use Rattle.read_planner.specs.Chosen.{AreChosen};
 ghost use Rattle.read_planner.specs.Place.{places_of, size_of};
 
@@ -38,7 +37,7 @@ pub fn plan(alloc: Global, points: &[Point], gap: u16) -> Result<Vec<Read>, Allo
     requires inside { All (λ point. point.address + size_of point ≤ 65536) points.now }
     ensures allowed { IfOk result (λ reads. AreAllowed (places_of points.now) gap reads.items) }
     ensures whole { IfOk result (λ reads. HoldsAll reads.items (places_of points.now)) }
-    ensures fewest { IfOk result (λ reads. (others : List Read) → AreAllowed (places_of points.now) gap others → HoldsAll others (places_of points.now) → length reads.items ≤ length others) }
+    ensures fewest { IfOk result (λ reads. AreFewest (places_of points.now) gap reads.items) }
     ensures chosen { IfOk result (λ reads. AreChosen (places_of points.now) gap reads.items) }
 {
     let mut places = places_of(alloc, points)?;
