@@ -11,16 +11,16 @@ use sunspec::PointType;
 struct Dice(u32);
 
 impl Dice {
-    /// A number below 1 to 65,536.
-    fn roll(&mut self, sides: u32) -> u32 {
+    /// A number below so many.
+    fn roll(&mut self, sides: u16) -> u16 {
         self.0 = self.0.wrapping_mul(1664525).wrapping_add(1013904223);
-        (self.0 >> 16) % sides.max(1)
+        (self.0 / 65536) as u16 % sides.max(1)
     }
 }
 
 /// A point of holding registers, from address 0 to 219.
 fn spot(dice: &mut Dice) -> Spot {
-    let address = dice.roll(220) as u16;
+    let address = dice.roll(220);
     let kind = match dice.roll(8) {
         0..=2 => PointType::Int16,
         3 => PointType::Int32,
@@ -130,7 +130,7 @@ fn no_search_finds_fewer(rt: HostRuntime) -> Result<(), Fail> {
             spot(&mut dice),
             spot(&mut dice),
         ];
-        let gap = dice.roll(30) as u16;
+        let gap = dice.roll(30);
         let extents = spots.map(extent);
         let least = least_number(rt.alloc(), &extents, gap)?;
         let told = planned_number(rt.alloc(), &spots, gap)?;

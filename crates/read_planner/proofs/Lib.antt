@@ -2,6 +2,7 @@ pub mod Cutting
 pub mod Fewest
 pub mod Members
 pub mod Moving
+pub mod OnePlan
 pub mod Orders
 pub mod Pigeons
 pub mod Placed

@@ -4,6 +4,7 @@
 ghost use Rattle.std.specs.Prelude.{◌≡◌};
 ghost use Rattle.read_planner.specs.Read.{IsReadFunction, is_valid_read, limit_of, read_request};
 
+pub mod laws;
 mod place;
 mod planning;
 mod walk;
