@@ -164,3 +164,20 @@ fn limits_of_reads(rt: HostRuntime) -> Result<(), Fail> {
     }
     Ok(())
 }
+
+#[test]
+fn points_that_are_not_planned(rt: HostRuntime) -> Result<(), Fail> {
+    let cases: [(Spot, bool); 6] = [
+        ((Input, 65535, Int32), false),
+        ((Input, 65535, Int16), true),
+        ((Holding, 65411, Str(125)), true),
+        ((Holding, 65412, Str(125)), false),
+        ((Holding, 0, Str(126)), false),
+        ((Holding, 0, Str(0)), false),
+    ];
+    for (spot, is_planned) in cases {
+        let told = reads(rt.alloc(), &[spot], 0)?;
+        assert_told(&rt, &spot, &told.is_some(), &is_planned);
+    }
+    Ok(())
+}

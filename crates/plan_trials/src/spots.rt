@@ -1,11 +1,7 @@
 //! Points by their places, and the reads that they get.
-ghost use Rattle.std.specs.Prelude.{◌≤◌, ◌+◌, IsTrue};
-ghost use Rattle.sunspec.specs.PointType.{IsSized};
-ghost use Rattle.read_planner.specs.Place.{size_of};
-
 use mb_pdu::Table;
 use point_list::{Label, Name, Point, Role};
-use read_planner::{Read, plan};
+use read_planner::{Read, can_be_read, plan};
 use std::alloc::{AllocError, Global};
 use sunspec::PointType;
 
@@ -32,20 +28,8 @@ fn shown(read: &Read) -> Shown {
     (read.function, read.span.start, read.span.quantity)
 }
 
-/// Whether the point can be planned.
-fn can_be_read(point: &Point) -> bool
-    ensures sized { IsTrue result → IsSized point.now.kind }
-    ensures inside { IsTrue result → point.now.address + size_of point.now ≤ 65536 }
-{
-    let size = match point.table {
-        Table::Coil | Table::Discrete => 1,
-        Table::Holding | Table::Input => point.kind.registers(),
-    };
-    point.kind.is_sized() && u32::from(point.address) + u32::from(size) <= 65536
-}
-
 fn planned(alloc: Global, points: &[Point], gap: u16) -> Result<Option<Vec<Shown>>, AllocError> {
-    if !points.iter().all(can_be_read) {
+    if !points.iter().all(|point| can_be_read(point)) {
         return Ok(None);
     }
     let reads = plan(alloc, points, gap)?;

@@ -1,12 +1,11 @@
 -- The chosen reads that hold all points are one list.
-use Rattle.std.proofs.Common.{◌≡◌, ◌∙◌, ◌≤◌, ◌<◌, ◌+◌, ℕ, List, [], ◌∷◌, ◌++◌, arith, refl, sym, ap, subst, append-nil, append_assoc, ◌⊎◌, inl, inr}
-use Rattle.std.specs.Prelude.{All, Any, Contains}
+use Rattle.std.proofs.Common.{◌≡◌, ◌∙◌, ◌≤◌, ℕ, List, [], ◌∷◌, ◌++◌, arith, refl, sym, ap, subst, append-nil, append_assoc, inl, inr}
 use Rattle.std.proofs.lemmas.List.Elements.{All-contains}
 use Rattle.read_planner.specs.declared.Read.{Read}
 use Rattle.read_planner.specs.declared.place.Place.{Place}
 use Rattle.read_planner.specs.Read.{end_of}
 use Rattle.read_planner.specs.Allowed.{HoldsWhole, IsHeld, HoldsAll}
-use Rattle.read_planner.specs.Chosen.{IsUpTo, IsLongest, IsLastEnd, IsNext, AreNext, AreChosen}
+use Rattle.read_planner.specs.Chosen.{IsUpTo, IsLastEnd, IsNext, AreNext}
 
 both_up : (one other : Place) → IsUpTo one other → IsUpTo other one → (one.function ≡ other.function) × (one.start ≡ other.start)
 both_up one other (inl less) (inl more) = absurd (omega arith)

@@ -8,7 +8,7 @@ use Rattle.sunspec.specs.declared.point_type.PointType.{PointType}
 use Rattle.sunspec.specs.declared.point_type.PointType.TheVariants.{Int16, Uint16, Acc16, Enum16, Bitfield16, Sunssf, Int32, Uint32, Acc32, Enum32, Bitfield32, Int64, Uint64, Acc64, Ipaddr, Str, Bit}
 use Rattle.sunspec.specs.PointType.{IsSized, row}
 use Rattle.point_list.specs.declared.point.Point.{Point}
-use Rattle.read_planner.specs.Place.{function_of, size_in, size_of, place_of, places_of}
+use Rattle.read_planner.specs.Place.{CanBeRead, function_of, size_in, place_of, places_of}
 use Rattle.read_planner.specs.Walk.{IsPlace}
 
 -- a type has 1 to 125 registers
@@ -40,7 +40,10 @@ placed Holding registers address some few inside = record { function = (omega ar
 placed Input registers address some few inside = record { function = (omega arith, omega arith); some = omega arith; fits = omega arith; inside = inside }
 
 -- an allowed read can hold each of the points
-pub all_placed : (points : List Point) → All (λ (point : Point). IsSized point.kind) points → All (λ (point : Point). point.address + size_of point ≤ 65536) points → All IsPlace (places_of points)
-all_placed points sized inside = All-map IsPlace place_of points (λ k d lt.
-    let r = registers_of _ (sized k d lt) in
-    placed _ _ _ r.0 r.1 (inside k d lt))
+pub all_placed : (points : List Point) → All CanBeRead points → All IsPlace (places_of points)
+all_placed points each =
+    All-map IsPlace place_of points
+    (λ k d lt.
+    let is = each k d lt in
+    let r = registers_of _ is.sized in
+    placed _ _ _ r.0 r.1 is.inside)

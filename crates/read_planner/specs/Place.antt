@@ -2,7 +2,7 @@
 use Rattle.std.specs.Prelude.{◌≡◌, ℕ, ◌+◌, ◌<◌, ◌≤◌, List, map}
 use Rattle.mb_pdu.specs.declared.table.Table.{Table}
 use Rattle.mb_pdu.specs.declared.table.Table.TheVariants.{Coil, Discrete, Holding, Input}
-use Rattle.sunspec.specs.PointType.{row}
+use Rattle.sunspec.specs.PointType.{IsSized, row}
 use Rattle.point_list.specs.declared.point.Point.{Point}
 use Rattle.read_planner.specs.declared.place.Place.{Place}
 
@@ -22,6 +22,11 @@ size_in Input registers = registers
 
 abbrev pub size_of : Point → ℕ
 size_of point = size_in point.table (row point.kind).registers
+
+-- a point whose type has 1 to 125 registers, and which ends by the last address
+pub record CanBeRead (point : Point) : Type 0 where
+  pub sized : IsSized point.kind
+  pub inside : point.address + size_of point ≤ 65536
 
 -- the end is the address after the last
 abbrev pub place_of : Point → Place

@@ -10,6 +10,7 @@ mod planning;
 mod walk;
 
 use mb_pdu::{Request, Span};
+pub use place::can_be_read;
 pub use planning::plan;
 
 /// What a query asks for: a span of coils (function 1), discrete inputs (2), holding registers (3)

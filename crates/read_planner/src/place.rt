@@ -1,6 +1,6 @@
 //! Where a point lies.
-ghost use Rattle.std.specs.Prelude.{◌≡◌, ◌+◌, ◌-◌, ◌<◌, ◌≤◌};
-ghost use Rattle.read_planner.specs.Place.{function_of, place_of};
+ghost use Rattle.std.specs.Prelude.{◌≡◌, ◌↔◌, ◌+◌, ◌-◌, ◌<◌, ◌≤◌, IsTrue};
+ghost use Rattle.read_planner.specs.Place.{CanBeRead, function_of, place_of, size_of};
 ghost use Rattle.read_planner.specs.Walk.{bound_of, ends_by};
 
 use crate::{Read, limit_of};
@@ -27,19 +27,32 @@ fn function_of(table: Table) -> u8
     }
 }
 
-/// Where a point lies. A point of single bits holds one address.
+/// How many addresses a point holds: one of single bits, and of registers as many as its type has.
+fn size_of(point: &Point) -> u16
+    ensures { result ≡ size_of point.now }
+{
+    match point.table {
+        Table::Coil | Table::Discrete => 1,
+        Table::Holding | Table::Input => point.kind.registers(),
+    }
+}
+
+/// Whether `plan` takes a point: its type has 1 to 125 registers, and it ends by address 65,535.
+pub fn can_be_read(point: &Point) -> bool
+    ensures { IsTrue result ↔ CanBeRead point.now }
+{
+    point.kind.is_sized() && u32::from(point.address) + u32::from(size_of(point)) <= 65536
+}
+
+/// Where a point lies.
 pub(crate) fn place_of(point: &Point) -> Place
     ensures { result ≡ place_of point.now }
 {
     let start = u32::from(point.address);
-    let size = match point.table {
-        Table::Coil | Table::Discrete => 1,
-        Table::Holding | Table::Input => point.kind.registers(),
-    };
     Place {
         function: function_of(point.table),
         start,
-        end: start + u32::from(size),
+        end: start + u32::from(size_of(point)),
     }
 }
 

@@ -1,9 +1,8 @@
 //! The fewest reads.
-ghost use Rattle.std.specs.Prelude.{◌≡◌, ◌+◌, ◌≤◌, All, IfOk};
-ghost use Rattle.sunspec.specs.PointType.{IsSized};
+ghost use Rattle.std.specs.Prelude.{◌≡◌, All, IfOk};
 ghost use Rattle.read_planner.specs.Allowed.{AreAllowed, AreFewest, HoldsAll};
 ghost use Rattle.read_planner.specs.Chosen.{AreChosen};
-ghost use Rattle.read_planner.specs.Place.{places_of, size_of};
+ghost use Rattle.read_planner.specs.Place.{CanBeRead, places_of};
 
 use crate::Read;
 use crate::place::{Place, place_of};
@@ -33,8 +32,7 @@ fn places_of(alloc: Global, points: &[Point]) -> Result<Vec<Place>, AllocError>
 ///
 /// `AllocError` comes where memory is refused, and then there are no reads.
 pub fn plan(alloc: Global, points: &[Point], gap: u16) -> Result<Vec<Read>, AllocError>
-    requires sized { All (λ point. IsSized point.kind) points.now }
-    requires inside { All (λ point. point.address + size_of point ≤ 65536) points.now }
+    requires { All CanBeRead points.now }
     ensures allowed { IfOk result (λ reads. AreAllowed (places_of points.now) gap reads.items) }
     ensures whole { IfOk result (λ reads. HoldsAll reads.items (places_of points.now)) }
     ensures fewest { IfOk result (λ reads. AreFewest (places_of points.now) gap reads.items) }

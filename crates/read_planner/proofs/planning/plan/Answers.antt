@@ -15,7 +15,7 @@ pub reads_of-requires-clause-places : goal.reads_of-requires-clause-places
 reads_of-requires-clause-places c =
     subst (All IsPlace) (sym c.as_slice.ensures.value)
     (All-permutation IsPlace c.in_ok-places.places.items c.sort_unstable.new.self.items c.sort_unstable.ensures.permutation
-    (subst (All IsPlace) (sym c.in_ok-places.ensures) (all_placed c.args.points.now c.requires.sized c.requires.inside)))
+    (subst (All IsPlace) (sym c.in_ok-places.ensures) (all_placed c.args.points.now c.requires)))
 
 pub reads_of-requires-clause-order : goal.reads_of-requires-clause-order
 reads_of-requires-clause-order c = subst AreInOrder (sym c.as_slice.ensures.value) (sorted_order c.sort_unstable.new.self.items c.sort_unstable.ensures.sorted)
@@ -36,7 +36,7 @@ returns-clause-whole c = IfOk-weaker c.reads_of.result _ _ (λ reads plan. plan.
 
 pub returns-clause-fewest : goal.returns-clause-fewest
 returns-clause-fewest c = IfOk-weaker c.reads_of.result _ _
-    (λ reads plan. fewest (places_of c.args.points.now) c.args.gap reads.items (all_placed c.args.points.now c.requires.sized c.requires.inside) plan.chosen) (planned c)
+    (λ reads plan. fewest (places_of c.args.points.now) c.args.gap reads.items (all_placed c.args.points.now c.requires) plan.chosen) (planned c)
 
 pub returns-clause-chosen : goal.returns-clause-chosen
 returns-clause-chosen c = IfOk-weaker c.reads_of.result _ _ (λ reads plan. plan.chosen) (planned c)
