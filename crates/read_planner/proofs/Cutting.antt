@@ -7,23 +7,23 @@ use Rattle.read_planner.specs.declared.place.Place.{Place}
 use Rattle.read_planner.specs.Read.{is_valid_read, limit_of, end_of}
 use Rattle.read_planner.specs.Allowed.{IsAllowed}
 
+-- a valid read asks for something, and for no more than its limit
 pub some_of : (read : Read) → is_valid_read read ≡ true → 1 ≤ read.span.quantity
 some_of read h = leb-true 1 read.span.quantity (and_parts (nat_le 1 read.span.quantity) (nat_le read.span.quantity (limit_of read.function)) h).0
 
 pub few_of : (read : Read) → is_valid_read read ≡ true → read.span.quantity ≤ limit_of read.function
 few_of read h = leb-true read.span.quantity (limit_of read.function) (and_parts (nat_le 1 read.span.quantity) (nat_le read.span.quantity (limit_of read.function)) h).1
 
+-- and such a read is valid
 pub valid_of : (read : Read) → 1 ≤ read.span.quantity → read.span.quantity ≤ limit_of read.function → is_valid_read read ≡ true
 valid_of read some few =
     let one = le-leb 1 read.span.quantity some in
     let other = le-leb read.span.quantity (limit_of read.function) few in
     rw (one, other) refl
 
+-- the read by a function from a start up to an end
 abbrev pub read_between : ℕ → ℕ → ℕ → Read
 read_between function start end = record { function = function; span = record { start = start; quantity = end - start } }
-
-pub end_between : (function start end : ℕ) → start ≤ end → end_of (read_between function start end) ≡ end
-end_between function start end le = omega arith
 
 -- what is left of an allowed read from a start within it
 pub cut : (places : List Place) (gap : ℕ) (read : Read) (start : ℕ) → IsAllowed places gap read → read.span.start ≤ start → start < end_of read

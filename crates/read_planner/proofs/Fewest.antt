@@ -14,6 +14,7 @@ use Rattle.read_planner.proofs.Members.{any_append, any_moved}
 use Rattle.read_planner.proofs.Pigeons.{AnyOf, AreApart, any_of, pigeons}
 use Rattle.read_planner.proofs.Cutting.{cut, read_between}
 
+-- a read that is allowed and holds the point
 abbrev Serves : List Place → ℕ → Place → Read → Type 0
 Serves places gap place read = IsAllowed places gap read × HoldsWhole read place
 
@@ -52,10 +53,12 @@ record Starts (places : List Place) (gap : ℕ) (earlier later : List Read) : Ty
   pub left : AllByRecursion (λ place. Contains places place × (IsHeld earlier place → ⊥)) firsts
   pub apart : AreApart (Serves places gap) firsts
 
+-- what follows of each element
 each_of : {X : Type 0} (P Q : X → Type 0) → ((x : X) → P x → Q x) → (xs : List X) → AllByRecursion P xs → AllByRecursion Q xs
 each_of P Q f [] p = tt
 each_of P Q f (x ∷ xs) (p, ps) = (f x p, each_of P Q f xs ps)
 
+-- each read begins with a point, and no allowed read holds two of these
 starts : (places : List Place) (gap : ℕ) → All (λ (place : Place). place.start < place.end) places → (earlier later : List Read) → AreNext places gap earlier later → Starts places gap earlier later
 starts places gap some earlier [] chosen = record { firsts = []; count = refl; left = tt; apart = tt }
 starts places gap some earlier (read ∷ later) (next, chosen) =
@@ -80,6 +83,7 @@ starts places gap some earlier (read ∷ later) (next, chosen) =
       );
     }
 
+-- so each needs a read of its own in any other list
 pub fewest : (places : List Place) (gap : ℕ) (reads : List Read) → All IsPlace places → AreChosen places gap reads
     → (others : List Read) → AreAllowed places gap others → HoldsAll others places → length reads ≤ length others
 fewest places gap reads each chosen others allowed holds =

@@ -8,6 +8,7 @@ pub cons_cases : {X : Type 0} (x : X) (xs : List X) (y : X) → Contains (x ∷ 
 cons_cases x xs y (zero, lt, is) = inl is
 cons_cases x xs y (suc k, lt, is) = inr (k, omega arith, is)
 
+-- the first element is in the list, and each of the others
 pub first_in : {X : Type 0} (x : X) (xs : List X) → Contains (x ∷ xs) x
 first_in x xs = (0, omega arith, refl)
 
@@ -30,5 +31,6 @@ any_moved P Q xs ys move (k, x, lt, is, p) = let m = move x (k, lt, is) p in any
 pub any_append : {X : Type 0} (P : X → Type 0) (xs ys : List X) → Any P xs → Any P (xs ++ ys)
 any_append P xs ys any = any_moved P P xs (xs ++ ys) (λ x c p. (Contains-append_left xs ys x c, p)) any
 
+-- what holds of the first element holds of one
 pub any_first : {X : Type 0} (P : X → Type 0) (x : X) (xs : List X) → P x → Any P (x ∷ xs)
 any_first P x xs p = any_in P (x ∷ xs) x (first_in x xs) p

@@ -17,6 +17,7 @@ use Rattle.read_planner.proofs.Reaching.{more_bridged}
 abbrev pub IsWithin : List Place → List Place → Type 0
 IsWithin xs ys = (x : Place) → Contains xs x → Contains ys x
 
+-- what is allowed among the one is allowed among the other
 allowed_moved : (xs ys : List Place) (gap : ℕ) → IsWithin xs ys → (read : Read) → IsAllowed xs gap read → IsAllowed ys gap read
 allowed_moved xs ys gap move read allowed = record {
   valid = allowed.valid;
@@ -27,9 +28,11 @@ allowed_moved xs ys gap move read allowed = record {
 are_allowed_moved : (xs ys : List Place) (gap : ℕ) → IsWithin xs ys → (reads : List Read) → AreAllowed xs gap reads → AreAllowed ys gap reads
 are_allowed_moved xs ys gap move reads allowed = All-weaker (IsAllowed xs gap) (IsAllowed ys gap) (allowed_moved xs ys gap move) reads allowed
 
+-- reads that hold the one hold the other
 holds_moved : (xs ys : List Place) → IsWithin ys xs → (reads : List Read) → HoldsAll reads xs → HoldsAll reads ys
 holds_moved xs ys back reads holds = all_in (IsHeld reads) ys (λ x c. All-contains (IsHeld reads) xs x holds (back x c))
 
+-- a next read of the one is a next read of the other
 next_moved : (xs ys : List Place) (gap : ℕ) → IsWithin xs ys → IsWithin ys xs → (earlier : List Read) (read : Read) → IsNext xs gap earlier read → IsNext ys gap earlier read
 next_moved xs ys gap move back earlier read next = record {
   first = next.first;
@@ -51,6 +54,7 @@ next_moved xs ys gap move back earlier read next = record {
   };
 }
 
+-- and so are all reads that are chosen
 chosen_moved : (xs ys : List Place) (gap : ℕ) → IsWithin xs ys → IsWithin ys xs → (earlier later : List Read) → AreNext xs gap earlier later → AreNext ys gap earlier later
 chosen_moved xs ys gap move back earlier [] chosen = tt
 chosen_moved xs ys gap move back earlier (read ∷ later) (next, chosen) =

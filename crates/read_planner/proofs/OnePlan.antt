@@ -7,6 +7,7 @@ use Rattle.read_planner.specs.Read.{end_of}
 use Rattle.read_planner.specs.Allowed.{HoldsWhole, IsHeld, HoldsAll}
 use Rattle.read_planner.specs.Chosen.{IsUpTo, IsLastEnd, IsNext, AreNext}
 
+-- neither of two places begins sooner than the other
 both_up : (one other : Place) → IsUpTo one other → IsUpTo other one → (one.function ≡ other.function) × (one.start ≡ other.start)
 both_up one other (inl less) (inl more) = absurd (omega arith)
 both_up one other (inl less) (inr (same, up)) = absurd (omega arith)
@@ -29,6 +30,7 @@ ends_up places longest longer one other function start le last later =
     let below = All-contains (λ (x : Place). HoldsWhole longer x → x.end ≤ other) places place later.greatest (k, lt, is) (lies_in longest longer place function start le whole) in
     omega (arith, below, same)
 
+-- reads of one function, start and end are one
 same_read : (one other : Read) → one.function ≡ other.function → one.span.start ≡ other.span.start → end_of one ≡ end_of other → one ≡ other
 same_read one other function start end =
     let quantity : one.span.quantity ≡ other.span.quantity = omega (arith, start, end) in
@@ -53,6 +55,7 @@ none_next : (places : List Place) (gap : ℕ) (earlier : List Read) (read : Read
 none_next places gap earlier read holds next =
     next.begins.left (subst (λ (reads : List Read). IsHeld reads next.first) (append-nil earlier) (All-contains (IsHeld (earlier ++ [])) places next.first holds next.begins.among))
 
+-- so two lists of next reads after the same reads are one list
 pub one_plan : (places : List Place) (gap : ℕ) (earlier reads others : List Read) → AreNext places gap earlier reads → HoldsAll (earlier ++ reads) places
     → AreNext places gap earlier others → HoldsAll (earlier ++ others) places → reads ≡ others
 one_plan places gap earlier [] [] chosen holds also whole = refl

@@ -38,10 +38,12 @@ in_order (place ∷ places) up = (
 abbrev pub place_cmp : Place → Place → Ordering
 place_cmp a b = ordering_then (nat_cmp a.function b.function) (ordering_then (nat_cmp a.start b.start) (nat_cmp a.end b.end))
 
+-- that order is total
 places_total : IsTotalOrder place_cmp
 places_total = then_total (on_total (λ (place : Place). place.function) nat_cmp_total)
     (then_total (on_total (λ (place : Place). place.start) nat_cmp_total) (on_total (λ (place : Place). place.end) nat_cmp_total))
 
+-- a place that is not less than another stands behind it
 not_less : (a b : Place) → is_lt (place_cmp b a) ≡ false → IsUpTo a b
 not_less a b = by (ltb b.function a.function) (eqb b.function a.function) (ltb b.start a.start) refl refl refl
   where

@@ -8,6 +8,7 @@ abbrev pub AnyOf : {X : Type 0} → (X → Type 0) → List X → Type 0
 AnyOf P [] = ⊥
 AnyOf P (x ∷ xs) = P x ⊎ AnyOf P xs
 
+-- an element by its index is one by cases
 pub any_of : {X : Type 0} (P : X → Type 0) (xs : List X) → Any P xs → AnyOf P xs
 any_of P [] (k, x, lt, is, p) = absurd (omega arith)
 any_of P (y ∷ ys) (zero, x, lt, is, p) = inl (subst P (sym is) p)
@@ -26,6 +27,7 @@ record Drawn {X Y : Type 0} (H : X → Y → Type 0) (x : X) (ys : List Y) : Typ
   pub count : length ys ≡ suc (length rest)
   pub others : (other : X) → AnyOf (H other) ys → H other one ⊎ AnyOf (H other) rest
 
+-- take one that serves out of the list
 drawn : {X Y : Type 0} (H : X → Y → Type 0) (x : X) (ys : List Y) → AnyOf (H x) ys → Drawn H x ys
 drawn H x [] any = absurd any
 drawn H x (y ∷ ys) (inl serves) = record { one = y; rest = ys; serves = serves; count = omega arith; others = λ other any. any }
@@ -39,10 +41,12 @@ drawn H x (y ∷ ys) (inr any) =
       others = λ other some. elim some [ inl here ↦ inr (inl here) | inr there ↦ elim (d.others other there) [ inl it ↦ inl it | inr more ↦ inr (inr more) ] ];
     }
 
+-- two facts of each element
 both : {X : Type 0} (P Q R : X → Type 0) → ((x : X) → P x → Q x → R x) → (xs : List X) → AllByRecursion P xs → AllByRecursion Q xs → AllByRecursion R xs
 both P Q R f [] p q = tt
 both P Q R f (x ∷ xs) (p, ps) (q, qs) = (f x p q, both P Q R f xs ps qs)
 
+-- each of these takes one of those away
 pub pigeons : {X Y : Type 0} (H : X → Y → Type 0) (xs : List X) (ys : List Y) → AllByRecursion (λ x. AnyOf (H x) ys) xs → AreApart H xs → length xs ≤ length ys
 pigeons H [] ys served apart = omega arith
 pigeons {X} {Y} H (x ∷ xs) ys (served, rest) (alone, apart) =

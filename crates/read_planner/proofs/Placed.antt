@@ -32,6 +32,7 @@ registers_of Acc64 sized = (omega arith, omega arith)
 registers_of Ipaddr sized = (omega arith, omega arith)
 registers_of Bit sized = (omega arith, omega arith)
 
+-- a point of so many registers lies where an allowed read can hold it
 placed : (table : Table) (registers address : ℕ) → 1 ≤ registers → registers ≤ 125 → address + size_in table registers ≤ 65536
     → IsPlace (record { function = function_of table; start = address; end = address + size_in table registers })
 placed Coil registers address some few inside = record { function = (omega arith, omega arith); some = omega arith; fits = omega arith; inside = inside }

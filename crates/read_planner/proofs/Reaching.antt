@@ -27,15 +27,18 @@ more_bridged xs ys gap function address move (step, few, taken) =
     let at = λ (place : Place). Occupies place function (address + step) in
     (step, few, any_moved at at xs ys (λ x c o. (move x c, o)) taken)
 
+-- what was seen stays seen
 kept : (first : Place) (seen more : List Place) (x : Place) → Contains (first ∷ seen) x → Contains (first ∷ (seen ++ more)) x
 kept first seen more x c = elim (cons_cases first seen x c) [
   | inl is ↦ subst (λ (y : Place). Contains (first ∷ (seen ++ more)) y) is (first_in first (seen ++ more))
   | inr there ↦ later_in first (seen ++ more) x (Contains-append_left seen more x there)
 ]
 
+-- and a new place is seen
 new_in : (first : Place) (seen : List Place) (place : Place) → Contains (first ∷ (seen ++ place ∷ [])) place
 new_in first seen place = later_in first (seen ++ place ∷ []) place (Contains-append_right seen (place ∷ []) place (first_in place []))
 
+-- before the loop the first place alone is seen
 pub seen_first : (first : Place) (gap : ℕ) → IsPlace first → IsSeen first [] gap first.end first.end
 seen_first first gap is = record {
   reaches = record {
@@ -50,6 +53,7 @@ seen_first first gap is = record {
   all = λ k d lt. absurd (omega arith);
 }
 
+-- a place that is near enough bridges the gap before it
 bridged_more : (first : Place) (seen : List Place) (gap reach end : ℕ) (place : Place) → Reaches first seen gap reach end → place.function ≡ first.function
     → place.start < place.end → place.start ≤ reach + gap
     → (address : ℕ) → first.start ≤ address → address < max reach place.end → IsBridged (first ∷ (seen ++ place ∷ [])) gap first.function address
@@ -64,6 +68,7 @@ bridged_more first seen gap reach end place r function some near address from be
       | inr (e, lt) ↦ more_bridged (first ∷ seen) (first ∷ (seen ++ place ∷ [])) gap first.function address (kept first seen (place ∷ [])) (r.bridged address from lt)
     ]
 
+-- and it may be the last to end in time
 last_more : (first : Place) (seen : List Place) (end : ℕ) (place : Place) (new : ℕ) → place.function ≡ first.function → IsNewEnd first place end new
     → Any (λ (x : Place). (x.function ≡ first.function) × (x.end ≡ end)) (first ∷ seen)
     → Any (λ (x : Place). (x.function ≡ first.function) × (x.end ≡ new)) (first ∷ (seen ++ place ∷ []))
@@ -78,6 +83,7 @@ last_more first seen end place new function is last =
       ]
     ]
 
+-- the last end grows, and not past the bound
 new_end : (first place : Place) (end new : ℕ) → IsNewEnd first place end new → (end ≤ new) × (place.end ≤ bound_of first → place.end ≤ new) × (end ≤ bound_of first → new ≤ bound_of first) × (new ≤ max end place.end)
 new_end first place end new (inl (late, same)) = (omega arith, (λ in_time. absurd (omega arith)), (λ fits. omega arith), omega arith)
 new_end first place end new (inr (in_time, same)) = (omega arith, (λ _. omega arith), (λ fits. omega arith), omega arith)
@@ -112,6 +118,7 @@ beyond_up first place other gap reach le (inr (same, later)) (inl less) = inl (o
 beyond_up first place other gap reach le (inr (same, later)) (inr (inl late)) = inr (inl (omega arith))
 beyond_up first place other gap reach le (inr (same, later)) (inr (inr far)) = inr (inr (omega arith))
 
+-- what comes later has no lesser function
 function_up : (one other : Place) → IsUpTo one other → one.function ≤ other.function
 function_up one other (inl less) = omega arith
 function_up one other (inr (same, later)) = omega arith
@@ -137,6 +144,7 @@ stopped first seen rest gap reach end s beyond =
       ]);
     }
 
+-- where all places are reached, the read ends there
 pub ends_after_all : (first : Place) (places : List Place) (gap reach end : ℕ) → IsSeen first places gap reach end → IsReadEnd first places gap end
 ends_after_all first places gap reach end s =
     let none : All (IsBeyond first gap reach) [] = λ k d lt. absurd (omega arith) in
@@ -146,6 +154,7 @@ ends_after_all first places gap reach end s =
       sorted = all_in (λ place. IsReached first reach end place ⊎ IsBeyond first gap reach place) places (λ x c. inl (All-contains (IsReached first reach end) places x s.all c));
     }
 
+-- where a place is out of reach, so are those behind it, and the read ends there
 pub ends_before : (first : Place) (places : List Place) (gap reach end i : ℕ) (d : Place) → IsSeen first (take i places) gap reach end → AreInOrder (first ∷ places)
     → i < length places → IsBeyond first gap reach (get_or places i d) → IsReadEnd first places gap end
 ends_before first places gap reach end i d s order lt beyond =

@@ -19,6 +19,7 @@ use Rattle.read_planner.proofs.Cutting.{read_between}
 use Rattle.read_planner.proofs.Orders.{order_append}
 use Rattle.read_planner.proofs.Walking.{EndsBefore, ArePast, IsWalked, IsAt, first_place, longest_allowed, next_read}
 
+-- before the walk there are no reads
 pub walked_none : (places : List Place) (gap : ℕ) → IsWalked places gap [] places
 walked_none places gap = record {
   front = [];
@@ -33,6 +34,7 @@ walked_none places gap = record {
     past_none [] = tt
     past_none (first ∷ rest) = λ k d lt. absurd (omega arith)
 
+-- where no place is left, the reads are a plan
 pub walked_all : (places : List Place) (gap : ℕ) (reads : List Read) → IsWalked places gap reads [] → IsPlan places gap reads
 walked_all places gap reads w = record {
   allowed = w.allowed;
@@ -50,6 +52,7 @@ next_chosen places gap earlier [] read chosen next = (subst (λ (reads : List Re
 next_chosen places gap earlier (one ∷ later) read (is, chosen) next =
     (is, next_chosen places gap (earlier ++ one ∷ []) later read chosen (subst (λ (reads : List Read). IsNext places gap reads read) (sym (append_assoc earlier (one ∷ []) later)) next))
 
+-- the walk stands at the first of the places that are left
 at : (places : List Place) (gap : ℕ) (reads : List Read) (first : Place) (others : List Place) (end : ℕ)
     → IsWalked places gap reads (first ∷ others) → All IsPlace places → AreInOrder places → IsReadEnd first others gap end
     → IsAt places gap reads first others end
@@ -76,6 +79,7 @@ whole_by first end read place function start ends up by =
       end = omega (arith, ends);
     }
 
+-- with the next read the first place is held, and each that follows and passes the test
 held_more : (first : Place) (others : List Place) (front : List Place) (reads : List Read) (end : ℕ) (read : Read)
     → read.function ≡ first.function → read.span.start ≡ first.start → end_of read ≡ end → first.end ≤ end → All (IsUpTo first) others → All (IsHeld reads) front
     → All (IsHeld (reads ++ read ∷ [])) (front ++ first ∷ take (prefix_len (ends_by first.function end) others) others)
@@ -98,6 +102,7 @@ held_more first others front reads end read function start ends le order held =
 abbrev IsAhead : Place → Place → ℕ → Type 0
 IsAhead first next end = (first.function < next.function) ⊎ ((first.function ≡ next.function) × (end < next.end))
 
+-- a place that fails the test is behind the read
 ahead : (first : Place) (end : ℕ) (next : Place) → IsUpTo first next → ends_by first.function end next ≡ false → IsAhead first next end
 ahead first end next (inl less) stops = inl less
 ahead first end next (inr (same, later)) stops = inr (
@@ -108,16 +113,19 @@ ahead first end next (inr (same, later)) stops = inr (
   ],
 )
 
+-- the earlier reads end before it
 still_before : (first next : Place) (end : ℕ) (read : Read) → first.end ≤ end → EndsBefore first read → IsAhead first next end → EndsBefore next read
 still_before first next end read le (inl less) (inl more) = inl (omega arith)
 still_before first next end read le (inl less) (inr (same, later)) = inl (omega arith)
 still_before first next end read le (inr (also, sooner)) (inl more) = inl (omega arith)
 still_before first next end read le (inr (also, sooner)) (inr (same, later)) = inr (also ∙ same, omega arith)
 
+-- and so does the next read
 ends_sooner : (first next : Place) (end : ℕ) (read : Read) → read.function ≡ first.function → end_of read ≡ end → IsAhead first next end → EndsBefore next read
 ends_sooner first next end read function ends (inl more) = inl (omega arith)
 ends_sooner first next end read function ends (inr (same, later)) = inr (function ∙ same, omega (arith, ends))
 
+-- what is dropped up to a place begins with it
 head_at : (xs : List Place) (n : ℕ) (x : Place) (ys : List Place) → drop n xs ≡ x ∷ ys → get_or xs n x ≡ x
 head_at xs n x ys is =
     let zero_more : n + 0 ≡ n = omega arith in
@@ -140,6 +148,7 @@ past_more first others (next ∷ rest) reads end read function ends le order pas
     (All-weaker (EndsBefore first) (EndsBefore next) (λ e was. still_before first next end e le was behind) reads past)
     (ends_sooner first next end read function ends behind)
 
+-- one read more
 pub walked_more : (places : List Place) (gap : ℕ) (reads : List Read) (first : Place) (others : List Place) (end : ℕ) (read : Read)
     → IsWalked places gap reads (first ∷ others) → All IsPlace places → AreInOrder places → IsReadEnd first others gap end
     → read.function ≡ first.function → read.span.start ≡ first.start → end_of read ≡ end
@@ -173,6 +182,7 @@ walked_more places gap reads first others end read w each order ends function st
         ap (λ n. read_between n start end) (sym f)
         ∙ ap (λ n. read_between read.function n end) (sym s) ∙ spanned read start end q s
 
+-- the places that are left are places, in order
 pub rest_places : (places : List Place) (gap : ℕ) (reads : List Read) (rest : List Place) (first : Place) (others : List Place) → IsWalked places gap reads rest → rest ≡ first ∷ others
     → All IsPlace places → IsPlace first × All IsPlace others
 rest_places places gap reads rest first others w is each =
@@ -197,6 +207,7 @@ walked_on places gap reads new rest first others end read count w is each order 
     (subst (λ (xs : List Read). IsWalked places gap xs (take (length others - n) (drop n others))) (sym pushed)
     (subst (IsWalked places gap (reads ++ read ∷ [])) (sym whole) more))
 
+-- the walk ends with a plan
 pub walked_out : (places : List Place) (gap : ℕ) (reads : List Read) (rest : List Place) → IsWalked places gap reads rest → length rest ≡ 0 → IsPlan places gap reads
 walked_out places gap reads [] w none = walked_all places gap reads w
 walked_out places gap reads (first ∷ rest) w none = absurd (omega arith)

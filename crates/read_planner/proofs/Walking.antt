@@ -17,6 +17,7 @@ use Rattle.read_planner.proofs.Reaching.{more_bridged}
 abbrev pub EndsBefore : Place → Read → Type 0
 EndsBefore first read = (read.function < first.function) ⊎ ((read.function ≡ first.function) × (end_of read < first.end))
 
+-- no read gets to the end of the first place that is left
 abbrev pub ArePast : List Read → List Place → Type 0
 ArePast reads [] = Unit {0}
 ArePast reads (first ∷ others) = All (EndsBefore first) reads
@@ -40,11 +41,13 @@ pub record IsAt (places : List Place) (gap : ℕ) (reads : List Read) (first : P
   pub each : All IsPlace places
   pub ends : IsReadEnd first others gap end
 
+-- what is left is among the places
 in_places : (places : List Place) (gap : ℕ) (reads : List Read) (first : Place) (others : List Place) (end : ℕ) → IsAt places gap reads first others end
     → (x : Place) → Contains (first ∷ others) x → Contains places x
 in_places places gap reads first others end w x c =
     subst (λ (xs : List Place). Contains xs x) (sym w.split) (Contains-append_right w.front (first ∷ others) x c)
 
+-- the first place that is left is a place
 pub first_place : (places : List Place) (gap : ℕ) (reads : List Read) (first : Place) (others : List Place) (end : ℕ) → IsAt places gap reads first others end → IsPlace first
 first_place places gap reads first others end w = All-contains IsPlace places first w.each (in_places places gap reads first others end w first (first_in first others))
 
@@ -59,6 +62,7 @@ held_ends first reads past x (k, read, lt, is, whole) function = elim (All-conta
 abbrev Stands : Place → ℕ → ℕ → ℕ → Place → Type 0
 Stands first gap reach end x = (x.end < first.end) ⊎ ((IsReached first reach end x × (first.start ≤ x.start)) ⊎ ((bound_of first ≤ x.start) ⊎ (reach + gap < x.start)))
 
+-- each place of the same function stands so
 stands : (places : List Place) (gap : ℕ) (reads : List Read) (first : Place) (others : List Place) (end : ℕ) (w : IsAt places gap reads first others end)
     → (x : Place) → Contains places x → x.function ≡ first.function → Stands first gap w.ends.reach end x
 stands places gap reads first others end w x c function =
@@ -78,6 +82,7 @@ stands places gap reads first others end w x c function =
 abbrev far_of : Place → ℕ → ℕ → ℕ
 far_of first gap reach = min (bound_of first) (reach + gap)
 
+-- a read that goes so far is allowed
 pub longest_allowed : (places : List Place) (gap : ℕ) (reads : List Read) (first : Place) (others : List Place) (end : ℕ) (w : IsAt places gap reads first others end)
     → (far : ℕ) → far ≤ far_of first gap w.ends.reach → first.start < far → IsAllowed places gap (read_between first.function first.start far)
 longest_allowed places gap reads first others end w far le some =
@@ -89,6 +94,7 @@ longest_allowed places gap reads first others end w far le some =
           (w.ends.reaches.bridged address from (omega arith));
     }
 
+-- and no allowed read from there goes further
 none_longer : (places : List Place) (gap : ℕ) (reads : List Read) (first : Place) (others : List Place) (end : ℕ) (w : IsAt places gap reads first others end)
     → (other : Read) → IsAllowed places gap other → other.function ≡ first.function → other.span.start ≡ first.start
     → end_of other ≤ far_of first gap w.ends.reach
