@@ -11,10 +11,11 @@ mod lists;
 mod map;
 mod office;
 mod pace;
+mod plans;
 mod script;
 mod units;
 
-const WORDS: &str = "units frames map lists office script script-1000";
+const WORDS: &str = "units frames map lists plans office script script-1000";
 
 fn main(rt: HostRuntime) -> Result<()> {
     for word in env::args(&rt)?.skip(1) {
@@ -23,6 +24,7 @@ fn main(rt: HostRuntime) -> Result<()> {
             "frames" => frames::measure(&rt)?,
             "map" => map::measure(&rt)?,
             "lists" => lists::measure(&rt)?,
+            "plans" => plans::measure(&rt)?,
             "office" => office::measure(&rt)?,
             "script" => script::write(&rt, 100)?,
             "script-1000" => script::write(&rt, 1_000)?,

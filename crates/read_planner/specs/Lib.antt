@@ -1,1 +1,5 @@
+pub mod Allowed
+pub mod Chosen
+pub mod Place
 pub mod Read
+pub mod Walk

@@ -1,5 +1,5 @@
 -- What a read asks for (Modbus Application Protocol V1.1b3, sections 6.1 to 6.4).
-use Rattle.std.specs.Prelude.{ℕ, ◌≤◌, Bool, ◌&&◌, ◌==◌, nat_le, if◌then◌else◌}
+use Rattle.std.specs.Prelude.{ℕ, ◌+◌, ◌≤◌, Bool, ◌&&◌, ◌==◌, nat_le, if◌then◌else◌}
 use Rattle.mb_pdu.specs.declared.request.Request.{Request}
 use Rattle.mb_pdu.specs.declared.request.Request.TheVariants.{ReadCoils, ReadDiscrete, ReadHolding, ReadInput}
 use Rattle.read_planner.specs.declared.Read.{Read}
@@ -16,6 +16,10 @@ limit_of function =
 -- a read of one of the four functions whose quantity is within its limit
 abbrev pub is_valid_read : Read → Bool
 is_valid_read read = nat_le 1 read.span.quantity && nat_le read.span.quantity (limit_of read.function)
+
+-- the address after its last
+abbrev pub end_of : Read → ℕ
+end_of read = read.span.start + read.span.quantity
 
 -- the request of a read
 abbrev pub read_request : Read → Request

@@ -1,0 +1,11 @@
+pub mod Cutting
+pub mod Fewest
+pub mod Members
+pub mod Moving
+pub mod OnePlan
+pub mod Orders
+pub mod Pigeons
+pub mod Placed
+pub mod Reaching
+pub mod Stepping
+pub mod Walking
