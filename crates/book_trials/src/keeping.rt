@@ -1,8 +1,8 @@
 //! What a keeper in memory gives back, and that a refusal leaves it as it was.
 ghost use Rattle.std.specs.Prelude.{◌<◌, ◌≤◌, length};
 
+use crate::asserting::{assert_shown, assert_told};
 use crate::storing::{apply, counter, reading, readings, store, store_once};
-use asserting::{assert_shown, assert_told};
 use point_list::Items;
 use poll_book::{Change, Keeper, MemKeeper, PointRow, ReadingRow, StoreFault, Words};
 use std::alloc::{AllocError, Global};

@@ -1,5 +1,5 @@
 //! Connections and queries as the Messaging Guide matches them.
-use asserting::{assert_shown, assert_told};
+use crate::asserting::{assert_shown, assert_told};
 use mb_mbap::Frame;
 use mb_pdu::{Span, Unit};
 use poll_match::{Asked, Conn, MatchError, Matcher};

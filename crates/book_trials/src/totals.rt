@@ -1,6 +1,6 @@
 //! Totals of counters, by hand: the steps between neighbouring slots, whatever came first.
+use crate::asserting::assert_told;
 use crate::storing::{counter, store, total};
-use asserting::assert_told;
 use poll_book::{MemKeeper, PointRow, StoreFault};
 use std::alloc::Global;
 use std::test::Fail;

@@ -1,5 +1,5 @@
 //! Each column at its limits and one past them, and which fault comes first.
-use asserting::assert_told;
+use crate::asserting::assert_told;
 use mb_pdu::Table;
 use point_list::{
     Device, Items, Label, Line, ListError, ListFault, ListRow, Name, Point, Role, Site, Text,

@@ -1,6 +1,6 @@
 //! Whole lists: the header, line ends, names twice, and how many points there may be.
+use crate::asserting::{assert_shown, assert_told};
 use crate::columns::{read, read_once, site};
-use asserting::{assert_shown, assert_told};
 use point_list::{ListError, ListFault, Point, read_list, resolve};
 use std::alloc::{AllocError, Global};
 use std::test::Fail;

@@ -1,5 +1,5 @@
 //! Site files as operators write them.
-use asserting::assert_told;
+use crate::asserting::assert_told;
 use point_list::{Device, Items, Label, Line, ListError, ListFault, Site, read_site};
 use std::alloc::{AllocError, Global};
 use std::process::Abort;

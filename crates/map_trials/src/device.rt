@@ -1,5 +1,5 @@
 //! Requests to the tables of a device, on both sides of each limit.
-use asserting::assert_told;
+use crate::asserting::assert_told;
 use mb_map::{MapError, Mapping, Table};
 use mb_pdu::Unit;
 use std::alloc::Global;

@@ -1,5 +1,5 @@
 //! What is shown of an error.
-use asserting::assert_shown;
+use crate::asserting::assert_shown;
 use mb_map::MapError;
 use std::test::Fail;
 

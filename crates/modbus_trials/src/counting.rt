@@ -1,7 +1,7 @@
 //! Counted readers and writers over fakes that fail when told to.
 ghost use Rattle.std.specs.Prelude.{Some};
 
-use asserting::assert_told;
+use crate::asserting::assert_told;
 use mb_mbap::Counted;
 use std::io::{self, ErrorKind, Read, Write};
 

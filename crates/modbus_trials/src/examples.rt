@@ -1,5 +1,5 @@
 //! The examples of the Modbus Application Protocol V1.1b3, sections 6.1 to 6.17.
-use asserting::assert_told;
+use crate::asserting::assert_told;
 use mb_pdu::{Reply, Request, Span, UnitError, laws};
 use std::test::Fail;
 

@@ -1,6 +1,6 @@
 //! The smallest and the largest unit of each function, one past each limit, and each refusal.
+use crate::asserting::assert_told;
 use crate::examples::{is_refused, is_reply_again, is_request_again, reply_of, request_of};
-use asserting::assert_told;
 use mb_pdu::{Bits, Registers, Reply, Request, Span, Unit, UnitError};
 use std::alloc::{AllocError, Global};
 use std::process::Abort;

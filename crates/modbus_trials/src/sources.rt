@@ -1,8 +1,8 @@
 //! Frames out of readers that give one byte a call, and that fail.
 ghost use Rattle.std.specs.Prelude.{Some};
 
+use crate::asserting::assert_told;
 use crate::streams::{assert_numbered, feed, numbered};
-use asserting::assert_told;
 use mb_mbap::{Counted, FrameReader};
 use std::alloc::AllocError;
 use std::io::{self, ErrorKind, Read};

@@ -1,5 +1,5 @@
 //! Frames as the Messaging Guide spells them, and streams cut anywhere.
-use asserting::assert_told;
+use crate::asserting::assert_told;
 use mb_mbap::{Fed, Frame, FrameFault, FrameReader};
 use mb_pdu::Unit;
 use std::alloc::{AllocError, Global};

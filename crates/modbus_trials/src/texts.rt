@@ -1,5 +1,5 @@
 //! What is shown of errors.
-use asserting::assert_shown;
+use crate::asserting::assert_shown;
 use mb_mbap::FrameFault;
 use mb_pdu::UnitError;
 use std::test::Fail;

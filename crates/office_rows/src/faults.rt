@@ -1,10 +1,10 @@
 //! A keeper that refuses, each call in turn, by each fault; and an office begun anew over a keeper.
+use crate::asserting::assert_told;
 use crate::builders::{BARE, MEMORY, TWO, begun, events_of, office_over, shown};
 use crate::refusing::Refusing;
 use crate::scripts::{OTHERS, THREE};
 use crate::steps::Happens::{self, Arrive, Ask, Load, Open};
 use crate::steps::{answered, has_words, is_refused, opened, rows, take, take_happening, total};
-use asserting::assert_told;
 use office_core::{Event, EventAnswer, Office, OfficeError};
 use poll_book::MemKeeper;
 use poll_book::StoreFault::{self, Disk, Full, Memory, Other};

@@ -1,10 +1,10 @@
 //! Memory that is refused to a call is told, changes nothing, and the call succeeds once more.
+use crate::asserting::assert_told;
 use crate::builders::{MEMORY, event_of, office_over, shown};
 use crate::scripts::{GAUGES, THREE};
 use crate::steps::Happens::{self, Arrive, Ask, Load, Open};
 use crate::steps::Told::{self, Loaded, Opened, Recorded, Sent};
 use crate::steps::{answered, expected, is_refused};
-use asserting::assert_told;
 use office_core::{Event, EventAnswer, Office, OfficeError};
 use poll_book::{MemKeeper, StoreFault};
 use std::alloc::{AllocError, Global};

@@ -1,6 +1,6 @@
 //! Steps of a script, and their play.
+use crate::asserting::assert_told;
 use crate::builders::{MEMORY, event_of, office_over, query};
-use asserting::assert_told;
 use office_core::{Arrival, Event, EventAnswer, LoadFault, Office, OfficeError, Outcome, Reason};
 use poll_book::{Keeper, MemKeeper, PointRow, ReadingRow, StoreFault};
 use poll_match::Conn;

@@ -1,8 +1,8 @@
 //! Totals of counters, by hand: the steps between neighbouring slots, whatever came first.
+use crate::asserting::assert_told;
 use crate::builders::office_over;
 use crate::steps::Happens::{Arrive, Ask, Load, Open};
 use crate::steps::{rows, take_happening, total};
-use asserting::assert_told;
 use office_core::{Office, OfficeError};
 use poll_book::MemKeeper;
 use std::alloc::Global;

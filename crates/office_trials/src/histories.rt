@@ -1,9 +1,9 @@
 //! An office beside the slow model.
+use crate::asserting::assert_told;
 use crate::builders::{MEMORY, office_over, push};
 use crate::draws::{Chance, SLOTS, draw};
 use crate::events::event_of;
 use crate::model::{Given, Happened, Row, all_given, answer, known, total};
-use asserting::assert_told;
 use office_core::{EventAnswer, Office, OfficeError};
 use poll_book::{Keeper, MemKeeper, PointRow, ReadingRow};
 use std::alloc::Global;

@@ -1,6 +1,6 @@
 //! Plans worked out by hand.
+use crate::asserting::assert_told;
 use crate::spots::{Shown, Spot, reads};
-use asserting::assert_told;
 use mb_pdu::Table::{Coil, Discrete, Holding, Input};
 use std::alloc::{AllocError, Global};
 use std::process::Abort;

@@ -2,6 +2,8 @@
 #![tactic(auto)]
 
 #[cfg(test)]
+mod asserting;
+#[cfg(test)]
 mod cases;
 #[cfg(test)]
 mod searching;

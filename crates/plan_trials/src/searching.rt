@@ -1,6 +1,6 @@
 //! Plans of generated points, beside an exhaustive search for the least number of reads.
+use crate::asserting::assert_told;
 use crate::spots::{Spot, reads};
-use asserting::assert_told;
 use mb_pdu::Table;
 use std::alloc::{AllocError, Global};
 use std::test::Fail;

@@ -1,5 +1,5 @@
 //! What is shown of endings.
-use asserting::assert_shown;
+use crate::asserting::assert_shown;
 use office_script::{ReplayFault, Replayed};
 use std::test::Fail;
 

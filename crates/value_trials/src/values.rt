@@ -1,5 +1,5 @@
 //! Values and texts of points, at the limits of each type.
-use asserting::{assert_shown, assert_told};
+use crate::asserting::{assert_shown, assert_told};
 use std::alloc::Global;
 use std::test::Fail;
 use sunspec::{
