@@ -1,7 +1,8 @@
 //! Whole lists: the header, line ends, names twice, and how many points there may be.
 use crate::asserting::{assert_shown, assert_told};
 use crate::columns::{read, read_once, site};
-use point_list::{ListError, ListFault, Point, read_list, resolve};
+use mb_pdu::Table;
+use point_list::{ListError, ListFault, Point, Role, read_list, resolve};
 use std::alloc::{AllocError, Global};
 use std::test::Fail;
 
@@ -27,7 +28,7 @@ fn count(alloc: Global, bytes: &[u8]) -> Result<usize, ListError> {
 #[test]
 fn headers_and_line_ends(rt: HostRuntime) {
     let missing = Err(error(ListFault::BadHeader, 1, 0));
-    let cases: [(&[u8], Result<usize, ListError>); 7] = [
+    let cases: [(&[u8], Result<usize, ListError>); 8] = [
         (
             b"\xEF\xBB\xBFname,device,table,address,type,length,scale,role,roll\r\ne,m1,holding,107,uint16,,,counter,\r\n",
             Ok(1),
@@ -37,6 +38,11 @@ fn headers_and_line_ends(rt: HostRuntime) {
             Ok(0),
         ),
         (b"", missing),
+        // A byte order mark is dropped once.
+        (
+            b"\xEF\xBB\xBF\xEF\xBB\xBFname,device,table,address,type,length,scale,role,roll\n",
+            missing,
+        ),
         (b"name,device\n", missing),
         (
             b"name,device,table,address,type,length,scale,role,rolls\n",
@@ -165,6 +171,39 @@ fn texts_of_faults(rt: HostRuntime) -> Result<(), Fail> {
     for (fault, text) in cases {
         assert_shown(&rt, rt.alloc(), &fault, text)?;
     }
-    let whole = error(BadRole, 3, 8);
-    Ok(assert_shown(&rt, rt.alloc(), &whole, "bad role row 3 column 8")?)
+    Ok(())
+}
+
+#[test]
+fn texts_of_errors(rt: HostRuntime) -> Result<(), Fail> {
+    use ListFault::*;
+    let cases = [
+        (error(BadRole, 3, 8), "bad role row 3 column 8"),
+        (error(BadCsv, 4294967295, 0), "bad csv row 4294967295"),
+        (error(BadSite, 0, 0), "bad site"),
+        (error(Memory, 0, 0), "memory"),
+    ];
+    for (error, text) in cases {
+        assert_shown(&rt, rt.alloc(), &error, text)?;
+    }
+    Ok(())
+}
+
+#[test]
+fn words_of_tables_and_roles(rt: HostRuntime) -> Result<(), Fail> {
+    use Table::*;
+    let tables = [
+        (Coil, "coil"),
+        (Discrete, "discrete"),
+        (Input, "input"),
+        (Holding, "holding"),
+    ];
+    for (table, word) in tables {
+        assert_shown(&rt, rt.alloc(), &table, word)?;
+    }
+    use Role::*;
+    for (role, word) in [(Gauge, "gauge"), (Counter, "counter"), (Setting, "setting")] {
+        assert_shown(&rt, rt.alloc(), &role, word)?;
+    }
+    Ok(())
 }

@@ -1,6 +1,6 @@
 //! Site files as operators write them.
-use crate::asserting::assert_told;
-use point_list::{Device, Items, Label, Line, ListError, ListFault, Site, read_site};
+use crate::asserting::{assert_shown, assert_told};
+use point_list::{Device, Items, Line, ListError, ListFault, Site, read_site};
 use std::alloc::{AllocError, Global};
 use std::process::Abort;
 use std::test::Fail;
@@ -50,19 +50,45 @@ fn the_example(rt: HostRuntime) -> Result<(), Fail> {
 #[test]
 fn lines_and_devices_by_name(rt: HostRuntime) -> Result<(), Fail> {
     let site = read(rt.alloc(), EXAMPLE.as_bytes()).ok().ok_or("a site")?;
-    let cases: [(&[u8], Option<usize>, Option<usize>); 3] = [
-        (b"roof", Some(0), None),
-        (b"m1", None, Some(0)),
-        (b"m2", None, None),
+    let cases = [
+        ("roof", true, false),
+        ("m1", false, true),
+        ("m2", false, false),
     ];
-    for (name, line, device) in cases {
-        let told = (
-            Line::place(site.lines.as_slice(), name),
-            Device::place(site.devices.as_slice(), name),
+    for (name, is_line, is_device) in cases {
+        let places = (
+            Line::place(site.lines.as_slice(), name) == Some(0),
+            Device::place(site.devices.as_slice(), name) == Some(0),
         );
-        assert_told(&rt, &name, &told, &(line, device));
-        let label = Label::new(name).ok_or("a label")?;
-        assert_told(&rt, &name, &site.has_device(&label), &device.is_some());
+        assert_told(&rt, &name, &places, &(is_line, is_device));
+        let found = (site.line(name).is_some(), site.device(name).is_some());
+        assert_told(&rt, &name, &found, &(is_line, is_device));
+        assert_told(&rt, &name, &site.has_device(name), &is_device);
+    }
+    let line = site.line("roof").ok_or("a line")?;
+    let device = site.device("m1").ok_or("a device")?;
+    assert_told(&rt, &"roof", &line.address.as_str(), &"127.0.0.1:1502");
+    assert_told(&rt, &"m1", &(device.unit, device.gap), &(17, 8));
+    Ok(())
+}
+
+#[test]
+fn lists_and_texts_as_in_std(rt: HostRuntime) -> Result<(), Fail> {
+    let site = read(rt.alloc(), EXAMPLE.as_bytes()).ok().ok_or("a site")?;
+    let told = (
+        site.devices.len(),
+        site.devices.is_empty(),
+        site.devices.iter().count(),
+    );
+    assert_told(&rt, &"devices", &told, &(1, false, 1));
+    for line in &site.lines {
+        let again = match line.name.clone() {
+            Ok(again) => again,
+            Err(_) => line.name.clone()?,
+        };
+        assert_told(&rt, &"clone", &again, &line.name);
+        assert_told(&rt, &"other", &(line.name == line.address), &false);
+        assert_shown(&rt, rt.alloc(), &line.name, "roof")?;
     }
     Ok(())
 }
@@ -187,7 +213,7 @@ fn devices_that_may_agree(rt: HostRuntime) -> Result<(), Fail> {
 
 #[test]
 fn texts_that_are_no_site(rt: HostRuntime) {
-    let cases: [&[u8]; 7] = [
+    let cases: [&[u8]; 8] = [
         b"",
         b"\xFF",
         b"line = []",
@@ -195,12 +221,18 @@ fn texts_that_are_no_site(rt: HostRuntime) {
         b"[line]\nname = \"a\"\naddress = \"b\"\n",
         b"[[line]]\nname = \"a\"\n[[device]]\nname = \"a\"\nline = \"a\"\nunit = 1\n",
         b"device = []\nline = [{name = \"a\", address = \"\"}, {name = \"a\", address = \"\"}]",
+        b"\xEF\xBB\xBF\xEF\xBB\xBFline = []\ndevice = []",
     ];
     for text in cases {
         assert_told(&rt, &text, &read(rt.alloc(), text).err(), &Some(BAD_SITE));
     }
-    let empty = read(rt.alloc(), b"line = []\ndevice = []").err();
-    assert_told(&rt, &"empty", &empty, &None);
+    let empty: [&[u8]; 2] = [
+        b"line = []\ndevice = []",
+        b"\xEF\xBB\xBFline = []\ndevice = []",
+    ];
+    for text in empty {
+        assert_told(&rt, &text, &read(rt.alloc(), text).err(), &None);
+    }
 }
 
 fn line_text(alloc: Global, number: u32) -> Result<String, AllocError> {

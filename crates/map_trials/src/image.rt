@@ -83,8 +83,9 @@ fn assert_refused(rt: &impl Abort, alloc: Global, text: &[u8]) {
 
 #[test]
 fn files_that_are_taken(rt: HostRuntime) {
-    let taken: [&[u8]; 6] = [
+    let taken: [&[u8]; 7] = [
         b"",
+        b"\xEF\xBB\xBFscript = []",
         b"script = []",
         b"unit = [{id = 0}, {id = 255}]",
         b"script = [\"hold 255\", \"hold 10\"]",
@@ -124,8 +125,9 @@ fn units_that_are_refused(rt: HostRuntime) {
 
 #[test]
 fn texts_and_scripts_that_are_refused(rt: HostRuntime) {
-    let bad: [&[u8]; 9] = [
+    let bad: [&[u8]; 10] = [
         b"\xFF",
+        b"\xEF\xBB\xBF\xEF\xBB\xBFscript = []",
         b"script = [",
         b"script = \"pass\"",
         b"script = [1]",

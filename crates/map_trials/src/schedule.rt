@@ -1,8 +1,5 @@
 //! Replies that leave by a script.
-ghost use Rattle.std.specs.Prelude.{IsTrue};
-ghost use Rattle.std.specs.List.{list_all};
-ghost use Rattle.mb_map.specs.Queue.{is_sound};
-
+use crate::asserting::assert_told;
 use mb_map::{MapError, Mapping, Sim, Step};
 use mb_mbap::Frame;
 use mb_pdu::Unit;
@@ -25,26 +22,37 @@ fn frame(transaction: u16, unit_id: u8, bytes: &[u8]) -> Option<Frame> {
 }
 
 /// One device of ten registers at unit identifier 17.
-fn made(alloc: Global, steps: &[Step]) -> Result<Sim, MapError>
-    requires { IsTrue (list_all is_sound steps.now) }
-{
+fn made(alloc: Global, steps: &[Step]) -> Result<Sim, MapError> {
     let mapping = Mapping::new(alloc, 10, 10, 10, 10)?;
     let mut devices = Vec::new(alloc);
     if devices.push((17, mapping)).is_err() {
         return Err(MapError::Memory);
     }
     let script = Vec::from_slice(alloc, steps)?;
+    if !Sim::can_begin(devices.as_slice(), script.as_slice()) {
+        return Err(MapError::BadImage);
+    }
     Ok(Sim::new(alloc, devices, script))
 }
 
 /// The same, and once more where memory was refused.
-fn sim(alloc: Global, steps: &[Step]) -> Result<Sim, MapError>
-    requires { IsTrue (list_all is_sound steps.now) }
-{
+fn sim(alloc: Global, steps: &[Step]) -> Result<Sim, MapError> {
     match made(alloc, steps) {
         Err(MapError::Memory) => made(alloc, steps),
         other => other,
     }
+}
+
+/// Whether a simulator begins with devices of these identifiers and this script.
+fn begins(alloc: Global, ids: &[u8], script: &[Step]) -> Result<bool, MapError> {
+    let mut devices = Vec::new(alloc);
+    for id in ids {
+        let mapping = Mapping::new(alloc, 1, 1, 1, 1)?;
+        if devices.push((*id, mapping)).is_err() {
+            return Err(MapError::Memory);
+        }
+    }
+    Ok(Sim::can_begin(devices.as_slice(), script))
 }
 
 fn taken(sim: &mut Sim, frame: &Frame) -> Result<Vec<Frame>, MapError> {
@@ -103,6 +111,27 @@ fn replies_leave_by_the_script(rt: HostRuntime) -> Result<(), Fail> {
     let script = [Step::Pass, Step::Drop, Step::Twice, Step::Hold(1)];
     let mut sim = sim(rt.alloc(), &script)?;
     Ok(assert_leave(&rt, &mut sim, &[&[0], &[], &[2, 2], &[], &[4, 3], &[5]])?)
+}
+
+#[test]
+fn identifiers_differ_and_steps_hold_for_some_frames(rt: HostRuntime) {
+    let cases: [(&[u8], &[Step], bool); 4] = [
+        (&[], &[], true),
+        (
+            &[0, 17, 255],
+            &[Step::Drop, Step::Hold(1), Step::Hold(255)],
+            true,
+        ),
+        (&[17, 18, 17], &[], false),
+        (&[17], &[Step::Pass, Step::Hold(0)], false),
+    ];
+    for (ids, script, wanted) in cases {
+        let told = match begins(rt.alloc(), ids, script) {
+            Err(MapError::Memory) => begins(rt.alloc(), ids, script),
+            other => other,
+        };
+        assert_told(&rt, &ids, &told, &Ok(wanted));
+    }
 }
 
 #[test]

@@ -174,6 +174,8 @@ impl Sim {
     /// `coils_start` and so on. Missing lists and starts are empty and 0, and other members are
     /// ignored.
     ///
+    /// `docs/FORMATS.md` has the members one by one, with an example.
+    ///
     /// `BadImage` comes exactly where the text is no such file, for another cause than memory.
     pub fn from_toml(alloc: Global, bytes: &[u8]) -> Result<Sim, MapError>
         // What is read is the simulator of the document that the bytes are.

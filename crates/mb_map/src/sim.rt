@@ -1,9 +1,10 @@
-ghost use Rattle.std.specs.Prelude.{◌≡◌, [], IfErr, IfOk, IsTrue, OnErr};
+ghost use Rattle.std.specs.Prelude.{◌≡◌, ◌&&◌, [], IfErr, IfOk, IsTrue, OnErr};
 ghost use Rattle.std.specs.List.{list_all};
 ghost use Rattle.mb_map.specs.Queue.{differ, is_sound};
 ghost use Rattle.mb_map.specs.Schedule.{Continues, StandsFor, begun, step_at};
 ghost use Rattle.mb_map.specs.Schedule.Call.{Rest, Take};
 
+use crate::devices::ids_differ;
 use crate::error::MapError;
 use crate::held::Held;
 use crate::mapping::Mapping;
@@ -47,10 +48,25 @@ fn step_at(script: &[Step], used: usize) -> Step
     }
 }
 
+/// Whether no step holds a reply for 0 frames.
+fn steps_are_sound(script: &[Step]) -> bool
+    ensures { result ≡ list_all is_sound script.now }
+{
+    script.iter().all(|step| step.is_sound())
+}
+
 impl Sim {
+    /// Whether `new` takes these devices and this script: the unit identifiers of the devices
+    /// differ, and no step holds a reply for 0 frames.
+    pub fn can_begin(devices: &[(u8, Mapping)], script: &[Step]) -> bool
+        ensures { result ≡ (differ devices.now && list_all is_sound script.now) }
+    {
+        ids_differ(devices) && steps_are_sound(script)
+    }
+
     /// A simulator of devices under their unit identifiers, which differ. The script has a step
     /// for each frame from the first on, and past its end every step is `Pass`; no step holds a
-    /// reply for 0 frames.
+    /// reply for 0 frames. `can_begin` tests both.
     pub fn new(alloc: Global, devices: Vec<(u8, Mapping)>, script: Vec<Step>) -> Sim
         requires devices { IsTrue (differ devices.items) }
         requires script { IsTrue (list_all is_sound script.items) }

@@ -1,5 +1,5 @@
 -- The next bytes of a stream: what they make of the bytes held, and of the frames so far.
-use Rattle.std.proofs.Common.{inl, inr, subst, ◌≡◌, ℕ, ◌+◌, ◌-◌, ◌<◌, ◌≤◌, List, [], ◌∷◌, ◌++◌, length, take, drop, refl, sym, ap, ◌∙◌, arith, rules, Some, None, append_assoc, All, length-drop, take_all}
+use Rattle.std.proofs.Common.{inl, inr, subst, ◌≡◌, ℕ, ◌+◌, ◌≤◌, List, [], ◌∷◌, ◌++◌, length, take, drop, refl, sym, ap, ◌∙◌, arith, Some, append_assoc, All, length-drop, take_all}
 use Rattle.std.proofs.lemmas.List.{take-append-drop, append-nil}
 use Rattle.std.proofs.Math.Seq.{take-add}
 use Rattle.std.proofs.lemmas.List.Elements.{All-push}
@@ -11,7 +11,7 @@ use Rattle.mb_mbap.specs.declared.judging.Step.{Step}
 use Rattle.mb_mbap.specs.declared.judging.Step.TheVariants.{More, Whole, Bad}
 use Rattle.mb_mbap.specs.Steps.{StepMeans}
 use Rattle.mb_mbap.specs.Feeding.{StandsAs, TakeMeans}
-use Rattle.mb_mbap.specs.Stream.{spelled, IsFrame, IsOpen, stream_of, wanted, fault_of, Splits, IsRest}
+use Rattle.mb_mbap.specs.Stream.{spelled, IsFrame, IsOpen, stream_of, wanted, fault_of, Splits}
 use Rattle.mb_mbap.proofs.Rests.{open_empty, whole_len, fault_append, frame_taken}
 
 -- a frame that begins the next bytes, where nothing is held

@@ -1,14 +1,14 @@
 -- What a reader stands for, piece by piece.
-use Rattle.std.proofs.Common.{Option, inl, inr, subst, ◌≡◌, ℕ, List, [], ◌∷◌, ◌++◌, refl, sym, ap, ◌∙◌, Some, None, append_assoc, All}
+use Rattle.std.proofs.Common.{Option, inr, ◌≡◌, ℕ, List, ◌++◌, refl, sym, ap, ◌∙◌, Some, None, append_assoc}
 use Rattle.std.proofs.lemmas.List.{append-nil}
 use Rattle.std.proofs.lemmas.List.Elements.{All-append}
 use Rattle.std.proofs.lemmas.Grind.{flat_map-append}
 use Rattle.std.specs.List.{flat_map}
-use Rattle.std.specs.Prelude.{is_some, IsSome, if◌then◌else◌}
+use Rattle.std.specs.Prelude.{is_some, if◌then◌else◌}
 use Rattle.mb_mbap.specs.declared.frame.Frame.{Frame}
 use Rattle.mb_mbap.specs.declared.fault.FrameFault.{FrameFault}
-use Rattle.mb_mbap.specs.Stream.{spelled, IsFrame, IsRest, stream_of, fault_of, Splits}
-use Rattle.mb_mbap.specs.Feeding.{FeedMeans, StandsFor, Adds, kept}
+use Rattle.mb_mbap.specs.Stream.{spelled, IsFrame, stream_of, fault_of}
+use Rattle.mb_mbap.specs.Feeding.{FeedMeans, StandsFor, Adds}
 use Rattle.mb_mbap.proofs.Rests.{fault_append}
 
 abbrev keep : Option FrameFault → List ℕ → Option (List ℕ)

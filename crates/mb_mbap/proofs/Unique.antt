@@ -1,14 +1,14 @@
 -- A stream is read in one way.
-use Rattle.std.proofs.Common.{Option, inl, inr, subst, ◌≡◌, ℕ, suc, ◌+◌, ◌-◌, ◌*◌, ◌/◌, ◌%◌, ◌<◌, ◌≤◌, ◌⊎◌, List, [], ◌∷◌, ◌++◌, length, get_or, take, drop, refl, sym, ap, ◌∙◌, arith, rules, Some, None, append_assoc, All, length-append}
+use Rattle.std.proofs.Common.{Option, inl, inr, subst, ◌≡◌, ℕ, suc, ◌+◌, ◌*◌, ◌/◌, ◌%◌, ◌<◌, List, [], ◌∷◌, ◌++◌, length, get_or, take, drop, refl, sym, ap, ◌∙◌, arith, None, append_assoc, All, length-append}
 use Rattle.std.proofs.lemmas.Nat.{div_below}
 use Rattle.std.proofs.Math.Nat.{mod-eq_of_lt, div-add-mod'}
 use Rattle.std.proofs.Math.Seq.{take-append_seam, drop-append_seam}
 use Rattle.std.specs.List.{flat_map}
-use Rattle.std.specs.Prelude.{is_some, IsSome}
+use Rattle.std.specs.Prelude.{IsSome}
 use Rattle.byteorder.specs.Endian.{big_number}
 use Rattle.mb_mbap.specs.declared.frame.Frame.{Frame}
 use Rattle.mb_mbap.specs.declared.fault.FrameFault.{FrameFault}
-use Rattle.mb_mbap.specs.Stream.{spelled, IsFrame, IsOpen, IsRest, stream_of, wanted, fault_of, protocol_of, length_of, Splits}
+use Rattle.mb_mbap.specs.Stream.{spelled, IsFrame, IsRest, stream_of, fault_of, length_of, Splits}
 use Rattle.mb_mbap.proofs.Spelling.{wanted-long, fault-none}
 
 pub pair_value : (n : ℕ) → n < 65536 → n / 256 % 256 * 256 + n % 256 ≡ n

@@ -1,5 +1,5 @@
 -- What a clause reads of a `Counted`, and how its counts rise.
-use Rattle.std.specs.Prelude.{◌≡◌, ℕ, ◌+◌, ◌-◌, ◌^◌, ◌<◌, ◌≤◌, min, List, length, ◌++◌, ◌==◌, Result, Ok, Err, Option, ◌&&◌, nat_lt, if◌then◌else◌, ⊤}
+use Rattle.std.specs.Prelude.{ℕ, ◌+◌, ◌-◌, ◌^◌, ◌<◌, min, ◌==◌, Result, Ok, Err, ◌&&◌, nat_lt, if◌then◌else◌}
 use Rattle.mb_mbap.specs.declared.counted.Counted.{Counted}
 
 -- the reader or writer inside

@@ -1,5 +1,5 @@
 -- How the bytes held lie in their arrays.
-use Rattle.std.specs.Prelude.{◌≡◌, ℕ, ◌≤◌, List, take, Option, Some, None, if◌then◌else◌}
+use Rattle.std.specs.Prelude.{ℕ, ◌≤◌, List, take, Option, Some, None, if◌then◌else◌}
 use Rattle.mb_mbap.specs.declared.held.Held.TheInside.{Inside as HeldInside}
 use Rattle.mb_mbap.specs.declared.reader.FrameReader.TheInside.{Inside as ReaderInside}
 use Rattle.mb_mbap.specs.Stream.{IsOpen}

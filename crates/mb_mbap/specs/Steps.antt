@@ -1,5 +1,5 @@
 -- What a byte makes of the bytes held.
-use Rattle.std.specs.Prelude.{◌≡◌, ℕ, ◌≤◌, List, [], length, take, None, Some}
+use Rattle.std.specs.Prelude.{◌≡◌, ℕ, ◌≤◌, List, length, take, None, Some}
 use Rattle.mb_mbap.specs.declared.judging.Step.{Step}
 use Rattle.mb_mbap.specs.declared.judging.Step.TheVariants.{More, Whole, Bad}
 use Rattle.mb_mbap.specs.Stream.{spelled, IsFrame, IsOpen, fault_of, wanted}

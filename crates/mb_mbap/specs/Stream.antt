@@ -1,10 +1,10 @@
 -- The frames of a stream (Messaging on TCP/IP, the MBAP header).
-use Rattle.std.specs.Prelude.{◌≡◌, ℕ, ◌+◌, ◌-◌, ◌^◌, ◌<◌, ◌≤◌, ◌⊎◌, List, [], ◌∷◌, ◌++◌, length, All, Bool, not, ◌==◌, ◌&&◌, nat_lt, nat_le, if◌then◌else◌, Option, Some, None, drop, is_some, IsSome}
+use Rattle.std.specs.Prelude.{◌≡◌, ℕ, ◌+◌, ◌<◌, ◌≤◌, ◌⊎◌, List, [], ◌∷◌, ◌++◌, length, All, not, ◌==◌, ◌&&◌, nat_lt, nat_le, if◌then◌else◌, Option, Some, None, drop, IsSome}
 use Rattle.std.specs.List.{flat_map}
 use Rattle.byteorder.specs.Endian.{big_bytes, big_number}
 use Rattle.mb_mbap.specs.declared.frame.Frame.{Frame}
 use Rattle.mb_mbap.specs.declared.fault.FrameFault.{FrameFault}
-use Rattle.mb_mbap.specs.declared.fault.FrameFault.TheVariants.{NotModbus, BadLength, Failed}
+use Rattle.mb_mbap.specs.declared.fault.FrameFault.TheVariants.{NotModbus, BadLength}
 
 -- transaction, protocol 0, length of what follows, unit identifier, unit
 abbrev pub spelled : Frame → List ℕ

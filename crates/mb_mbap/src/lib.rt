@@ -4,6 +4,7 @@
 #![tactic(auto)]
 
 mod counted;
+mod decoding;
 mod fault;
 mod frame;
 mod held;

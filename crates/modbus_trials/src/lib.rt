@@ -8,6 +8,8 @@ mod asserting;
 #[cfg(test)]
 mod counting;
 #[cfg(test)]
+mod decoding;
+#[cfg(test)]
 mod examples;
 #[cfg(test)]
 mod limits;

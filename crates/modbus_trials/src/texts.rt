@@ -29,6 +29,8 @@ fn texts_of_faulty_streams(rt: HostRuntime) -> Result<(), Fail> {
     let cases = [
         (NotModbus, "the protocol field isn't 0"),
         (BadLength, "the length field is outside 2 to 254"),
+        (Short, "the frame isn't whole"),
+        (Long, "more bytes follow the frame"),
         (Failed, "an earlier header was bad"),
     ];
     for (fault, text) in cases {

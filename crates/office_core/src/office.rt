@@ -29,7 +29,7 @@ fn judge_ask(
     site: &Site,
     known: &[PointRow],
     line: Option<u16>,
-    device: &[u8],
+    device: &str,
     read: &Read,
 ) -> Result<Target, OfficeError>
     requires { IsSound site.now }
@@ -46,7 +46,7 @@ fn judge_ask(
     if to.line != line {
         return Err(OfficeError::WrongLine);
     }
-    if !is_readable(known, device, read) {
+    if !is_readable(known, device.as_bytes(), read) {
         return Err(OfficeError::NoRead);
     }
     Ok(to)
@@ -184,7 +184,7 @@ impl<K: Keeper> Office<K> {
         ensures same { OnErr result (IsAlike self.old self.new) }
         ensures clean { K.is_clean (keeper_of self.new) → K.is_clean (keeper_of self.old) }
     {
-        let Some(line) = line_place(&self.site, line.as_bytes()) else {
+        let Some(line) = line_place(&self.site, line) else {
             return Err(OfficeError::WrongLine);
         };
         let last = last_made(&mut self.keeper, self.matcher.greatest())?;
@@ -225,7 +225,7 @@ impl<K: Keeper> Office<K> {
         ensures keeper { keeper_of self.new ≡ keeper_of self.old }
     {
         let line = self.matcher.line_of(conn);
-        let to = judge_ask(&self.site, &self.points, line, device.as_bytes(), &read)?;
+        let to = judge_ask(&self.site, &self.points, line, device, &read)?;
         let asked = Asked::Read {
             unit_id: to.unit_id,
             device: to.place,

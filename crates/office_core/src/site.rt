@@ -5,7 +5,7 @@ ghost use Rattle.std.specs.Str.{bytes_eq};
 ghost use Rattle.point_list.specs.Columns.{is_device};
 ghost use Rattle.office_core.specs.Sites as sites;
 
-use point_list::{Device, Line, Site};
+use point_list::{Device, Line, Point, Site};
 use poll_book::PointRow;
 
 /// A device to be asked: its place in the site, its line's place, and its unit identifier.
@@ -17,7 +17,7 @@ pub(crate) struct Target {
 }
 
 /// The place of the line of a name.
-pub(crate) fn line_place(site: &Site, name: &[u8]) -> Option<u16>
+pub(crate) fn line_place(site: &Site, name: &str) -> Option<u16>
     requires { length site.now.lines ≤ 65536 }
     ensures { result ≡ sites.line_place site.now name.now }
 {
@@ -28,7 +28,7 @@ pub(crate) fn line_place(site: &Site, name: &[u8]) -> Option<u16>
 }
 
 /// The device of a name.
-pub(crate) fn find_target(site: &Site, name: &[u8]) -> Option<Target>
+pub(crate) fn find_target(site: &Site, name: &str) -> Option<Target>
     requires { length site.now.devices ≤ 65536 }
     ensures { result ≡ sites.target site.now name.now }
 {
@@ -43,9 +43,16 @@ pub(crate) fn find_target(site: &Site, name: &[u8]) -> Option<Target>
     }
 }
 
+/// Whether a site has the device of a point.
+fn has_device_of(site: &Site, point: &Point) -> bool
+    ensures { result ≡ is_device site.now point.now.device }
+{
+    site.has_device(point.device.as_str())
+}
+
 /// Whether a site has the devices of these points.
 pub(crate) fn has_devices(site: &Site, known: &[PointRow]) -> bool
     ensures { result ≡ sites.has_devices site.now known.now }
 {
-    known.iter().all(|row| site.has_device(&row.point.device))
+    known.iter().all(|row| has_device_of(site, &row.point))
 }

@@ -248,7 +248,7 @@ fn assert_begun(
     office: &mut Office<MemKeeper>,
 ) -> Result<(), OfficeError> {
     assert_told(rt, &"points", &office.points().len(), &3);
-    assert_told(rt, &"devices", &office.site().devices.as_slice().len(), &2);
+    assert_told(rt, &"devices", &office.site().devices.len(), &2);
     let is_kept = has_words(office, "a", 5, &[555])?;
     assert_told(rt, &"reading", &is_kept, &true);
     let late = take_happening(alloc, office, &Arrive(2, 0, 17, THREE))?;

@@ -9,7 +9,6 @@ pub mod Lines
 pub mod Messages
 pub mod Played
 pub mod Happened
-pub mod Framed
 pub mod Lacking
 pub mod Unset
 pub mod Examples

@@ -10,6 +10,7 @@ use Rattle.std.proofs.lemmas.List.Folds.{list_all-append}
 use Rattle.hex.specs.Hex.{hex_digit_value}
 use Rattle.mb_pdu.specs.Replies.{IsBytes}
 use Rattle.mb_mbap.specs.declared.frame.Frame.{Frame}
+use Rattle.mb_mbap.specs.Whole.{fields_in, is_whole}
 use Rattle.sunspec.specs.Digits.{number_within, is_number_within}
 use Rattle.std.specs.Str.Parse.{digits_value}
 use Rattle.read_planner.specs.declared.Read.{Read}
@@ -17,7 +18,6 @@ use Rattle.office_core.specs.declared.event.Event.{Event}
 use Rattle.office_core.specs.declared.event.Event.TheVariants.{Load, Open, Ask, Arrive}
 use Rattle.office_core.specs.Messages.{IsMessage}
 use Rattle.office_script.specs.Words.{words_of, word_at, is_text, joined, byte_of, onto_bytes, bytes_of}
-use Rattle.office_script.specs.Frames.{fields_in, is_whole}
 use Rattle.office_script.specs.declared.command.Verb.{Verb}
 use Rattle.office_script.specs.declared.command.Verb.TheVariants as verb
 use Rattle.office_script.specs.Commands.{verb_of, event_by, number_limit, byte_limit, word_limit, list_header, list_with, point_of, open_of, read_of, asking, ask_of, frame_in, arriving, reply_of, event_of_words, record_in, event_with, event_of}

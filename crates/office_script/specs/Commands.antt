@@ -11,7 +11,7 @@ use Rattle.office_core.specs.declared.event.Event.TheVariants.{Load, Open, Ask, 
 use Rattle.office_script.specs.declared.command.Verb.{Verb}
 use Rattle.office_script.specs.declared.command.Verb.TheVariants as verb
 use Rattle.office_script.specs.Words.{words_of, word_at, is_text, bytes_of}
-use Rattle.office_script.specs.Frames.{frame_of}
+use Rattle.mb_mbap.specs.Whole.{frame_of}
 
 abbrev pub byte_limit : ℕ
 byte_limit = 255

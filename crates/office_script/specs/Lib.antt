@@ -1,5 +1,4 @@
 pub mod Words
-pub mod Frames
 pub mod Commands
 pub mod Devices
 pub mod Printing

@@ -6,7 +6,6 @@ ghost use Rattle.office_script.specs.Commands as commands;
 ghost use Rattle.office_script.specs.Commands.{ask_of, byte_limit, event_for, event_of, event_of_words, frame_in, list_with, open_of, point_of, read_of, reply_of, verb_of, word_limit};
 
 use crate::cutting::words;
-use crate::whole_frame::whole_frame;
 use crate::word::{bytes, is_text, number, text};
 use mb_mbap::Frame;
 use mb_pdu::Span;
@@ -108,7 +107,7 @@ fn frame(alloc: Global, words: &[&[u8]]) -> Result<Option<Frame>, AllocError>
     ensures { IfOk result (λ frame. frame ≡ frame_in (bytes_of (texts words.now))) }
 {
     match bytes(alloc, words)? {
-        Some(bytes) => Ok(whole_frame(&bytes)),
+        Some(bytes) => Ok(Frame::decode(&bytes).ok()),
         None => Ok(None),
     }
 }

@@ -71,7 +71,7 @@ fn place_in(alloc: Global, lines: &mut Vec<Line>, name: Text) -> Result<usize, A
     ensures lines { OnOk result (lines.new.items ≡ lines_with lines.old.items name (line_of lines.old.items name)) }
     ensures small { IfOk result (λ place. place ≤ length lines.old.items) }
 {
-    if let Some(place) = Line::place(lines, name.as_bytes()) {
+    if let Some(place) = Line::place(lines, name.as_str()) {
         return Ok(place);
     }
     let place = lines.len();

@@ -11,7 +11,6 @@ mod opening;
 mod player;
 mod printing;
 mod report;
-mod whole_frame;
 mod word;
 
 pub use input::SCRIPT_LIMIT;

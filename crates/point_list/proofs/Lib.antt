@@ -1,5 +1,6 @@
 pub mod Labels
 pub mod Names
+pub mod Words
 pub mod Failing
 pub mod Differ
 pub mod TextSets

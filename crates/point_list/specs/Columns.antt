@@ -146,6 +146,11 @@ can_be_set Int64 = true
 can_be_set Uint64 = true
 can_be_set _ = false
 
+abbrev pub role_name : Role → List ℕ
+role_name Gauge = codes "gauge"
+role_name Counter = codes "counter"
+role_name Setting = codes "setting"
+
 -- the role of a text, as far as the table and the type can have it
 unfoldable pub role_of : Table → PointType → List ℕ → Option Role
 role_of table kind text =

@@ -1,5 +1,6 @@
 -- The texts of faults.
-use Rattle.std.specs.Prelude.{ℕ, List, codes}
+use Rattle.std.specs.Prelude.{ℕ, List, [], ◌++◌, ◌==◌, if◌then◌else◌, codes, decimal}
+use Rattle.point_list.specs.declared.error.ListError.{ListError}
 use Rattle.point_list.specs.declared.error.ListFault.{ListFault}
 use Rattle.point_list.specs.declared.error.ListFault.TheVariants.{BadCsv, BadHeader, BadName, UnknownDevice, BadTable, BadAddress, BadType, LeftOutType, BadLength, BadScale, BadRole, BadRoll, Twice, TooManyPoints, Memory, BadSite}
 
@@ -20,3 +21,13 @@ fault_text Twice = codes "twice"
 fault_text TooManyPoints = codes "too many points"
 fault_text Memory = codes "memory"
 fault_text BadSite = codes "bad site"
+
+-- a word and a number, where the number isn't 0
+abbrev pub numbered : List ℕ → ℕ → List ℕ
+numbered word number = if number == 0 then [] else word ++ decimal number
+
+-- a fault with its row and column, where it has them
+abbrev pub error_text : ListError → List ℕ
+error_text e =
+    if e.row == 0 then fault_text e.fault
+    else fault_text e.fault ++ codes " row " ++ decimal e.row ++ numbered (codes " column ") e.column

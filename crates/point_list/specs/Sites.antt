@@ -1,6 +1,6 @@
 -- Sites whose parts agree with each other.
 use Rattle.std.specs.Prelude.{◌≡◌, ℕ, List, [], ◌∷◌, Option, Bool, true, not, ◌&&◌, ◌==◌, nat_le, nat_lt, length}
-use Rattle.std.specs.List.{list_any, list_all, position}
+use Rattle.std.specs.List.{find, list_any, list_all, position}
 use Rattle.std.specs.Str.{bytes_eq}
 use Rattle.point_list.specs.declared.site.Site.{Site}
 use Rattle.point_list.specs.declared.site.Line.{Line}
@@ -13,6 +13,13 @@ line_of lines name = position (λ (x : Line). bytes_eq x.name name) lines
 -- the place of the device of this name
 abbrev pub device_of : List Device → List ℕ → Option ℕ
 device_of devices name = position (λ (x : Device). bytes_eq x.name name) devices
+
+-- the line of this name, and the device of this name
+abbrev pub line_named : Site → List ℕ → Option Line
+line_named site name = find (λ (x : Line). bytes_eq x.name name) site.lines
+
+abbrev pub device_named : Site → List ℕ → Option Device
+device_named site name = find (λ (x : Device). bytes_eq x.name name) site.devices
 
 -- no two of them are equal
 unfoldable pub all_differ : {A : Type 0} → (A → A → Bool) → List A → Bool

@@ -3,12 +3,13 @@ ghost use Rattle.std.specs.Prelude.{◌≡◌, ◌≤◌, ◌-◌, ◌^◌};
 ghost use Rattle.std.specs.List.{list_any};
 ghost use Rattle.std.specs.Str.{bytes_eq};
 ghost use Rattle.csv.specs.Records.{fields_of};
-ghost use Rattle.sunspec.specs.PointType.{IsSized};
+ghost use Rattle.sunspec.specs.PointType.{IsSized, named};
 ghost use Rattle.point_list.specs.Columns.{field, table_of, address_of, is_left_out, in_table, named_in, sized, is_scaled, scaled_by, can_count, can_be_set, can_be_written, role_of, roll_of, roll_given, scale_in, greatest_of};
 
 use crate::point::Role;
 use csv::ByteRecord;
 use mb_pdu::Table;
+use std::str;
 use sunspec::{PointType, digits};
 
 /// The field of a record at a place, or nothing.
@@ -68,12 +69,22 @@ fn in_table(table: Table, kind: PointType) -> Option<PointType>
     if of_bits == is_bit { Some(kind) } else { None }
 }
 
+/// The type of a name, which a field that is no text can't be.
+fn kind_named(text: &[u8]) -> Option<PointType>
+    ensures { result ≡ named text.now }
+{
+    match str::from_utf8(text) {
+        Ok(name) => PointType::from_name(name),
+        Err(_) => None,
+    }
+}
+
 /// The type of a name in a table, a string as one of one register.
 #[tactic(auto, unfolding(crate::specs::Columns::named_in))]
 pub(crate) fn type_named(table: Table, text: &[u8]) -> Option<PointType>
     ensures { result ≡ named_in table text.now }
 {
-    match PointType::from_name(text) {
+    match kind_named(text) {
         Some(kind) => in_table(table, kind),
         None => None,
     }

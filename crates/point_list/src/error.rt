@@ -1,8 +1,8 @@
 ghost use Rattle.std.specs.Prelude.{◌≡◌};
 ghost use Rattle.point_list.specs.declared.error.ListFault.TheVariants.{Memory};
 
+use std::error::Error;
 use std::fmt;
-use thiserror::Error;
 
 /// What is wrong with a point list or a site file.
 #[derive(Clone, Copy, Debug, PartialEq, Eq)]
@@ -71,13 +71,33 @@ impl fmt::Display for ListFault {
 
 /// A fault with its place: the number of the record, of which the header is 1, and the column 1 to
 /// 9, or 0 where no column is at fault. A fault of a site file, and `Memory`, have row and column 0.
-#[derive(Clone, Copy, Debug, PartialEq, Eq, Error)]
-#[error("{fault} row {row} column {column}")]
+/// It prints as the fault with its row and column, where it has them: `bad csv row 3`.
+#[derive(Clone, Copy, Debug, PartialEq, Eq)]
 pub struct ListError {
     pub fault: ListFault,
     pub row: u32,
     pub column: u8,
 }
+
+impl fmt::Display for ListError {
+    ghost use Rattle.std.specs.Prelude.{Some};
+    ghost use Rattle.point_list.specs.FaultTexts.{error_text};
+
+    ghost output = { λ error. Some (error_text error) };
+
+    fn fmt<W: fmt::Write>(&self, f: &mut fmt::Formatter<W>) -> fmt::Result {
+        let ListError { fault, row, column } = self;
+        if *row == 0 {
+            write!(f, "{fault}")
+        } else if *column == 0 {
+            write!(f, "{fault} row {row}")
+        } else {
+            write!(f, "{fault} row {row} column {column}")
+        }
+    }
+}
+
+impl Error for ListError {}
 
 impl ListError {
     pub(crate) fn new(fault: ListFault, row: u32, column: u8) -> ListError

@@ -1,6 +1,8 @@
-ghost use Rattle.std.specs.Prelude.{◌≡◌};
+ghost use Rattle.std.specs.Prelude.{◌≡◌, ◌↔◌, [], IsTrue, length};
+ghost use Rattle.std.specs.Slice.Iter.{iter_rest};
 
 use std::marker::Model;
+use std::slice;
 
 /// A list that contracts see as its elements alone. It is made from a `Vec` and gives it back
 /// without taking memory.
@@ -37,5 +39,38 @@ impl<T> Items<T> {
         ensures { result.now ≡ self.now }
     {
         self.vec.as_slice()
+    }
+
+    /// How many elements there are.
+    pub fn len(&self) -> usize
+        ensures { result ≡ length self.now }
+    {
+        self.vec.len()
+    }
+
+    /// Whether there is no element.
+    pub fn is_empty(&self) -> bool
+        ensures { IsTrue result ↔ (self.now ≡ []) }
+    {
+        self.vec.is_empty()
+    }
+
+    /// The elements in turn.
+    pub fn iter(&self) -> slice::Iter<'_, T>
+        ensures { iter_rest result ≡ self.now }
+    {
+        self.vec.iter()
+    }
+}
+
+impl<'a, T> IntoIterator for &'a Items<T> {
+    type Item = &'a T;
+
+    type IntoIter = slice::Iter<'a, T>;
+
+    ghost into_iter_gives = { λ items it. iter_rest it ≡ items.now };
+
+    fn into_iter(self) -> Self::IntoIter {
+        self.iter()
     }
 }

@@ -63,7 +63,8 @@ impl Label {
 
     /// The label as text.
     pub fn as_str(&self) -> &str
-        ensures { result.now ≡ self.now }
+        ensures value { result.now ≡ self.now }
+        ensures label { is_label self.now ≡ true }
     {
         match str::from_utf8(self.as_bytes()) {
             Ok(text) => text,

@@ -1,9 +1,13 @@
+ghost use Rattle.std.specs.Prelude.{Some};
+ghost use Rattle.point_list.specs.Columns.{role_name};
+
 use crate::label::Label;
 use crate::name::Name;
 use mb_pdu::Table;
+use std::fmt;
 use sunspec::PointType;
 
-/// What a point is for.
+/// What a point is for. It prints as `gauge`, `counter` or `setting`, the words of a list.
 #[derive(Clone, Copy, Debug, PartialEq, Eq)]
 pub enum Role {
     /// A value that goes up and down.
@@ -12,6 +16,18 @@ pub enum Role {
     Counter,
     /// A value that orders set.
     Setting,
+}
+
+impl fmt::Display for Role {
+    ghost output = { λ role. Some (role_name role) };
+
+    fn fmt<W: fmt::Write>(&self, f: &mut fmt::Formatter<W>) -> fmt::Result {
+        f.pad(match self {
+            Role::Gauge => "gauge",
+            Role::Counter => "counter",
+            Role::Setting => "setting",
+        })
+    }
 }
 
 /// A point: where a device keeps a value, and what it means.

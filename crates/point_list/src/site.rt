@@ -1,10 +1,9 @@
-ghost use Rattle.std.specs.Prelude.{◌≡◌};
+ghost use Rattle.std.specs.Prelude.{◌≡◌, option_map};
 ghost use Rattle.std.specs.List.{list_any};
 ghost use Rattle.std.specs.Str.{bytes_eq};
 ghost use Rattle.point_list.specs.Sites.{device_of, line_of};
 
 use crate::items::Items;
-use crate::label::Label;
 use crate::site_file::is_sound;
 use crate::text::Text;
 
@@ -18,10 +17,10 @@ pub struct Line {
 
 impl Line {
     /// The place of the line of this name.
-    pub fn place(lines: &[Line], name: &[u8]) -> Option<usize>
+    pub fn place(lines: &[Line], name: &str) -> Option<usize>
         ensures { result ≡ line_of lines.now name.now }
     {
-        lines.iter().position(|line| line.name.as_bytes() == name)
+        lines.iter().position(|line| line.name.as_str() == name)
     }
 }
 
@@ -39,19 +38,13 @@ pub struct Device {
 
 impl Device {
     /// The place of the device of this name.
-    pub fn place(devices: &[Device], name: &[u8]) -> Option<usize>
+    pub fn place(devices: &[Device], name: &str) -> Option<usize>
         ensures { result ≡ device_of devices.now name.now }
     {
         devices
             .iter()
-            .position(|device| device.name.as_bytes() == name)
+            .position(|device| device.name.as_str() == name)
     }
-}
-
-fn is_device_named(devices: &[Device], name: &[u8]) -> bool
-    ensures { result ≡ list_any (λ x. bytes_eq name.now x.name) devices.now }
-{
-    devices.iter().any(|device| name == device.name.as_bytes())
 }
 
 /// The lines and devices of a site, in the order of its file.
@@ -63,7 +56,6 @@ pub struct Site {
 
 impl Site {
     ghost use Rattle.point_list.specs.Sites as sites;
-    ghost use Rattle.point_list.specs.Columns.{is_device};
 
     /// Whether its parts agree: at most 64 lines and 256 devices, names that differ, a line for each
     /// device, and no two devices that share line and unit identifier. A site that `read_site` gives
@@ -74,10 +66,29 @@ impl Site {
         is_sound(self.lines.as_slice(), self.devices.as_slice())
     }
 
-    /// Whether it has a device of this name.
-    pub fn has_device(&self, name: &Label) -> bool
-        ensures { result ≡ is_device self.now name.now }
+    /// The line of this name.
+    pub fn line(&self, name: &str) -> Option<&Line>
+        ensures { option_map (λ line. line.now) result ≡ sites.line_named self.now name.now }
     {
-        is_device_named(self.devices.as_slice(), name.as_bytes())
+        self.lines.iter().find(|line| line.name.as_str() == name)
+    }
+
+    /// The device of this name.
+    pub fn device(&self, name: &str) -> Option<&Device>
+        ensures { option_map (λ device. device.now) result ≡ sites.device_named self.now name.now }
+    {
+        self.devices
+            .iter()
+            .find(|device| device.name.as_str() == name)
+    }
+
+    /// Whether it has a device of this name. A point names its device by a `Label`, whose
+    /// `as_str` is such a name; a device whose name is no label has no points.
+    pub fn has_device(&self, name: &str) -> bool
+        ensures { result ≡ list_any (λ device. bytes_eq name.now device.name) self.now.devices }
+    {
+        self.devices
+            .iter()
+            .any(|device| name == device.name.as_str())
     }
 }

@@ -77,7 +77,7 @@ fn line_named(lines: &[Line], name: &str) -> Option<u16>
     requires { length lines.now ≤ 64 }
     ensures { result ≡ line_of lines.now name.now }
 {
-    let place = Line::place(lines, name.as_bytes())?;
+    let place = Line::place(lines, name)?;
     Some(place as u16)
 }
 
@@ -244,7 +244,7 @@ fn site_in(alloc: Global, document: &Table) -> Result<Site, Refusal>
 /// (`name`, `line`, `unit` 0 to 255, and `gap` 0 to 124, which is 0 if missing). Other members are
 /// ignored. It refuses with `BadSite` where the text is no TOML, a member is missing or ill-typed,
 /// a name is used twice, a line is unknown, two devices share line and unit identifier, or there
-/// are more than 64 lines or 256 devices.
+/// are more than 64 lines or 256 devices. `docs/FORMATS.md` has an example.
 pub fn read_site(alloc: Global, bytes: &[u8]) -> Result<Site, ListError>
     // What is read is the site of the document that the bytes are.
     ensures site { IfOk result (λ s. (doc : Members) × IsDocument bytes.now doc × (site_of doc ≡ Some s)) }

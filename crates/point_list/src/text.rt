@@ -1,8 +1,13 @@
-ghost use Rattle.std.specs.Prelude.{◌≡◌, string_bytes};
+ghost use Rattle.std.specs.Prelude.{◌≡◌, Some, string_bytes};
+ghost use Rattle.std.specs.Cmp.{partial_equiv_from_equiv};
+ghost use Rattle.std.specs.Cmp.Lexicographic.{nat_list_eq_equiv};
+ghost use Rattle.std.specs.Str.{bytes_eq};
 
+use std::alloc::AllocError;
+use std::fmt;
 use std::marker::Model;
 
-/// A text of any length. Contracts see its bytes.
+/// A text of any length. Contracts see its bytes. A clone takes memory and may be refused it.
 #[derive(Debug, Drop)]
 pub struct Text {
     text: String,
@@ -36,5 +41,37 @@ impl Text {
         ensures { result.now ≡ self.now }
     {
         self.text.as_bytes()
+    }
+}
+
+impl fmt::Display for Text {
+    ghost output = { λ t. Some t };
+
+    fn fmt<W: fmt::Write>(&self, f: &mut fmt::Formatter<W>) -> fmt::Result {
+        f.pad(self.as_str())
+    }
+}
+
+impl PartialEq for Text {
+    ghost eq = { λ a b. bytes_eq a b };
+
+    ghost laws = { partial_equiv_from_equiv nat_list_eq_equiv };
+
+    fn eq(&self, other: &Text) -> bool {
+        self.as_str() == other.as_str()
+    }
+}
+
+impl Eq for Text {
+    ghost laws = { nat_list_eq_equiv };
+}
+
+impl Clone for Text {
+    ghost is_clone = { λ a b. b ≡ a };
+
+    fn clone(&self) -> Result<Text, AllocError> {
+        Ok(Text {
+            text: self.text.clone()?,
+        })
     }
 }

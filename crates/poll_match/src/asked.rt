@@ -41,7 +41,8 @@ impl Asked {
     }
 }
 
-/// A query of a connection: what it asked, and whether it was answered.
+/// A query of a connection: what it asked, and whether it was answered. No call takes or gives it:
+/// it is public for contracts alone, which see a connection as the list of its queries.
 #[derive(Clone, Copy, Debug, PartialEq, Eq)]
 pub struct Matched {
     pub asked: Asked,

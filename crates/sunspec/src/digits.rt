@@ -1,4 +1,7 @@
-//! Numbers as fields of a list and words of a script spell them: digits alone.
+//! Numbers as digits alone spell them, for the fields of a point list and the words of a script or
+//! a command: texts that come in, where the rest of the crate writes texts that go out. It stands
+//! here since this is the lowest crate below both. std's `parse` isn't the same: it takes a `+`, and
+//! any number of digits where a field has room for five.
 
 ghost use Rattle.std.specs.Prelude.{◌≡◌, ◌+◌, ◌-◌, ◌*◌, ◌&&◌, None, Some, if◌then◌else◌, nat_le};
 ghost use Rattle.std.specs.Char.{is_ascii_digit};

@@ -214,14 +214,15 @@ impl PointType {
             .find(|kind| kind.row().code == code)
     }
 
-    /// The type of a name. A string comes with one register: `with_registers` gives it its length.
-    pub fn from_name(name: &[u8]) -> Option<PointType>
+    /// The type of a name as `name` gives it. A string comes with one register: `with_registers`
+    /// gives it its length.
+    pub fn from_name(name: &str) -> Option<PointType>
         ensures { result ≡ named name.now }
     {
         Self::ALL
             .iter()
             .copied()
-            .find(|kind| kind.row().name.as_bytes() == name)
+            .find(|kind| kind.row().name == name)
     }
 
     /// The type of this name with so many registers, if there is one: a string of any length from

@@ -215,15 +215,16 @@ fn strings_end_at_zero(rt: HostRuntime) {
 
 #[test]
 fn types_by_name(rt: HostRuntime) {
-    let cases: [(&[u8], Option<PointType>); 3] = [
-        (b"acc32", Some(PointType::Acc32)),
-        (b"string", Some(PointType::Str(1))),
-        (b"float32", None),
+    let cases = [
+        ("acc32", Some(PointType::Acc32)),
+        ("string", Some(PointType::Str(1))),
+        ("float32", None),
     ];
     for (name, kind) in cases {
         assert_told(&rt, &name, &PointType::from_name(name), &kind);
     }
-    assert_told(&rt, &"int64", &PointType::Int64.name(), &"int64");
+    let again = PointType::from_name(PointType::Int64.name());
+    assert_told(&rt, &"int64", &again, &Some(PointType::Int64));
 }
 
 #[test]

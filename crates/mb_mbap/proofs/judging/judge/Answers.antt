@@ -1,4 +1,4 @@
-use Rattle.std.proofs.Common.{rules, arith}
+use Rattle.std.proofs.Common.{arith}
 use Rattle.mb_mbap.proofs.Spelling.{whole-means}
 use Rattle.mb_mbap.proofs.judging.judge.Goals as goal
 

@@ -1,4 +1,3 @@
-use Rattle.std.proofs.Common.{rules}
 use Rattle.mb_mbap.proofs.Unique.{splits_once}
 use Rattle.mb_mbap.proofs.laws.one_reading.Goals as goal
 

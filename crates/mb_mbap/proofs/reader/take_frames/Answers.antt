@@ -1,4 +1,3 @@
-use Rattle.std.proofs.Common.{None, arith, sym, ◌∙◌}
 use Rattle.std.proofs.lemmas.List.{take_rest}
 use Rattle.mb_mbap.proofs.Pieces.{after_more, after_whole, stops_at_bad}
 use Rattle.mb_mbap.proofs.reader.take_frames.Goals as goal

@@ -1,4 +1,4 @@
-use Rattle.std.proofs.Common.{ℕ, ◌-◌, length}
+use Rattle.std.proofs.Common.{◌-◌, length}
 use Rattle.mb_mbap.proofs.Pieces.{IsAt}
 use Rattle.mb_mbap.proofs.reader.take_frames.Given as goal
 

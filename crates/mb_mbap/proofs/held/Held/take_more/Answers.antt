@@ -1,7 +1,6 @@
 use Rattle.std.proofs.Common.{◌≡◌, ◌≤◌, ◌<◌, ℕ, ◌+◌, ◌-◌, List, ◌++◌, length, take, min, arith, length-take, length-append, sym, ap, ◌∙◌, subst}
 use Rattle.std.proofs.lemmas.List.{length-take-le}
 use Rattle.mb_mbap.specs.Stream.{IsOpen, wanted}
-use Rattle.mb_mbap.specs.Feeding.{StandsAs}
 use Rattle.mb_mbap.proofs.Rests.{open_wanted}
 use Rattle.mb_mbap.proofs.Pieces.{stands_more, stands_whole, stands_bad}
 use Rattle.mb_mbap.proofs.held.Held.take_more.Goals as goal

@@ -1,9 +1,8 @@
-use Rattle.std.proofs.Common.{◌≡◌, ◌∙◌, ℕ, Some, length, subst, sym, ap, rules}
+use Rattle.std.proofs.Common.{◌≡◌, ◌∙◌, ℕ, Some, length, subst, sym, rules}
 use Rattle.poll_match.specs.declared.asked.Asked.TheVariants.{Read}
 use Rattle.poll_match.specs.Window.{IsNextFrame, Changes, held, with_query}
 use Rattle.office_core.specs.declared.event.Event.TheVariants.{Ask}
 use Rattle.office_core.specs.Errors.{refused_by}
-use Rattle.office_core.specs.Sites.{target}
 use Rattle.office_core.specs.Cover.{is_readable}
 use Rattle.office_core.specs.Keeping.{Endures}
 use Rattle.office_core.specs.Standing.{Goes, StandsFor}
@@ -20,7 +19,7 @@ returns-in_err-to-clause-goes g c clean =
     let device = c.args.device.now in
     let e = c.in_err-to.field-0.0 in
     let fault : (made : ℕ) → ask_fault c.line_of-line.result office.site office.points.items made device c.args.read ≡ Some e =
-    λ made. (λ i. ask_fault c.line_of-line.result office.site (sym c.deref.ensures.value i) made (sym c.as_bytes.ensures.value i) c.args.read) ∙ c.in_err-to.ensures made in
+    λ made. (λ i. ask_fault c.line_of-line.result office.site (sym c.deref.ensures.value i) made c.args.device.now c.args.read) ∙ c.in_err-to.ensures made in
     subst (Goes stands stands (Ask c.args.conn device c.args.slot c.args.read)) (sym (asked_err c.from_residual.result e c.from_residual.ensures.1))
     (asking_judged holds office.site office.points.items office.matcher c.args.conn device c.args.slot c.args.read c.line_of-line.result (sym c.line_of-line.ensures) e fault)
 
@@ -32,7 +31,7 @@ returns-in_err-to-clause-crash g c clean =
     let device = c.args.device.now in
     let e = c.in_err-to.field-0.0 in
     let fault : (made : ℕ) → ask_fault c.line_of-line.result office.site office.points.items made device c.args.read ≡ Some e =
-    λ made. (λ i. ask_fault c.line_of-line.result office.site (sym c.deref.ensures.value i) made (sym c.as_bytes.ensures.value i) c.args.read) ∙ c.in_err-to.ensures made in
+    λ made. (λ i. ask_fault c.line_of-line.result office.site (sym c.deref.ensures.value i) made c.args.device.now c.args.read) ∙ c.in_err-to.ensures made in
     subst (Goes stands stands (Ask c.args.conn device c.args.slot c.args.read)) (sym (asked_err c.from_residual.result e c.from_residual.ensures.1))
     (asking_judged holds office.site office.points.items office.matcher c.args.conn device c.args.slot c.args.read c.line_of-line.result (sym c.line_of-line.ensures) e fault)
 
@@ -45,7 +44,7 @@ returns-in_err-next_query-clause-goes g c clean =
     subst (Goes (StandsFor holds office.site office.points.items office.matcher) (StandsFor holds office.site office.points.items c.next_query.new.self) (Ask c.args.conn device c.args.slot c.args.read))
     (sym (asked_err c.from_residual-in_err-next_query.result (refused_by c.in_err-next_query.field-0.0) c.from_residual-in_err-next_query.ensures.1))
     (asking_refused holds office.site office.points.items office.matcher c.args.conn device c.args.slot c.args.read c.in_ok-to.to (sym c.line_of-line.ensures ∙ to.0)
-    (ap (target office.site) (sym c.as_bytes.ensures.value) ∙ to.1) ((λ i. is_readable (sym c.deref.ensures.value i) (sym c.as_bytes.ensures.value i) c.args.read) ∙ to.2)
+    to.1 ((λ i. is_readable (sym c.deref.ensures.value i) c.args.device.now c.args.read) ∙ to.2)
     c.in_err-next_query.field-0.0 c.in_err-next_query.ensures.refused c.next_query.new.self c.in_err-next_query.ensures.err)
 
 pub returns-in_err-next_query-clause-crash : goal.returns-in_err-next_query-clause-crash
@@ -57,7 +56,7 @@ returns-in_err-next_query-clause-crash g c clean =
     subst (Goes (StandsFor holds office.site office.points.items office.matcher) (StandsFor holds office.site office.points.items c.next_query.new.self) (Ask c.args.conn device c.args.slot c.args.read))
     (sym (asked_err c.from_residual-in_err-next_query.result (refused_by c.in_err-next_query.field-0.0) c.from_residual-in_err-next_query.ensures.1))
     (asking_refused holds office.site office.points.items office.matcher c.args.conn device c.args.slot c.args.read c.in_ok-to.to (sym c.line_of-line.ensures ∙ to.0)
-    (ap (target office.site) (sym c.as_bytes.ensures.value) ∙ to.1) ((λ i. is_readable (sym c.deref.ensures.value i) (sym c.as_bytes.ensures.value i) c.args.read) ∙ to.2)
+    to.1 ((λ i. is_readable (sym c.deref.ensures.value i) c.args.device.now c.args.read) ∙ to.2)
     c.in_err-next_query.field-0.0 c.in_err-next_query.ensures.refused c.next_query.new.self c.in_err-next_query.ensures.err)
 
 pub returns-clause-goes : goal.returns-clause-goes
@@ -68,7 +67,7 @@ returns-clause-goes g c clean =
     let to = c.in_ok-to.ensures in
     let count : c.len.result ≡ length office.points.items = search rules in
     asking_goes holds office.site office.points.items office.matcher c.args.conn device c.args.slot c.args.read c.in_ok-to.to (sym c.line_of-line.ensures ∙ to.0)
-    (ap (target office.site) (sym c.as_bytes.ensures.value) ∙ to.1) ((λ i. is_readable (sym c.deref.ensures.value i) (sym c.as_bytes.ensures.value i) c.args.read) ∙ to.2)
+    to.1 ((λ i. is_readable (sym c.deref.ensures.value i) c.args.device.now c.args.read) ∙ to.2)
     c.in_ok-next_query.field-0 c.in_ok-next_query.ensures.accepted
     (subst (λ n. IsNextFrame (Read c.in_ok-to.to.unit_id c.in_ok-to.to.place c.args.slot c.args.read n) (held c.args.conn office.matcher) c.in_ok-next_query.field-0) count c.in_ok-next_query.ensures.frame)
     c.next_query.new.self
@@ -82,7 +81,7 @@ returns-clause-crash g c clean =
     let to = c.in_ok-to.ensures in
     let count : c.len.result ≡ length office.points.items = search rules in
     asking_goes holds office.site office.points.items office.matcher c.args.conn device c.args.slot c.args.read c.in_ok-to.to (sym c.line_of-line.ensures ∙ to.0)
-    (ap (target office.site) (sym c.as_bytes.ensures.value) ∙ to.1) ((λ i. is_readable (sym c.deref.ensures.value i) (sym c.as_bytes.ensures.value i) c.args.read) ∙ to.2)
+    to.1 ((λ i. is_readable (sym c.deref.ensures.value i) c.args.device.now c.args.read) ∙ to.2)
     c.in_ok-next_query.field-0 c.in_ok-next_query.ensures.accepted
     (subst (λ n. IsNextFrame (Read c.in_ok-to.to.unit_id c.in_ok-to.to.place c.args.slot c.args.read n) (held c.args.conn office.matcher) c.in_ok-next_query.field-0) count c.in_ok-next_query.ensures.frame)
     c.next_query.new.self
@@ -91,4 +90,4 @@ returns-clause-crash g c clean =
 pub returns-in_err-to-clause-cause : goal.returns-in_err-to-clause-cause
 returns-in_err-to-clause-cause g c =
     caused_err g.K.Neighbours.may_refuse c.from_residual.result c.in_err-to.field-0.0 c.from_residual.ensures.1
-    (ask_caused g.K.Neighbours.may_refuse c.line_of-line.result c.args.self.now.site c.deref.result.now 0 c.as_bytes.result.now c.args.read c.in_err-to.field-0.0 (c.in_err-to.ensures 0))
+    (ask_caused g.K.Neighbours.may_refuse c.line_of-line.result c.args.self.now.site c.deref.result.now 0 c.args.device.now c.args.read c.in_err-to.field-0.0 (c.in_err-to.ensures 0))

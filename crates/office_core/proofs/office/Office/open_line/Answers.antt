@@ -18,7 +18,7 @@ returns-then-last-ge4294967295-clause-goes g c clean =
     let office = c.args.self.now in
     let holds = g.K.Neighbours.holds office.keeper in
     let known = office.points.items in
-    let place : line_place office.site c.args.line.now ≡ Some c.in-Some.line = ap (line_place office.site) (sym c.as_bytes.ensures.value) ∙ sym c.in-Some.ensures in
+    let place : line_place office.site c.args.line.now ≡ Some c.in-Some.line = sym c.in-Some.ensures in
     opening_full holds office.site known office.matcher c.args.line.now c.in-Some.line c.in_ok-last.last place
     (λ before stands. c.in_ok-last.ensures.value clean (tables before) stands.tables
     (subst (λ n. n ≤ connections before) (sym c.greatest.ensures) (greatest_made holds office.site known office.matcher before stands)))
@@ -29,7 +29,7 @@ returns-then-last-ge4294967295-clause-crash g c clean =
     let office = c.args.self.now in
     let endures = Endures (g.K.Neighbours.holds office.keeper) (g.K.Neighbours.may_leave office.keeper) in
     let known = office.points.items in
-    let place : line_place office.site c.args.line.now ≡ Some c.in-Some.line = ap (line_place office.site) (sym c.as_bytes.ensures.value) ∙ sym c.in-Some.ensures in
+    let place : line_place office.site c.args.line.now ≡ Some c.in-Some.line = sym c.in-Some.ensures in
     opening_full endures office.site known office.matcher c.args.line.now c.in-Some.line c.in_ok-last.last place
     (λ before stands. c.in_ok-last.ensures.value clean (tables before) stands.tables.0
     (subst (λ n. n ≤ connections before) (sym c.greatest.ensures) (greatest_made endures office.site known office.matcher before stands)))
@@ -82,7 +82,7 @@ returns-clause-goes g c clean =
     let office = c.args.self.now in
     let holds = g.K.Neighbours.holds in
     let known = office.points.items in
-    let place : line_place office.site c.args.line.now ≡ Some c.in-Some.line = ap (line_place office.site) (sym c.as_bytes.ensures.value) ∙ sym c.in-Some.ensures in
+    let place : line_place office.site c.args.line.now ≡ Some c.in-Some.line = sym c.in-Some.ensures in
     let change : Change = record { points = c.from_vec.result; readings = c.from_vec-2.result; connections = Some c.number.result } in
     let points : change.points ≡ [] = c.from_vec.ensures ∙ c.new.ensures.items in
     let rows : change.readings ≡ [] = c.from_vec-2.ensures ∙ c.new-2.ensures.items in
@@ -103,7 +103,7 @@ returns-clause-crash g c clean =
     let known = office.points.items in
     let endures = Endures (holds office.keeper) (may office.keeper) in
     let endures' = Endures (holds c.commit.new.keeper) (may c.commit.new.keeper) in
-    let place : line_place office.site c.args.line.now ≡ Some c.in-Some.line = ap (line_place office.site) (sym c.as_bytes.ensures.value) ∙ sym c.in-Some.ensures in
+    let place : line_place office.site c.args.line.now ≡ Some c.in-Some.line = sym c.in-Some.ensures in
     let change : Change = record { points = c.from_vec.result; readings = c.from_vec-2.result; connections = Some c.number.result } in
     let points : change.points ≡ [] = c.from_vec.ensures ∙ c.new.ensures.items in
     let rows : change.readings ≡ [] = c.from_vec-2.ensures ∙ c.new-2.ensures.items in

@@ -1,0 +1,8 @@
+use Rattle.point_list.proofs.Words.{table_words, role_word}
+use Rattle.point_list.proofs.laws.printed_words.Goals as goal
+
+pub returns-clause-tables : goal.returns-clause-tables
+returns-clause-tables c = table_words
+
+pub returns-clause-roles : goal.returns-clause-roles
+returns-clause-roles c = role_word
