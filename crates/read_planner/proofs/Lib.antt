@@ -9,3 +9,4 @@ pub mod Placed
 pub mod Reaching
 pub mod Stepping
 pub mod Walking
+pub mod Listed

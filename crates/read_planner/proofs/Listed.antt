@@ -1,0 +1,154 @@
+-- The points of a list's rows can be read.
+use Rattle.std.proofs.Common.{◌≡◌, ◌+◌, ◌<◌, ◌≤◌, ℕ, zero, suc, Bool, true, false, cond, List, [], ◌∷◌, ◌++◌, length, get_or, All, Option, Some, None, refl, subst, arith}
+use Rattle.std.specs.Prelude.{nat_le, ◌&&◌, ◌==◌}
+use Rattle.std.proofs.lemmas.Bool.{and_parts, leb-true}
+use Rattle.mb_pdu.specs.declared.table.Table.{Table}
+use Rattle.mb_pdu.specs.declared.table.Table.TheVariants.{Coil, Discrete, Input, Holding}
+use Rattle.sunspec.specs.declared.point_type.PointType.{PointType}
+use Rattle.sunspec.specs.declared.point_type.PointType.TheVariants.{Int16, Uint16, Acc16, Enum16, Bitfield16, Sunssf, Int32, Uint32, Acc32, Enum32, Bitfield32, Int64, Uint64, Acc64, Ipaddr, Str, Bit}
+use Rattle.sunspec.specs.PointType.{IsSized, resized, row}
+use Rattle.sunspec.specs.Digits.{number_within}
+use Rattle.point_list.specs.declared.error.ListFault.{ListFault}
+use Rattle.point_list.specs.declared.point.ListRow.{ListRow}
+use Rattle.point_list.specs.declared.point.Point.{Point}
+use Rattle.point_list.specs.Columns.{Record, field, ◌then◌, sized, unsized}
+use Rattle.point_list.specs.Lists.{AreRows, Check, Says, SayRows, address_in, ends_in_time, fault_below, first_failed, meaning_checks, name_of_type_in, place_checks, type_in, whole_checks}
+use Rattle.read_planner.specs.Place.{CanBeRead, size_in}
+
+-- ---- types have a size
+
+moved : (a k : PointType) → Some a ≡ Some k → IsSized a → IsSized k
+moved a k e is = let same : a ≡ k = cc in subst IsSized same is
+
+unsized_fits : (kind k : PointType) → unsized kind ≡ Some k → IsSized k
+unsized_fits (Str registers) k e = absurd (cc)
+unsized_fits Int16 k e = moved Int16 k e tt
+unsized_fits Uint16 k e = moved Uint16 k e tt
+unsized_fits Acc16 k e = moved Acc16 k e tt
+unsized_fits Enum16 k e = moved Enum16 k e tt
+unsized_fits Bitfield16 k e = moved Bitfield16 k e tt
+unsized_fits Sunssf k e = moved Sunssf k e tt
+unsized_fits Int32 k e = moved Int32 k e tt
+unsized_fits Uint32 k e = moved Uint32 k e tt
+unsized_fits Acc32 k e = moved Acc32 k e tt
+unsized_fits Enum32 k e = moved Enum32 k e tt
+unsized_fits Bitfield32 k e = moved Bitfield32 k e tt
+unsized_fits Int64 k e = moved Int64 k e tt
+unsized_fits Uint64 k e = moved Uint64 k e tt
+unsized_fits Acc64 k e = moved Acc64 k e tt
+unsized_fits Ipaddr k e = moved Ipaddr k e tt
+unsized_fits Bit k e = moved Bit k e tt
+
+if_taken : (b : Bool) (a k : PointType) → (b ≡ true → IsSized a) → cond b (Some a) None ≡ Some k → IsSized k
+if_taken true a k is e = moved a k e (is refl)
+if_taken false a k is e = absurd (cc)
+
+resized_fits : (kind : PointType) (registers : ℕ) (k : PointType) → resized kind registers ≡ Some k → IsSized k
+resized_fits (Str old) registers k e = if_taken (nat_le 1 registers && nat_le registers 125) (Str registers) k within e
+  where
+    within : (nat_le 1 registers && nat_le registers 125) ≡ true → IsSized (Str registers)
+    within is = let parts = and_parts (nat_le 1 registers) (nat_le registers 125) is in (leb-true 1 registers parts.0, leb-true registers 125 parts.1)
+resized_fits Int16 registers k e = if_taken ((row Int16).registers == registers) Int16 k (λ _. tt) e
+resized_fits Uint16 registers k e = if_taken ((row Uint16).registers == registers) Uint16 k (λ _. tt) e
+resized_fits Acc16 registers k e = if_taken ((row Acc16).registers == registers) Acc16 k (λ _. tt) e
+resized_fits Enum16 registers k e = if_taken ((row Enum16).registers == registers) Enum16 k (λ _. tt) e
+resized_fits Bitfield16 registers k e = if_taken ((row Bitfield16).registers == registers) Bitfield16 k (λ _. tt) e
+resized_fits Sunssf registers k e = if_taken ((row Sunssf).registers == registers) Sunssf k (λ _. tt) e
+resized_fits Int32 registers k e = if_taken ((row Int32).registers == registers) Int32 k (λ _. tt) e
+resized_fits Uint32 registers k e = if_taken ((row Uint32).registers == registers) Uint32 k (λ _. tt) e
+resized_fits Acc32 registers k e = if_taken ((row Acc32).registers == registers) Acc32 k (λ _. tt) e
+resized_fits Enum32 registers k e = if_taken ((row Enum32).registers == registers) Enum32 k (λ _. tt) e
+resized_fits Bitfield32 registers k e = if_taken ((row Bitfield32).registers == registers) Bitfield32 k (λ _. tt) e
+resized_fits Int64 registers k e = if_taken ((row Int64).registers == registers) Int64 k (λ _. tt) e
+resized_fits Uint64 registers k e = if_taken ((row Uint64).registers == registers) Uint64 k (λ _. tt) e
+resized_fits Acc64 registers k e = if_taken ((row Acc64).registers == registers) Acc64 k (λ _. tt) e
+resized_fits Ipaddr registers k e = if_taken ((row Ipaddr).registers == registers) Ipaddr k (λ _. tt) e
+resized_fits Bit registers k e = if_taken ((row Bit).registers == registers) Bit k (λ _. tt) e
+
+sized_fits : (kind : PointType) (text : List ℕ) (k : PointType) → sized kind text ≡ Some k → IsSized k
+unfolding sized
+sized_fits kind [] k e = unsized_fits kind k e
+sized_fits kind (byte ∷ bytes) k e = by (number_within 125 (byte ∷ bytes)) e
+  where
+    by : (o : Option ℕ) → o then resized kind ≡ Some k → IsSized k
+    by None e = absurd (cc)
+    by (Some registers) e = resized_fits kind registers k e
+
+type_fits : (r : Record) (k : PointType) → type_in r ≡ Some k → IsSized k
+unfolding type_in
+type_fits r k e = by (name_of_type_in r) e
+  where
+    by : (o : Option PointType) → o then (λ kind. sized kind (field r 5)) ≡ Some k → IsSized k
+    by None e = absurd (cc)
+    by (Some kind) e = sized_fits kind (field r 5) k e
+
+-- and have a register at least
+some_registers : (kind : PointType) → IsSized kind → 1 ≤ (row kind).registers
+unfolding row
+some_registers (Str registers) sized = sized.0
+some_registers Int16 sized = omega arith
+some_registers Uint16 sized = omega arith
+some_registers Acc16 sized = omega arith
+some_registers Enum16 sized = omega arith
+some_registers Bitfield16 sized = omega arith
+some_registers Sunssf sized = omega arith
+some_registers Int32 sized = omega arith
+some_registers Uint32 sized = omega arith
+some_registers Acc32 sized = omega arith
+some_registers Enum32 sized = omega arith
+some_registers Bitfield32 sized = omega arith
+some_registers Int64 sized = omega arith
+some_registers Uint64 sized = omega arith
+some_registers Acc64 sized = omega arith
+some_registers Ipaddr sized = omega arith
+some_registers Bit sized = omega arith
+
+-- ---- a faultless record's point ends in time
+
+passes : (b : Bool) (x : Option (ListFault × ℕ)) (f : ListFault × ℕ) → cond b x (Some f) ≡ None → (b ≡ true) × (x ≡ None)
+passes true x f h = (refl, h)
+passes false x f h = absurd (cc)
+
+none_behind : (a b : List Check) → first_failed (a ++ b) ≡ None → first_failed b ≡ None
+none_behind [] b h = h
+none_behind (c ∷ cs) b h = none_behind cs b (passes c.passes (first_failed (cs ++ b)) (c.fault, c.column) h).1
+
+ends : (known : List ℕ → Bool) (names : List (List ℕ)) (r : Record) → fault_below known names r ≡ None → ends_in_time (address_in r) (type_in r) ≡ true
+unfolding fault_below
+ends known names r h =
+    let behind = none_behind (meaning_checks r) (whole_checks names r) (none_behind (place_checks known (length names) r) (meaning_checks r ++ whole_checks names r) h) in
+    (passes (ends_in_time (address_in r) (type_in r)) _ _ behind).0
+
+in_table : (table : Table) (registers : ℕ) → 1 ≤ registers → size_in table registers ≤ registers
+in_table Coil registers some = some
+in_table Discrete registers some = some
+in_table Input registers some = omega arith
+in_table Holding registers some = omega arith
+
+-- the point that a faultless record says can be read
+said_fits : (known : List ℕ → Bool) (names : List (List ℕ)) (r : Record) (point : Point) → fault_below known names r ≡ None → Says r point → CanBeRead point
+said_fits known names r point none says =
+    let P : Option ℕ → Type 0 = λ address. ends_in_time address (type_in r) ≡ true in
+    let Q : Option PointType → Type 0 = λ kind. ends_in_time (Some point.address) kind ≡ true in
+    let in_time : ends_in_time (Some point.address) (Some point.kind) ≡ true = subst Q says.kind (subst P says.address (ends known names r none)) in
+    let last : point.address + (row point.kind).registers ≤ 65536 = leb-true (point.address + (row point.kind).registers) 65536 in_time in
+    let is : IsSized point.kind = type_fits r point.kind says.kind in
+    let size : size_in point.table (row point.kind).registers ≤ (row point.kind).registers = in_table point.table (row point.kind).registers (some_registers point.kind is) in
+    record { sized = is; inside = omega (arith, last, size) }
+
+-- ---- rows
+
+row_said : (number : ℕ) (body : List Record) (rows : List ListRow) → SayRows number body rows → (k : ℕ) (d : ListRow) → k < length rows
+    → (k < length body) × Says (get_or body k []) (get_or rows k d).point
+row_said number [] [] say k d lt = absurd (omega (arith, lt))
+row_said number [] (x ∷ xs) say k d lt = absurd say
+row_said number (r ∷ rs) [] say k d lt = absurd say
+row_said number (r ∷ rs) (x ∷ xs) say zero d lt = (omega arith, say.0.point)
+row_said number (r ∷ rs) (x ∷ xs) say (suc k) d lt =
+    let later = row_said (number + 1) rs xs say.1 k d (omega (arith, lt)) in
+    (omega (arith, later.0), later.1)
+
+pub listed : (known : List ℕ → Bool) (list : List Record) (rows : List ListRow) → AreRows known list rows → All (λ (x : ListRow). CanBeRead x.point) rows
+listed known list rows are = λ k d lt.
+    let said = row_said 2 are.body rows are.say k d lt in
+    said_fits known _ (get_or are.body k []) (get_or rows k d).point (are.faultless k said.0) said.1
