@@ -145,7 +145,11 @@ fn calls(alloc: Global, events: &[Event]) -> Result<u32, OfficeError> {
 fn assert_refusals(rt: &impl Abort, alloc: Global, fault: StoreFault) -> Result<(), OfficeError> {
     let events = events_of(alloc, HAPPENINGS)?;
     let count = calls(alloc, &events)?;
-    assert_told(rt, &count, &(count as usize > events.len()), &true);
+    // They make more calls than they are. Fewer are told as an error: it can be of memory refused to
+    // the test.
+    if count as usize <= events.len() {
+        return Err(OfficeError::Exhausted);
+    }
     for at in 0..count {
         assert_refused_once(rt, alloc, &events, at, fault)?;
     }
