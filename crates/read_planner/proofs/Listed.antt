@@ -2,6 +2,7 @@
 use Rattle.std.proofs.Common.{◌≡◌, ◌+◌, ◌<◌, ◌≤◌, ℕ, zero, suc, Bool, true, false, cond, List, [], ◌∷◌, ◌++◌, length, get_or, All, Option, Some, None, refl, subst, arith}
 use Rattle.std.specs.Prelude.{nat_le, ◌&&◌, ◌==◌}
 use Rattle.std.proofs.lemmas.Bool.{and_parts, leb-true}
+use Rattle.std.proofs.lemmas.Option.{cond_some, none-some, same_Some}
 use Rattle.mb_pdu.specs.declared.table.Table.{Table}
 use Rattle.mb_pdu.specs.declared.table.Table.TheVariants.{Coil, Discrete, Input, Holding}
 use Rattle.sunspec.specs.declared.point_type.PointType.{PointType}
@@ -17,53 +18,16 @@ use Rattle.read_planner.specs.Place.{CanBeRead, size_in}
 
 -- ---- types have a size
 
-moved : (a k : PointType) → Some a ≡ Some k → IsSized a → IsSized k
-moved a k e is = let same : a ≡ k = cc in subst IsSized same is
-
 unsized_fits : (kind k : PointType) → unsized kind ≡ Some k → IsSized k
-unsized_fits (Str registers) k e = absurd (cc)
-unsized_fits Int16 k e = moved Int16 k e tt
-unsized_fits Uint16 k e = moved Uint16 k e tt
-unsized_fits Acc16 k e = moved Acc16 k e tt
-unsized_fits Enum16 k e = moved Enum16 k e tt
-unsized_fits Bitfield16 k e = moved Bitfield16 k e tt
-unsized_fits Sunssf k e = moved Sunssf k e tt
-unsized_fits Int32 k e = moved Int32 k e tt
-unsized_fits Uint32 k e = moved Uint32 k e tt
-unsized_fits Acc32 k e = moved Acc32 k e tt
-unsized_fits Enum32 k e = moved Enum32 k e tt
-unsized_fits Bitfield32 k e = moved Bitfield32 k e tt
-unsized_fits Int64 k e = moved Int64 k e tt
-unsized_fits Uint64 k e = moved Uint64 k e tt
-unsized_fits Acc64 k e = moved Acc64 k e tt
-unsized_fits Ipaddr k e = moved Ipaddr k e tt
-unsized_fits Bit k e = moved Bit k e tt
-
-if_taken : (b : Bool) (a k : PointType) → (b ≡ true → IsSized a) → cond b (Some a) None ≡ Some k → IsSized k
-if_taken true a k is e = moved a k e (is refl)
-if_taken false a k is e = absurd (cc)
+unsized_fits (Str registers) k e = absurd (none-some k e)
+unsized_fits kind k e = subst IsSized (same_Some kind k e) tt
 
 resized_fits : (kind : PointType) (registers : ℕ) (k : PointType) → resized kind registers ≡ Some k → IsSized k
-resized_fits (Str old) registers k e = if_taken (nat_le 1 registers && nat_le registers 125) (Str registers) k within e
-  where
-    within : (nat_le 1 registers && nat_le registers 125) ≡ true → IsSized (Str registers)
-    within is = let parts = and_parts (nat_le 1 registers) (nat_le registers 125) is in (leb-true 1 registers parts.0, leb-true registers 125 parts.1)
-resized_fits Int16 registers k e = if_taken ((row Int16).registers == registers) Int16 k (λ _. tt) e
-resized_fits Uint16 registers k e = if_taken ((row Uint16).registers == registers) Uint16 k (λ _. tt) e
-resized_fits Acc16 registers k e = if_taken ((row Acc16).registers == registers) Acc16 k (λ _. tt) e
-resized_fits Enum16 registers k e = if_taken ((row Enum16).registers == registers) Enum16 k (λ _. tt) e
-resized_fits Bitfield16 registers k e = if_taken ((row Bitfield16).registers == registers) Bitfield16 k (λ _. tt) e
-resized_fits Sunssf registers k e = if_taken ((row Sunssf).registers == registers) Sunssf k (λ _. tt) e
-resized_fits Int32 registers k e = if_taken ((row Int32).registers == registers) Int32 k (λ _. tt) e
-resized_fits Uint32 registers k e = if_taken ((row Uint32).registers == registers) Uint32 k (λ _. tt) e
-resized_fits Acc32 registers k e = if_taken ((row Acc32).registers == registers) Acc32 k (λ _. tt) e
-resized_fits Enum32 registers k e = if_taken ((row Enum32).registers == registers) Enum32 k (λ _. tt) e
-resized_fits Bitfield32 registers k e = if_taken ((row Bitfield32).registers == registers) Bitfield32 k (λ _. tt) e
-resized_fits Int64 registers k e = if_taken ((row Int64).registers == registers) Int64 k (λ _. tt) e
-resized_fits Uint64 registers k e = if_taken ((row Uint64).registers == registers) Uint64 k (λ _. tt) e
-resized_fits Acc64 registers k e = if_taken ((row Acc64).registers == registers) Acc64 k (λ _. tt) e
-resized_fits Ipaddr registers k e = if_taken ((row Ipaddr).registers == registers) Ipaddr k (λ _. tt) e
-resized_fits Bit registers k e = if_taken ((row Bit).registers == registers) Bit k (λ _. tt) e
+resized_fits (Str old) registers k e =
+    let (within, same) = cond_some (nat_le 1 registers && nat_le registers 125) (Str registers) k e in
+    let parts = and_parts (nat_le 1 registers) (nat_le registers 125) within in
+    subst IsSized same (leb-true 1 registers parts.0, leb-true registers 125 parts.1)
+resized_fits kind registers k e = subst IsSized (cond_some ((row kind).registers == registers) kind k e).1 tt
 
 sized_fits : (kind : PointType) (text : List ℕ) (k : PointType) → sized kind text ≡ Some k → IsSized k
 unfolding sized
