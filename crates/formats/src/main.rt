@@ -35,11 +35,9 @@ const FAULTS: [ListFault; 15] = [
 /// The examples of a page: each second part between fences is a block.
 fn examples_of(alloc: Global, page: &str) -> Result<Vec<Example<'_>>> {
     let mut examples = Vec::new(alloc);
-    for (place, block) in page.split("```").enumerate() {
+    for block in page.split("```").skip(1).step_by(2) {
         if let Some(example) = Example::of(block) {
-            if place % 2 == 1 {
-                examples.push(example)?;
-            }
+            examples.push(example)?;
         }
     }
     Ok(examples)
