@@ -8,9 +8,15 @@ use Rattle.mb_pdu.specs.declared.request.Span.{Span}
 use Rattle.mb_pdu.specs.declared.request.Request.TheVariants.{ReadCoils, ReadDiscrete, ReadHolding, ReadInput}
 use Rattle.read_planner.specs.Read.{IsReadFunction, is_valid_read, limit_of, read_request}
 use Rattle.read_planner.specs.declared.Read.{Read as AReadOf}
-use Rattle.poll_match.specs.Queries.{CanBeAsked, is_valid, request_of}
+use Rattle.sunspec.specs.PointType.{row}
+use Rattle.sunspec.specs.declared.point_type.PointType.{PointType}
+use Rattle.sunspec.specs.declared.point_type.Content.{Content}
+use Rattle.sunspec.specs.declared.point_type.Content.TheVariants.{Signed, Unsigned, Address, Bit as Cell, Text}
+use Rattle.poll_match.specs.Queries.{CanBeAsked, is_valid, is_valid_payload, payload, payload_of, registers_payload, request_of, word_at, write_request}
 use Rattle.poll_match.specs.declared.asked.Asked.{Asked}
-use Rattle.poll_match.specs.declared.asked.Asked.TheVariants.{Read}
+use Rattle.poll_match.specs.declared.asked.Asked.TheVariants.{Read, Write}
+use Rattle.poll_match.specs.declared.asked.Payload.{Payload}
+use Rattle.poll_match.specs.declared.asked.Payload.TheVariants.{Coil, One, Two, Four}
 use Rattle.poll_match.specs.declared.asked.Matched.{Matched}
 
 -- by the function, one of four or another
@@ -54,12 +60,41 @@ valid_by false false false false span some few = absurd (omega arith)
 read_valid : (read : AReadOf) → is_valid_read read ≡ true → IsValid (read_request read)
 read_valid read h = valid_by (eqb read.function 1) (eqb read.function 2) (eqb read.function 3) (eqb read.function 4) read.span (some_at read h) (few_at read h)
 
+-- the request of a valid payload is valid
+write_valid : (address : ℕ) (payload : Payload) → is_valid_payload payload ≡ true → IsValid (write_request address payload)
+write_valid address (Coil on) h = tt
+write_valid address (One word) h = tt
+write_valid address (Two words) h = let two = eqb-true (length words) 2 h in (omega arith, omega arith)
+write_valid address (Four words) h = let four = eqb-true (length words) 4 h in (omega arith, omega arith)
+
+-- words that aren't a bit are written as one, two or four of them
+registers_valid : (words : List ℕ) → is_valid_payload (registers_payload words) ≡ true
+registers_valid words = by (eqb (length words) 1) (eqb (length words) 2)
+  where
+    by : (one two : Bool) → is_valid_payload (cond one (One (word_at words 0)) (cond two (Two (word_at words 0 ∷ word_at words 1 ∷ [])) (Four (word_at words 0 ∷ word_at words 1 ∷ word_at words 2 ∷ word_at words 3 ∷ [])))) ≡ true
+    by true two = refl
+    by false true = refl
+    by false false = refl
+
+content_valid : (content : Content) (words : List ℕ) → is_valid_payload (payload_of content words) ≡ true
+content_valid Cell words = refl
+content_valid Signed words = registers_valid words
+content_valid Unsigned words = registers_valid words
+content_valid Address words = registers_valid words
+content_valid Text words = registers_valid words
+
+-- what words of a type are written as is valid
+pub write_is_valid : (unit_id order address : ℕ) (kind : PointType) (words : List ℕ) → is_valid (Write unit_id order address (payload kind words)) ≡ true
+write_is_valid unit_id order address kind words = content_valid (row kind).content words
+
 -- what is valid can be asked, and its request is valid
 pub can_be_asked : (asked : Asked) → is_valid asked ≡ true → CanBeAsked asked
 can_be_asked (Read unit_id device slot read known) h = read_function read h
+can_be_asked (Write unit_id order address payload) h = tt
 
 pub valid_request : (asked : Asked) → is_valid asked ≡ true → IsValid (request_of asked)
 valid_request (Read unit_id device slot read known) h = read_valid read h
+valid_request (Write unit_id order address payload) h = write_valid address payload h
 
 pub valid_at : (queries : List Matched) (i : ℕ) (d : Matched) → i < length queries → list_all (λ (query : Matched). is_valid query.asked) queries ≡ true → is_valid (get_or queries i d).asked ≡ true
 valid_at [] i d lt h = absurd (omega arith)

@@ -1,8 +1,80 @@
-ghost use Rattle.std.specs.Prelude.{◌≡◌};
-ghost use Rattle.poll_match.specs.Queries.{CanBeAsked, request_of, unit_id_of};
+ghost use Rattle.std.specs.Prelude.{◌≡◌, ◌<◌, ◌≤◌, length};
+ghost use Rattle.mb_pdu.specs.declared.request.Request.TheVariants.{WriteRegisters};
+ghost use Rattle.poll_match.specs.Queries.{CanBeAsked, payload, registers_payload, request_of, unit_id_of, word_at, write_request};
 
-use mb_pdu::Request;
+use mb_pdu::{Registers, Request};
 use read_planner::Read;
+use sunspec::{Content, PointType};
+
+/// What a setting is set to, as it is written (Modbus Application Protocol V1.1b3, sections 6.5,
+/// 6.6 and 6.12).
+#[derive(Clone, Copy, Debug, PartialEq, Eq)]
+pub enum Payload {
+    /// A coil, by function 05.
+    Coil(bool),
+    /// One register, by function 06.
+    One(u16),
+    /// Two registers, by function 16.
+    Two([u16; 2]),
+    /// Four registers, by function 16.
+    Four([u16; 4]),
+}
+
+/// The word at a place, 0 where there is none.
+fn word_at(words: &[u16], place: usize) -> u16
+    ensures { result ≡ word_at words.now place }
+{
+    words.get(place).copied().unwrap_or(0)
+}
+
+/// How words that aren't a bit are written.
+fn registers_payload(words: &[u16]) -> Payload
+    ensures { result ≡ registers_payload words.now }
+{
+    let first = word_at(words, 0);
+    let second = word_at(words, 1);
+    match words.len() {
+        1 => Payload::One(first),
+        2 => Payload::Two([first, second]),
+        _ => Payload::Four([first, second, word_at(words, 2), word_at(words, 3)]),
+    }
+}
+
+/// The request that writes registers by function 16.
+fn registers_request(start: u16, words: &[u16]) -> Request
+    requires some { 0 < length words.now }
+    requires few { length words.now ≤ 125 }
+    ensures { result ≡ WriteRegisters start words.now }
+{
+    let words = Registers::from_slice(words).unwrap();
+    Request::WriteRegisters { start, words }
+}
+
+impl Payload {
+    /// How words of a type are written: a bit by function 05, where 1 is on and any other word off;
+    /// one register by function 06, two by function 16, and any other number of them as four by
+    /// function 16. A word that is missing is 0, and one past the fourth isn't written.
+    pub fn new(kind: &PointType, words: &[u16]) -> Payload
+        ensures { result ≡ payload kind.now words.now }
+    {
+        match kind.row().content {
+            Content::Bit => Payload::Coil(word_at(words, 0) == 1),
+            _ => registers_payload(words),
+        }
+    }
+
+    /// The request that writes it at an address.
+    fn request(self, address: u16) -> Request
+        ensures { result ≡ write_request address self }
+    {
+        match self {
+            Payload::Coil(on) => Request::WriteCoil { address, on },
+            Payload::One(value) => Request::WriteRegister { address, value },
+            Payload::Two(words) => registers_request(address, &words),
+            Payload::Four(words) => registers_request(address, &words),
+        }
+    }
+}
 
 /// What a query asks. It is kept for each of the last 65,536 queries of a connection, so it is flat
 /// and small.
@@ -18,16 +90,30 @@ pub enum Asked {
         /// How many points were known: later ones aren't covered.
         known: u32,
     },
+    /// A setting, for an order.
+    Write {
+        unit_id: u8,
+        /// The number of the order.
+        order: u32,
+        address: u16,
+        payload: Payload,
+    },
 }
 
 impl Asked {
-    /// The request that goes out.
+    /// The request that goes out: a read by one of the four reading functions, or a write by
+    /// function 05, 06 or 16.
     pub fn request(&self) -> Request
         requires { CanBeAsked self.now }
         ensures { result ≡ request_of self.now }
     {
         match self {
             Asked::Read { read, .. } => read.request(),
+            Asked::Write {
+                address,
+                payload,
+                ..
+            } => payload.request(*address),
         }
     }
 
@@ -36,7 +122,7 @@ impl Asked {
         ensures { result ≡ unit_id_of self.now }
     {
         match self {
-            Asked::Read { unit_id, .. } => *unit_id,
+            Asked::Read { unit_id, .. } | Asked::Write { unit_id, .. } => *unit_id,
         }
     }
 }

@@ -8,7 +8,7 @@ mod connection;
 mod error;
 mod matcher;
 
-pub use asked::{Asked, Matched};
+pub use asked::{Asked, Matched, Payload};
 pub use conn::Conn;
 pub use error::MatchError;
 pub use matcher::{Found, Matcher};
