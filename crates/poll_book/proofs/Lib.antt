@@ -1,5 +1,9 @@
+pub mod Entries
 pub mod Places
 pub mod Puts
 pub mod Rooms
 pub mod Tabled
 pub mod Steps
+pub mod Numbers
+pub mod Counted
+pub mod Marked

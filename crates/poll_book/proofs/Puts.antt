@@ -2,19 +2,19 @@
 use Rattle.std.proofs.Common.{◌≡◌, ℕ, suc, ◌<◌, ◌≢◌, cond, eqb, List, [], ◌∷◌, ◌++◌, get_or, set, take, drop, Some, None, refl, sym, ap, ◌∙◌, arith, append_assoc, append-nil}
 use Rattle.std.specs.Prelude.{All}
 use Rattle.std.specs.List.{insert}
-use Rattle.std.specs.Ordering.{is_eq, nat_cmp, ordering_then}
+use Rattle.std.specs.Ordering.{nat_cmp, ordering_then}
 use Rattle.std.specs.Cmp.{nat_cmp_is}
-use Rattle.std.specs.declared.cmp.Ordering.{Ordering}
 use Rattle.std.specs.declared.cmp.Ordering.TheVariants.{Less, Equal, Greater}
 use Rattle.std.specs.FinMap.Entries as rows
 use Rattle.std.proofs.Math.Seq.{split_at}
-use Rattle.std.proofs.lemmas.List.{map-append, set_split, take-append-drop}
-use Rattle.std.proofs.lemmas.List.Elements.{All-head, All-tail, All-append, All-map, All-weaker, All-nil, All-cons, filter-append}
+use Rattle.std.proofs.lemmas.List.{set_split, take-append-drop}
+use Rattle.std.proofs.lemmas.List.Elements.{All-head, All-tail, All-append, All-weaker, All-nil, All-cons, filter-append}
 use Rattle.std.proofs.lemmas.Bool.{ne_eqb, eq-eqb}
 use Rattle.poll_book.specs.declared.rows.Reading.{Reading}
 use Rattle.poll_book.specs.declared.history.SlotRow.{SlotRow}
 use Rattle.poll_book.specs.declared.history.History.{History}
 use Rattle.poll_book.specs.Tables.{Key, key_cmp, Readings}
+use Rattle.poll_book.proofs.Entries as entries
 use Rattle.poll_book.specs.Histories.{as_entry, slots_of, slot_of, point_of, readings_of, own, IsAt, IsGap}
 
 -- a row below the key stays before it
@@ -23,27 +23,6 @@ IsBelow key row = key_cmp key row.0 ≡ Greater
 
 abbrev pub IsAbove : Key → Key × Reading → Type 0
 IsAbove key row = key_cmp key row.0 ≡ Less
-
-pub put_after : (key : Key) (r : Reading) (xs ys : Readings) → All (IsBelow key) xs → rows.put key_cmp key r (xs ++ ys) ≡ xs ++ rows.put key_cmp key r ys
-put_after key r [] ys h = refl
-put_after key r (x ∷ xs) ys h =
-    ap (λ o. rows.by_order o ((key, r) ∷ x ∷ (xs ++ ys)) ((x.0, r) ∷ (xs ++ ys)) (x ∷ rows.put key_cmp key r (xs ++ ys))) (All-head (IsBelow key) x xs h)
-    ∙ ap (λ l. x ∷ l) (put_after key r xs ys (All-tail (IsBelow key) x xs h))
-
-put_first : (key : Key) (r : Reading) (ys : Readings) → All (IsAbove key) ys → rows.put key_cmp key r ys ≡ (key, r) ∷ ys
-put_first key r [] h = refl
-put_first key r (y ∷ ys) h = ap (λ o. rows.by_order o ((key, r) ∷ y ∷ ys) ((y.0, r) ∷ ys) (y ∷ rows.put key_cmp key r ys)) (All-head (IsAbove key) y ys h)
-
-pub put_before : (key : Key) (r : Reading) (xs ys : Readings) → All (IsAbove key) ys → rows.put key_cmp key r (xs ++ ys) ≡ rows.put key_cmp key r xs ++ ys
-put_before key r [] ys h = put_first key r ys h
-put_before key r (x ∷ xs) ys h = by (key_cmp key x.0) (put_before key r xs ys h)
-  where
-    by : (o : Ordering) → rows.put key_cmp key r (xs ++ ys) ≡ rows.put key_cmp key r xs ++ ys
-        → rows.by_order o ((key, r) ∷ x ∷ (xs ++ ys)) ((x.0, r) ∷ (xs ++ ys)) (x ∷ rows.put key_cmp key r (xs ++ ys))
-        ≡ rows.by_order o ((key, r) ∷ x ∷ xs) ((x.0, r) ∷ xs) (x ∷ rows.put key_cmp key r xs) ++ ys
-    by Less rest = refl
-    by Equal rest = refl
-    by Greater rest = ap (λ l. x ∷ l) rest
 
 -- ---- keys
 lower_slot : (p s n : ℕ) → n < s → key_cmp (p, s) (p, n) ≡ Greater
@@ -62,42 +41,25 @@ higher_point : (p s q n : ℕ) → p < q → key_cmp (p, s) (q, n) ≡ Less
 higher_point p s q n lt = ap (λ o. ordering_then o (nat_cmp s n)) (sym (nat_cmp_is p q Less lt))
 
 -- ---- the rows of a point's slots
-slots_below : (p s : ℕ) (xs : List SlotRow) → All (λ x. slot_of x < s) xs → All (IsBelow (p, s)) (slots_of p xs)
-slots_below p s xs h = All-map (IsBelow (p, s)) (as_entry p) xs (All-weaker (λ x. slot_of x < s) (λ x. IsBelow (p, s) (as_entry p x)) (λ x lt. lower_slot p s (slot_of x) lt) xs h)
+slots_below : (p s : ℕ) (xs : List SlotRow) → All (λ x. slot_of x < s) xs → All (λ x. IsBelow (p, s) (as_entry p x)) xs
+slots_below p s xs h = All-weaker (λ x. slot_of x < s) (λ x. IsBelow (p, s) (as_entry p x)) (λ x lt. lower_slot p s (slot_of x) lt) xs h
 
-slots_above : (p s : ℕ) (xs : List SlotRow) → All (λ x. s < slot_of x) xs → All (IsAbove (p, s)) (slots_of p xs)
-slots_above p s xs h = All-map (IsAbove (p, s)) (as_entry p) xs (All-weaker (λ x. s < slot_of x) (λ x. IsAbove (p, s) (as_entry p x)) (λ x lt. higher_slot p s (slot_of x) lt) xs h)
+slots_above : (p s : ℕ) (xs : List SlotRow) → All (λ x. s < slot_of x) xs → All (λ x. IsAbove (p, s) (as_entry p x)) xs
+slots_above p s xs h = All-weaker (λ x. s < slot_of x) (λ x. IsAbove (p, s) (as_entry p x)) (λ x lt. higher_slot p s (slot_of x) lt) xs h
 
 -- to write over the slot is to put the row
 pub put_over : (p s : ℕ) (r : Reading) (l : List SlotRow) (at : ℕ) → IsAt slot_of l s at
     → slots_of p (set l at (record { slot = s; reading = r })) ≡ rows.put key_cmp (p, s) r (slots_of p l)
 put_over p s r l at here =
     let row : SlotRow = record { slot = s; reading = r } in
-    let old = get_or l at row in
-    let low = slots_of p (take at l) in
-    let high = slots_of p (drop (suc at) l) in
-    let there : rows.put key_cmp (p, s) r (as_entry p old ∷ high) ≡ as_entry p row ∷ high =
-    ap (λ o. rows.by_order o (((p, s), r) ∷ as_entry p old ∷ high) (((p, slot_of old), r) ∷ high) (as_entry p old ∷ rows.put key_cmp (p, s) r high)) (same_key p s (slot_of old) (here.same row))
-    ∙ ap (λ n. ((p, n), r) ∷ high) (here.same row) in
-    ap (slots_of p) (set_split l at row here.in_range)
-    ∙ map-append (as_entry p) (take at l) (row ∷ drop (suc at) l)
-    ∙ ap (λ rest. low ++ rest) (sym there)
-    ∙ sym (put_after (p, s) r low (as_entry p old ∷ high) (slots_below p s (take at l) here.below))
-    ∙ ap (rows.put key_cmp (p, s) r) (sym (map-append (as_entry p) (take at l) (old ∷ drop (suc at) l)))
-    ∙ ap (λ xs. rows.put key_cmp (p, s) r (slots_of p xs)) (sym (split_at l at row here.in_range))
+    entries.put_over key_cmp (as_entry p) (p, s) l at (slots_below p s (take at l) here.below) row here.in_range
+    (same_key p s (slot_of (get_or l at row)) (here.same row)) (ap (λ n. (p, n)) (here.same row))
 
 -- to insert the slot in its gap is to put the row
 pub put_in : (p s : ℕ) (r : Reading) (l : List SlotRow) (at : ℕ) → IsGap slot_of l s at
     → slots_of p (insert l at (record { slot = s; reading = r })) ≡ rows.put key_cmp (p, s) r (slots_of p l)
 put_in p s r l at gap =
-    let row : SlotRow = record { slot = s; reading = r } in
-    let low = slots_of p (take at l) in
-    let high = slots_of p (drop at l) in
-    map-append (as_entry p) (take at l) (row ∷ drop at l)
-    ∙ ap (λ rest. low ++ rest) (sym (put_first (p, s) r high (slots_above p s (drop at l) gap.above)))
-    ∙ sym (put_after (p, s) r low high (slots_below p s (take at l) gap.below))
-    ∙ ap (rows.put key_cmp (p, s) r) (sym (map-append (as_entry p) (take at l) (drop at l)))
-    ∙ ap (λ xs. rows.put key_cmp (p, s) r (slots_of p xs)) (take-append-drop at l)
+    entries.put_in key_cmp (as_entry p) (p, s) l at (slots_below p s (take at l) gap.below) (record { slot = s; reading = r }) refl (slots_above p s (drop at l) gap.above)
 
 -- ---- the rows of all points
 pub readings-append : (xs ys : List History) → readings_of (xs ++ ys) ≡ readings_of xs ++ readings_of ys
@@ -136,8 +98,8 @@ put_history p s r hs at new here same puts =
     ap readings_of (set_split hs at new here.in_range)
     ∙ readings-append (take at hs) (new ∷ drop (suc at) hs)
     ∙ ap (λ l. low ++ (l ++ high)) own_new
-    ∙ ap (λ l. low ++ l) (sym (put_before (p, s) r (slots_of old.point old.slots.items) high (points_above p s (drop (suc at) hs) here.above)))
-    ∙ sym (put_after (p, s) r low (slots_of old.point old.slots.items ++ high) (points_below p s (take at hs) here.below))
+    ∙ ap (λ l. low ++ l) (sym (entries.put_before key_cmp (p, s) r (slots_of old.point old.slots.items) high (points_above p s (drop (suc at) hs) here.above)))
+    ∙ sym (entries.put_after key_cmp (p, s) r low (slots_of old.point old.slots.items ++ high) (points_below p s (take at hs) here.below))
     ∙ ap (rows.put key_cmp (p, s) r) (sym (readings-append (take at hs) (old ∷ drop (suc at) hs)))
     ∙ ap (λ l. rows.put key_cmp (p, s) r (readings_of l)) (sym (split_at hs at new here.in_range))
 
@@ -193,29 +155,9 @@ own_gap p hs at gap =
     ∙ own_higher p (drop at hs) gap.above
 
 -- ---- what stands under a slot
-find_after : (key : Key) (xs ys : Readings) → All (IsBelow key) xs → rows.find key_cmp key (xs ++ ys) ≡ rows.find key_cmp key ys
-find_after key [] ys h = refl
-find_after key (x ∷ xs) ys h =
-    ap (λ o. cond (is_eq o) (Some x.1) (rows.find key_cmp key (xs ++ ys))) (All-head (IsBelow key) x xs h) ∙ find_after key xs ys (All-tail (IsBelow key) x xs h)
-
-find_none : (key : Key) (ys : Readings) → All (IsAbove key) ys → rows.find key_cmp key ys ≡ None
-find_none key [] h = refl
-find_none key (y ∷ ys) h =
-    ap (λ o. cond (is_eq o) (Some y.1) (rows.find key_cmp key ys)) (All-head (IsAbove key) y ys h) ∙ find_none key ys (All-tail (IsAbove key) y ys h)
-
 pub find_slot : (p s : ℕ) (l : List SlotRow) (at : ℕ) (d : SlotRow) → IsAt slot_of l s at → rows.find key_cmp (p, s) (slots_of p l) ≡ Some (get_or l at d).reading
 find_slot p s l at d here =
-    let old = get_or l at d in
-    let low = slots_of p (take at l) in
-    let high = slots_of p (drop (suc at) l) in
-    ap (λ xs. rows.find key_cmp (p, s) (slots_of p xs)) (split_at l at d here.in_range)
-    ∙ ap (rows.find key_cmp (p, s)) (map-append (as_entry p) (take at l) (old ∷ drop (suc at) l))
-    ∙ find_after (p, s) low (as_entry p old ∷ high) (slots_below p s (take at l) here.below)
-    ∙ ap (λ o. cond (is_eq o) (Some old.reading) (rows.find key_cmp (p, s) high)) (same_key p s (slot_of old) (here.same d))
+    entries.find_here key_cmp (as_entry p) (p, s) l at (slots_below p s (take at l) here.below) d here.in_range (same_key p s (slot_of (get_or l at d)) (here.same d))
 
 pub find_no_slot : (p s : ℕ) (l : List SlotRow) (at : ℕ) → IsGap slot_of l s at → rows.find key_cmp (p, s) (slots_of p l) ≡ None
-find_no_slot p s l at gap =
-    ap (λ xs. rows.find key_cmp (p, s) (slots_of p xs)) (sym (take-append-drop at l))
-    ∙ ap (rows.find key_cmp (p, s)) (map-append (as_entry p) (take at l) (drop at l))
-    ∙ find_after (p, s) (slots_of p (take at l)) (slots_of p (drop at l)) (slots_below p s (take at l) gap.below)
-    ∙ find_none (p, s) (slots_of p (drop at l)) (slots_above p s (drop at l) gap.above)
+find_no_slot p s l at gap = entries.find_no_row key_cmp (as_entry p) (p, s) l at (slots_below p s (take at l) gap.below) (slots_above p s (drop at l) gap.above)

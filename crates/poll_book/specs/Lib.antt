@@ -1,6 +1,10 @@
 pub mod Words
 pub mod Fault
+pub mod Callers
+pub mod Orders
+pub mod Requests
 pub mod Tables
 pub mod Totals
 pub mod Changes
 pub mod Histories
+pub mod Marks

@@ -1,10 +1,12 @@
--- The tables of an office, the readings as a finite map: the list of its rows in the order of their keys.
+-- The tables of an office. Readings, settings and requests are finite maps: the list of the rows in the order of their keys.
 use Rattle.std.specs.Prelude.{ℕ, Bool, ◌&&◌, ◌==◌, nat_le, List, [], ◌∷◌, filter, Option, is_none}
 use Rattle.std.specs.Ordering.{nat_cmp, ordering_then}
 use Rattle.std.specs.declared.cmp.Ordering.{Ordering}
 use Rattle.std.specs.FinMap.Entries as rows
 use Rattle.poll_book.specs.declared.rows.PointRow.{PointRow}
 use Rattle.poll_book.specs.declared.rows.Reading.{Reading}
+use Rattle.poll_book.specs.Orders.{Settings}
+use Rattle.poll_book.specs.Requests.{Requests}
 
 -- a point's number and a slot
 abbrev pub Key : Type 0
@@ -45,10 +47,12 @@ readings_between point from to table = filter (λ row. is_between point from to 
 pub record Tables : Type 0 where
   pub points : List PointRow
   pub readings : Readings
+  pub settings : Settings
+  pub requests : Requests
   pub connections : ℕ
 
 abbrev pub no_tables : Tables
-no_tables = record { points = []; readings = []; connections = 0 }
+no_tables = record { points = []; readings = []; settings = []; requests = []; connections = 0 }
 
 -- what is held in the one is held in the other
 abbrev pub Within : (Tables → Type 0) → (Tables → Type 0) → Type 0

@@ -1,11 +1,15 @@
 ghost use Rattle.poll_book.specs.declared.fault.StoreFault.{StoreFault};
 ghost use Rattle.std.specs.Prelude.{◌≡◌, ◌⊎◌, IfErr, IfOk, OnOk, OnErr, option_map};
 ghost use Rattle.poll_book.specs.Tables.{Tables, Within, reading_at, readings_between};
+ghost use Rattle.poll_book.specs.Orders.{as_setting, last_order, oldest_waiting, setting_at};
+ghost use Rattle.poll_book.specs.Requests.{request_at};
 ghost use Rattle.poll_book.specs.Changes.{IsNew, applied, as_rows};
 ghost use Rattle.poll_book.specs.Totals.{total};
 
+use crate::caller::{Caller, Key};
 use crate::fault::StoreFault;
-use crate::rows::{Change, PointRow, Reading, ReadingRow};
+use crate::requests::Request;
+use crate::rows::{Change, PointRow, Reading, ReadingRow, Setting, SettingRow};
 use std::alloc::Global;
 
 /// A keeper's tables, seen from the points of a reply.
@@ -63,6 +67,51 @@ pub trait Keeper: Neighbours {
     ) -> Result<Vec<ReadingRow>, StoreFault>
         ensures value { Self.is_clean self.new → (kept : Tables) → Self.holds self.old kept
             → IfOk result (λ rows. as_rows rows.items ≡ readings_between point from to kept.readings) }
+        ensures cause { IfErr result (λ fault. Self.may_refuse fault) }
+        ensures same { Within (Self.holds self.old) (Self.holds self.new) }
+        ensures clean { Self.is_clean self.new → Self.is_clean self.old }
+        ensures crash { Self.is_clean self.new
+            → Within (Self.may_leave self.new) (Self.may_leave self.old) };
+
+    /// The request of a caller under a key, if there is one.
+    fn request(
+        &mut self,
+        alloc: Global,
+        caller: &Caller,
+        key: &Key,
+    ) -> Result<Option<Request>, StoreFault>
+        ensures value { Self.is_clean self.new → (kept : Tables) → Self.holds self.old kept
+            → IfOk result (λ found. found ≡ request_at kept.requests (caller.now, key.now)) }
+        ensures cause { IfErr result (λ fault. Self.may_refuse fault) }
+        ensures same { Within (Self.holds self.old) (Self.holds self.new) }
+        ensures clean { Self.is_clean self.new → Self.is_clean self.old }
+        ensures crash { Self.is_clean self.new
+            → Within (Self.may_leave self.new) (Self.may_leave self.old) };
+
+    /// What the order of this number sets, if there is one.
+    fn setting(&mut self, number: u32) -> Result<Option<Setting>, StoreFault>
+        ensures value { Self.is_clean self.new → (kept : Tables) → Self.holds self.old kept
+            → IfOk result (λ found. found ≡ setting_at kept.settings number) }
+        ensures cause { IfErr result (λ fault. Self.may_refuse fault) }
+        ensures same { Within (Self.holds self.old) (Self.holds self.new) }
+        ensures clean { Self.is_clean self.new → Self.is_clean self.old }
+        ensures crash { Self.is_clean self.new
+            → Within (Self.may_leave self.new) (Self.may_leave self.old) };
+
+    /// The oldest order that waits on the device of this name, if one does.
+    fn oldest_waiting(&mut self, device: &str) -> Result<Option<SettingRow>, StoreFault>
+        ensures value { Self.is_clean self.new → (kept : Tables) → Self.holds self.old kept
+            → IfOk result (λ found. option_map as_setting found ≡ oldest_waiting kept.points device.now kept.settings) }
+        ensures cause { IfErr result (λ fault. Self.may_refuse fault) }
+        ensures same { Within (Self.holds self.old) (Self.holds self.new) }
+        ensures clean { Self.is_clean self.new → Self.is_clean self.old }
+        ensures crash { Self.is_clean self.new
+            → Within (Self.may_leave self.new) (Self.may_leave self.old) };
+
+    /// The number of the last order, 0 before the first.
+    fn orders(&mut self) -> Result<u32, StoreFault>
+        ensures value { Self.is_clean self.new → (kept : Tables) → Self.holds self.old kept
+            → IfOk result (λ orders. orders ≡ last_order kept.settings) }
         ensures cause { IfErr result (λ fault. Self.may_refuse fault) }
         ensures same { Within (Self.holds self.old) (Self.holds self.new) }
         ensures clean { Self.is_clean self.new → Self.is_clean self.old }

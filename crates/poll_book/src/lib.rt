@@ -1,21 +1,30 @@
-//! The book of a polling office: its points, their readings and its connection number, the trait
-//! of what keeps them, what a reply adds to them, and a keeper in memory.
+//! The book of a polling office: its points, their readings, the settings that were ordered, the
+//! requests of callers and its connection number, the trait of what keeps them, what a reply adds
+//! to them, and a keeper in memory.
 #![tactic(auto)]
 
+mod asked;
+mod caller;
 mod counting;
 mod fault;
 mod histories;
 mod history;
 mod keeper;
+mod marks;
 mod mem_keeper;
+mod orders;
+mod points;
 mod recording;
+mod requests;
 mod rows;
 mod words;
 
+pub use caller::{Caller, Key};
 pub use counting::{counted_number, step_between};
 pub use fault::StoreFault;
 pub use keeper::{Keeper, Neighbours};
 pub use mem_keeper::MemKeeper;
 pub use recording::record;
-pub use rows::{Change, PointRow, Reading, ReadingRow};
+pub use requests::{Body, Outcome, Reason, Request, RequestFault, RequestRow};
+pub use rows::{Change, OrderState, PointRow, Reading, ReadingRow, Setting, SettingRow};
 pub use words::Words;

@@ -5,23 +5,35 @@ ghost use Rattle.poll_book.specs.Changes.{applied, as_rows};
 ghost use Rattle.poll_book.specs.Histories.{IsRising, counted_in, reading_number, slot_of, slots_of};
 ghost use Rattle.poll_book.specs.Totals.{step_from, steps};
 
+use crate::asked::{copy_of_request, put_request, request_at};
+use crate::caller::{Caller, Key};
 use crate::counting::{counted_number, step_between};
 use crate::fault::StoreFault;
 use crate::histories::{make_histories, put_all, slots_in, staged};
 use crate::history::{History, SlotRow, slot_place};
 use crate::keeper::{Keeper, Neighbours};
-use crate::rows::{Change, PointRow, Reading, ReadingRow};
+use crate::marks::{Mark, forget_for, next_waiting, past_of, set_mark};
+use crate::orders::{copy_of_setting, last_number, order_at, put_order, setting_at};
+use crate::points::add_points;
+use crate::requests::Request;
+use crate::rows::{Change, PointRow, Reading, ReadingRow, Setting, SettingRow};
 use point_list::Point;
 use std::alloc::{AllocError, Global};
+use std::collections::BTreeMap;
 use std::marker::Model;
 
 /// A keeper in memory. It refuses by `Memory` alone, and never leaves half a change. The readings of
 /// each point stand by slot in a vector of their own: a look-up is a binary search, and a reading
-/// after all others of its point is appended.
+/// after all others of its point is appended. Orders stand by number in a vector, requests in a map.
 #[derive(Drop)]
 pub struct MemKeeper {
     points: Vec<PointRow>,
+    // How many of the first points are numbered on from 1.
+    counted: usize,
     histories: Vec<History>,
+    orders: Vec<SettingRow>,
+    marks: Vec<Mark>,
+    requests: BTreeMap<(Caller, Key), Request>,
     connections: u32,
     alloc: Global,
 }
@@ -31,25 +43,32 @@ impl Model for MemKeeper {
 
     ghost Value = { Tables };
 
-    ghost use Rattle.poll_book.specs.Histories.{AreOrdered, readings_of};
+    ghost use Rattle.poll_book.specs.Histories.{readings_of};
+    ghost use Rattle.poll_book.specs.Marks.{AreKept, settings_of};
 
     ghost view = { λ k. record {
       points = k.points.items;
       readings = readings_of k.histories.items;
+      settings = settings_of k.orders.items;
+      requests = k.requests.entries;
       connections = k.connections;
     } };
 
-    ghost invariant = { λ k. AreOrdered k.histories.items };
+    ghost invariant = { λ k. AreKept k.points.items k.counted k.histories.items k.orders.items k.marks.items };
 }
 
 impl MemKeeper {
-    /// A keeper of no point and no reading, before the first connection.
+    /// A keeper of no point, no reading, no order and no request, before the first connection.
     pub fn new(alloc: Global) -> MemKeeper
         ensures { result ≡ no_tables }
     {
         MemKeeper {
             points: Vec::new(alloc),
+            counted: 0,
             histories: Vec::new(alloc),
+            orders: Vec::new(alloc),
+            marks: Vec::new(alloc),
+            requests: BTreeMap::new(alloc),
             connections: 0,
             alloc,
         }
@@ -61,13 +80,20 @@ impl MemKeeper {
         ensures same { OnErr result (self.new ≡ self.old) }
     {
         let added = change.readings.as_slice();
+        let points = change.points.as_slice();
         make_histories(self.alloc, &mut self.histories, added)?;
         let rows = staged(self.alloc, &mut self.histories, added)?;
-        self.points.extend_from_slice(change.points.as_slice())?;
+        let setting = copy_of_setting(&change.setting)?;
+        let request = copy_of_request(self.alloc, &change.request)?;
+        self.points.reserve(points.len())?;
+        self.orders.reserve(1)?;
+        put_request(&mut self.requests, request)?;
+        // From here on nothing can be refused.
+        self.counted = add_points(&mut self.points, self.counted, points);
+        forget_for(&mut self.marks, points);
+        put_order(&mut self.orders, &mut self.marks, setting);
         put_all(&mut self.histories, rows);
-        if let Some(connections) = change.connections {
-            self.connections = connections;
-        }
+        self.connections = change.connections.unwrap_or(self.connections);
         Ok(())
     }
 }
@@ -181,6 +207,30 @@ impl Keeper for MemKeeper {
     ) -> Result<Vec<ReadingRow>, StoreFault> {
         let slots = slots_in(&self.histories, point);
         Ok(rows_between(alloc, point, slots, from, to)?)
+    }
+
+    fn request(
+        &mut self,
+        alloc: Global,
+        caller: &Caller,
+        key: &Key,
+    ) -> Result<Option<Request>, StoreFault> {
+        Ok(request_at(alloc, &self.requests, caller, key)?)
+    }
+
+    fn setting(&mut self, number: u32) -> Result<Option<Setting>, StoreFault> {
+        Ok(setting_at(&self.orders, number)?)
+    }
+
+    fn oldest_waiting(&mut self, device: &str) -> Result<Option<SettingRow>, StoreFault> {
+        let from = past_of(&self.marks, device);
+        let place = next_waiting(&self.points, self.counted, &self.orders, device, from);
+        set_mark(&mut self.marks, device, place);
+        Ok(order_at(&self.orders, place)?)
+    }
+
+    fn orders(&mut self) -> Result<u32, StoreFault> {
+        Ok(last_number(&self.orders))
     }
 
     fn connections(&mut self) -> Result<u32, StoreFault> {

@@ -1,4 +1,5 @@
 use crate::counting::counted_number;
+use crate::requests::RequestRow;
 use crate::words::Words;
 use point_list::{Items, Point};
 use std::alloc::{AllocError, Global};
@@ -57,10 +58,63 @@ impl ReadingRow {
     }
 }
 
-/// Rows that are written together, each under its key, and a new connection number or none.
+/// How an order stands.
+#[derive(Clone, Copy, Debug, PartialEq, Eq)]
+pub enum OrderState {
+    /// No reply has settled it.
+    Waiting,
+    /// Its device took it.
+    Done,
+    /// Its device refused it, with this exception code.
+    Refused(u8),
+}
+
+/// What an order sets, and how it stands.
+#[derive(Debug, Drop)]
+pub struct Setting {
+    /// The number of the point.
+    pub point: u32,
+    /// The registers of the value, or the cell as 0 or 1.
+    pub words: Words,
+    pub state: OrderState,
+}
+
+/// A setting with its key, the number of its order. Orders are numbered from 1, in the order in
+/// which they were accepted.
+#[derive(Debug, Drop)]
+pub struct SettingRow {
+    pub number: u32,
+    /// The number of the point.
+    pub point: u32,
+    /// The registers of the value, or the cell as 0 or 1.
+    pub words: Words,
+    pub state: OrderState,
+}
+
+/// Rows that are written together, each under its key: points and readings, an order that is new or
+/// settled or none, a request or none, and a new connection number or none.
 #[derive(Debug, Drop)]
 pub struct Change {
     pub points: Items<PointRow>,
     pub readings: Items<ReadingRow>,
+    pub setting: Option<SettingRow>,
+    pub request: Option<RequestRow>,
     pub connections: Option<u32>,
+}
+
+impl Change {
+    ghost use Rattle.std.specs.Prelude.{◌≡◌, [], None};
+
+    /// A change of nothing.
+    pub fn none(alloc: Global) -> Change
+        ensures { result ≡ record { points = []; readings = []; setting = None; request = None; connections = None } }
+    {
+        Change {
+            points: Items::from_vec(Vec::new(alloc)),
+            readings: Items::from_vec(Vec::new(alloc)),
+            setting: None,
+            request: None,
+            connections: None,
+        }
+    }
 }

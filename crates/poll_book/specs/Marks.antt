@@ -1,0 +1,35 @@
+-- How the keeper in memory finds an order, a point by its number, and the oldest order that waits on a device.
+use Rattle.std.specs.Prelude.{◌≡◌, ℕ, ◌+◌, ◌<◌, ◌≤◌, false, List, All, map, take, length, get_or}
+use Rattle.poll_book.specs.declared.rows.PointRow.{PointRow}
+use Rattle.poll_book.specs.declared.rows.SettingRow.{SettingRow}
+use Rattle.poll_book.specs.declared.marks.Mark.{Mark}
+use Rattle.poll_book.specs.declared.history.History.{History}
+use Rattle.poll_book.specs.Histories.{AreOrdered, IsRising}
+use Rattle.poll_book.specs.Orders.{Settings, as_setting, waits_on}
+
+abbrev pub number_of : SettingRow → ℕ
+number_of row = row.number
+
+abbrev pub settings_of : List SettingRow → Settings
+settings_of orders = map as_setting orders
+
+-- none of so many first orders waits on the device
+pub record IsPast (points : List PointRow) (orders : List SettingRow) (device : List ℕ) (past : ℕ) : Type 0 where
+  pub in_range : past ≤ length orders
+  pub none : All (λ row. waits_on points device (as_setting row) ≡ false) (take past orders)
+
+-- each mark says so of its device
+abbrev pub AreRight : List PointRow → List SettingRow → List Mark → Type 0
+AreRight points orders marks = All (λ mark. IsPast points orders mark.device mark.past) marks
+
+-- so many first points are numbered on from 1
+pub record AreCounted (points : List PointRow) (count : ℕ) : Type 0 where
+  pub in_range : count ≤ length points
+  pub numbered : (i : ℕ) (d : PointRow) → i < count → (get_or points i d).number ≡ i + 1
+
+-- what a keeper in memory keeps true of its lists
+pub record AreKept (points : List PointRow) (count : ℕ) (histories : List History) (orders : List SettingRow) (marks : List Mark) : Type 0 where
+  pub counted : AreCounted points count
+  pub ordered : AreOrdered histories
+  pub rising : IsRising number_of orders
+  pub right : AreRight points orders marks

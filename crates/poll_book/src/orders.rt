@@ -1,0 +1,162 @@
+ghost use Rattle.std.specs.Prelude.{◌≡◌, ◌<◌, IsTrue, IfOk, IfErr, Some, length, slice_get, vec_len, vec_capacity, List};
+ghost use Rattle.poll_book.specs.Orders.{last_order, setting_at};
+ghost use Rattle.poll_book.specs.Changes.{with_order};
+ghost use Rattle.poll_book.specs.Histories.{IsAt, IsGap, IsRising};
+ghost use Rattle.poll_book.specs.Marks.{AreRight, number_of, settings_of};
+ghost use Rattle.poll_book.specs.declared.rows.PointRow.{PointRow as Known};
+
+use crate::marks::Mark;
+use crate::points::is_waiting;
+use crate::rows::{Setting, SettingRow};
+use std::alloc::AllocError;
+
+/// Whether the number comes after all others.
+fn is_last(orders: &[SettingRow], number: u32) -> bool
+    requires { IsRising number_of orders.now }
+    ensures { IsTrue result → IsGap number_of orders.now number (length orders.now) }
+{
+    match orders.last() {
+        Some(row) => row.number < number,
+        None => true,
+    }
+}
+
+/// Whether the order stands at the place.
+fn stands_at(orders: &[SettingRow], number: u32, place: usize) -> bool
+    requires { IsRising number_of orders.now }
+    ensures { IsTrue result → IsAt number_of orders.now number place }
+{
+    place < orders.len() && orders[place].number == number
+}
+
+fn search(orders: &[SettingRow], number: u32) -> Result<usize, usize>
+    requires { IsRising number_of orders.now }
+    ensures found { IfOk result (IsAt number_of orders.now number) }
+    ensures absent { IfErr result (IsGap number_of orders.now number) }
+{
+    orders.binary_search_by_key(&number, |row| row.number)
+}
+
+/// Where the order of a number stands, or where it would go. Orders are numbered from 1, so where
+/// all are there it stands at the number less 1, which is tried first. A number after all others is
+/// found at once.
+fn order_place(orders: &[SettingRow], number: u32) -> Result<usize, usize>
+    requires { IsRising number_of orders.now }
+    ensures found { IfOk result (IsAt number_of orders.now number) }
+    ensures absent { IfErr result (IsGap number_of orders.now number) }
+{
+    let guess = number.saturating_sub(1) as usize;
+    if stands_at(orders, number, guess) {
+        return Ok(guess);
+    }
+    if is_last(orders, number) {
+        return Err(orders.len());
+    }
+    search(orders, number)
+}
+
+fn copy_of(row: &SettingRow) -> Result<SettingRow, AllocError>
+    ensures { IfOk result (λ copy. copy ≡ row.now) }
+{
+    Ok(SettingRow {
+        number: row.number,
+        point: row.point,
+        words: row.words.clone()?,
+        state: row.state,
+    })
+}
+
+/// A copy of the order of a change, if it has one.
+pub(crate) fn copy_of_setting(
+    setting: &Option<SettingRow>,
+) -> Result<Option<SettingRow>, AllocError>
+    ensures { IfOk result (λ copy. copy ≡ setting.now) }
+{
+    match setting {
+        Some(row) => Ok(Some(copy_of(row)?)),
+        None => Ok(None),
+    }
+}
+
+/// The order at a place, if there is one.
+pub(crate) fn order_at(
+    orders: &[SettingRow],
+    place: usize,
+) -> Result<Option<SettingRow>, AllocError>
+    ensures { IfOk result (λ found. found ≡ slice_get orders.now place) }
+{
+    match orders.get(place) {
+        Some(row) => Ok(Some(copy_of(row)?)),
+        None => Ok(None),
+    }
+}
+
+/// What the order of a number sets, if there is one.
+pub(crate) fn setting_at(orders: &[SettingRow], number: u32) -> Result<Option<Setting>, AllocError>
+    requires { IsRising number_of orders.now }
+    ensures { IfOk result (λ found. found ≡ setting_at (settings_of orders.now) number) }
+{
+    let Ok(place) = order_place(orders, number) else {
+        return Ok(None);
+    };
+    let row = &orders[place];
+    Ok(Some(Setting {
+        point: row.point,
+        words: row.words.clone()?,
+        state: row.state,
+    }))
+}
+
+/// The number of the last order, 0 before the first.
+pub(crate) fn last_number(orders: &[SettingRow]) -> u32
+    ensures { result ≡ last_order (settings_of orders.now) }
+{
+    match orders.last() {
+        Some(row) => row.number,
+        None => 0,
+    }
+}
+
+/// Puts an order under its number. There is room for one more. The marks stay where it comes last, or
+/// settles another; else an order may wait that they have passed, and they are forgotten.
+fn put_row(orders: &mut Vec<SettingRow>, marks: &mut Vec<Mark>, row: SettingRow)
+    requires rising { IsRising number_of orders.old.items }
+    requires room { vec_len orders.old < vec_capacity orders.old }
+    ensures rising { IsRising number_of orders.new.items }
+    ensures put { settings_of orders.new.items ≡ with_order (Some row) (settings_of orders.old.items) }
+    ensures right { (points : List Known) → AreRight points orders.old.items marks.old.items
+        → AreRight points orders.new.items marks.new.items }
+{
+    match order_place(orders, row.number) {
+        Ok(place) => {
+            if is_waiting(row.state) {
+                marks.clear();
+            }
+            orders[place] = row;
+        }
+        Err(place) => {
+            if place < orders.len() {
+                marks.clear();
+            }
+            let _ = orders.insert(place, row);
+        }
+    }
+}
+
+/// Puts the order of a change, if it has one, under its number. There is room for one more.
+pub(crate) fn put_order(
+    orders: &mut Vec<SettingRow>,
+    marks: &mut Vec<Mark>,
+    setting: Option<SettingRow>,
+)
+    requires rising { IsRising number_of orders.old.items }
+    requires room { vec_len orders.old < vec_capacity orders.old }
+    ensures rising { IsRising number_of orders.new.items }
+    ensures put { settings_of orders.new.items ≡ with_order setting (settings_of orders.old.items) }
+    ensures right { (points : List Known) → AreRight points orders.old.items marks.old.items
+        → AreRight points orders.new.items marks.new.items }
+{
+    if let Some(row) = setting {
+        put_row(orders, marks, row);
+    }
+}

@@ -1,0 +1,65 @@
+use crate::caller::{Caller, Key};
+use point_list::{Items, ListFault, Text};
+
+/// What a caller asks for.
+#[derive(Debug, Drop)]
+pub enum Body {
+    /// That the points of a list are known. The list's bytes.
+    List(Items<u8>),
+    /// That a point is set to a value, by the point's name. The value isn't scaled.
+    Order { point: Text, value: i128 },
+}
+
+/// What is wrong with a request.
+#[derive(Clone, Copy, Debug, PartialEq, Eq)]
+pub enum RequestFault {
+    /// A fault of a list by itself; `TooManyPoints` at row 0 where more than 10,000 would be known.
+    List(ListFault),
+    /// A point of this name is known with another definition.
+    PointDiffers,
+    /// No point of the ordered name is known.
+    UnknownPoint,
+    /// The ordered point's role isn't setting.
+    NotASetting,
+    /// No registers of the ordered point's type have the value.
+    OutOfRange,
+    /// 1,000,000 orders exist.
+    TooManyOrders,
+}
+
+/// Why a request isn't taken, and for a list at which place.
+#[derive(Clone, Copy, Debug, PartialEq, Eq)]
+pub struct Reason {
+    pub fault: RequestFault,
+    /// The number of the record, of which the header is 1, or 0 where no record is at fault.
+    pub row: u32,
+    /// The column, from 1, or 0 where no column is at fault.
+    pub column: u8,
+}
+
+/// What became of a request.
+#[derive(Clone, Copy, Debug, PartialEq, Eq)]
+pub enum Outcome {
+    /// All points of the list are known now. It counts the rows, also those that were known before.
+    Loaded(u32),
+    /// The order of this number was accepted.
+    Ordered(u32),
+    /// Nothing was taken.
+    RefusedFor(Reason),
+}
+
+/// A request, and what became of it.
+#[derive(Debug, Drop)]
+pub struct Request {
+    pub body: Body,
+    pub outcome: Outcome,
+}
+
+/// A request with its key, its caller and the caller's key for it.
+#[derive(Debug, Drop)]
+pub struct RequestRow {
+    pub caller: Caller,
+    pub key: Key,
+    pub body: Body,
+    pub outcome: Outcome,
+}
