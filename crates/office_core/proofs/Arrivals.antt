@@ -15,11 +15,14 @@ use Rattle.poll_book.specs.Tables.{Tables, Readings, with_rows}
 use Rattle.office_core.specs.declared.event.Event.TheVariants as event
 use Rattle.office_core.specs.declared.event.EventAnswer.TheVariants as answer
 use Rattle.office_core.specs.Errors.{refused_by}
-use Rattle.office_core.specs.Cover.{Question, asked_of, fits, excepts, given_rows}
-use Rattle.office_core.specs.History.{Happening, Restart, Load, Open, Ask, Reply, Noise, History, tables, readings, points, connections, open_line, asked, is_answered, fits_query, given, given_by}
+use Rattle.office_core.specs.Cover.{excepts, given_rows}
+use Rattle.office_core.specs.Queries.{Query, Reads, Writes, asked_of, unit_id_of, fits}
+use Rattle.office_core.specs.Orders.{settle, settled_by, state_by}
+use Rattle.office_core.specs.History.{Happening, Restart, Load, Order, Open, Ask, Send, Reply, Noise, History, tables, readings, points, settings, requests, connections, open_line, asked, is_answered, fits_query, given, given_by}
 use Rattle.office_core.specs.Answers.{answer_of, unit_answer, frame_answer, reply_frame}
 use Rattle.office_core.specs.Legal.{MayHappen, IsTimely, IsNoise}
-use Rattle.office_core.specs.Keeping.{with_given}
+use Rattle.poll_book.specs.Orders.{Settings}
+use Rattle.office_core.specs.Keeping.{with_given, with_state}
 use Rattle.office_core.specs.Standing.{queries_from, queries, open_one, open_of, StandsFor, Sees}
 use Rattle.office_core.proofs.Rows.{readings_more, readings_same}
 use Rattle.office_core.proofs.Queries.{length-queries, still_open, open-settled}
@@ -27,44 +30,64 @@ use Rattle.office_core.proofs.Naming.{named_by, number_by, line_by, refusal_is, 
 
 -- ---- the tables after a reply
 
--- the tables with the readings of a reply that answers
-abbrev pub recorded : List PointRow → Question → List ℕ → Tables → Tables
-recorded known q unit kept = cond (excepts q.read unit) kept (with_given (given_rows known q unit) kept)
+-- the tables with what a reply brings that answers
+abbrev pub recorded : List PointRow → Query → List ℕ → Tables → Tables
+recorded known (Reads q) unit kept = cond (excepts q.read unit) kept (with_given (given_rows known q unit) kept)
+recorded known (Writes w) unit kept = with_state w.order (state_by w unit) kept
 
-given_unfit : (known : List PointRow) (q : Question) (unit : List ℕ) → fits q unit ≡ false → given_by known (Some q) unit ≡ []
-given_unfit known q unit unfit = ap (λ b. cond (b && not (excepts q.read unit)) (given_rows known q unit) []) unfit
+abbrev with_more : History → Readings → Settings → Tables
+with_more before more set = record { points = points before; readings = with_rows (given before ++ more) []; settings = set; requests = requests before; connections = connections before }
 
-abbrev with_more : History → Readings → Tables
-with_more before more = record { points = points before; readings = with_rows (given before ++ more) []; connections = connections before }
+none_more : (before : History) (set : Settings) → with_more before [] set ≡ record (tables before) { settings = set }
+none_more before set = ap (λ r. record (tables before) { readings = r; settings = set }) (readings_same (given before))
 
-none_more : (before : History) → with_more before [] ≡ tables before
-none_more before = ap (λ r. record (tables before) { readings = r }) (readings_same (given before))
+-- a reply that doesn't fit its query gives nothing, and settles nothing
+unfit_gives : (known : List PointRow) (q : Query) (unit : List ℕ) → fits q unit ≡ false → given_by known (Some q) unit ≡ []
+unfit_gives known (Reads q) unit unfit = ap (λ b. cond (b && not (excepts q.read unit)) (given_rows known q unit) []) unfit
+unfit_gives known (Writes w) unit unfit = refl
 
-cond_same : {X : Type 0} (b : Bool) (x : X) → cond b x x ≡ x
-cond_same true x = refl
-cond_same false x = refl
+unfit_settles : (q : Query) (unit : List ℕ) (set : Settings) → fits q unit ≡ false → settled_by (Some q) unit set ≡ set
+unfit_settles (Reads q) unit set unfit = refl
+unfit_settles (Writes w) unit set unfit = ap (λ b. cond b (settle w.order (state_by w unit) set) set) unfit
+
+-- what the first answering reply to a query brings, and another one
+abbrev after_reply : History → Bool → Option Query → List ℕ → Tables
+after_reply before answered query unit =
+    with_more before (cond answered [] (given_by (points before) query unit)) (cond answered (settings before) (settled_by query unit (settings before)))
 
 -- a reply to a query that was answered, or one that doesn't fit, changes nothing
-pub tables_same : (before : History) (c n : ℕ) (unit : List ℕ) (q : Question) → slice_get (asked before c) n ≡ Some q
+pub tables_same : (before : History) (c n : ℕ) (unit : List ℕ) (q : Query) → slice_get (asked before c) n ≡ Some q
     → (is_answered before c n ≡ true) ⊎ (fits q unit ≡ false) → tables (Reply c n unit ∷ before) ≡ tables before
 tables_same before c n unit q is (inl answered) =
-    ap (λ b. with_more before (cond b [] (given_by (points before) (slice_get (asked before c) n) unit))) answered ∙ none_more before
+    ap (λ b. after_reply before b (slice_get (asked before c) n) unit) answered ∙ none_more before (settings before)
 tables_same before c n unit q is (inr unfit) =
-    ap (λ l. with_more before (cond (is_answered before c n) [] l)) (ap (λ o. given_by (points before) o unit) is ∙ given_unfit (points before) q unit unfit)
-    ∙ ap (with_more before) (cond_same (is_answered before c n) []) ∙ none_more before
+    ap (λ o. after_reply before (is_answered before c n) o unit) is
+    ∙ (λ i. with_more before (cond (is_answered before c n) [] (unfit_gives (points before) q unit unfit i)) (cond (is_answered before c n) (settings before) (unfit_settles q unit (settings before) unfit i)))
+    ∙ by (is_answered before c n)
+  where
+    by : (b : Bool) → with_more before (cond b [] []) (cond b (settings before) (settings before)) ≡ tables before
+    by true = none_more before (settings before)
+    by false = none_more before (settings before)
 
--- the first answering reply records what it gives
-pub tables_more : (before : History) (c n : ℕ) (unit : List ℕ) (q : Question) → slice_get (asked before c) n ≡ Some q
+-- the first answering reply brings what it does
+pub tables_more : (before : History) (c n : ℕ) (unit : List ℕ) (q : Query) → slice_get (asked before c) n ≡ Some q
     → is_answered before c n ≡ false → fits q unit ≡ true → tables (Reply c n unit ∷ before) ≡ recorded (points before) q unit (tables before)
 tables_more before c n unit q is fresh fit =
-    ap (λ b. with_more before (cond b [] (given_by (points before) (slice_get (asked before c) n) unit))) fresh
-    ∙ ap (λ o. with_more before (given_by (points before) o unit)) is
-    ∙ ap (λ b. with_more before (cond (b && not (excepts q.read unit)) (given_rows (points before) q unit) [])) fit
-    ∙ by (excepts q.read unit)
+    ap (λ b. after_reply before b (slice_get (asked before c) n) unit) fresh
+    ∙ ap (λ o. after_reply before false o unit) is
+    ∙ by q fit
   where
-    by : (b : Bool) → with_more before (cond (true && not b) (given_rows (points before) q unit) []) ≡ cond b (tables before) (with_given (given_rows (points before) q unit) (tables before))
-    by true = none_more before
-    by false = ap (λ r. record (tables before) { readings = r }) (readings_more (given before) (given_rows (points before) q unit))
+    read : (rows : Readings) (b : Bool) → with_more before (cond (true && not b) rows []) (settings before) ≡ cond b (tables before) (with_given rows (tables before))
+    read rows true = none_more before (settings before)
+    read rows false = ap (λ r. record (tables before) { readings = r }) (readings_more (given before) rows)
+
+    by : (q : Query) → fits q unit ≡ true → after_reply before false (Some q) unit ≡ recorded (points before) q unit (tables before)
+    by (Reads q) fit =
+        ap (λ b. with_more before (cond (b && not (excepts q.read unit)) (given_rows (points before) q unit) []) (settings before)) fit
+        ∙ read (given_rows (points before) q unit) (excepts q.read unit)
+    by (Writes w) fit =
+        ap (λ b. with_more before [] (cond b (settle w.order (state_by w unit) (settings before)) (settings before))) fit
+        ∙ none_more before (settle w.order (state_by w unit) (settings before))
 
 -- ---- what is answered after a reply
 
@@ -78,7 +101,7 @@ grouped true b f = refl
 grouped false b f = refl
 
 -- a reply that doesn't count answers nothing
-answered_same : (before : History) (c n : ℕ) (unit : List ℕ) (q : Question) → slice_get (asked before c) n ≡ Some q
+answered_same : (before : History) (c n : ℕ) (unit : List ℕ) (q : Query) → slice_get (asked before c) n ≡ Some q
     → (is_answered before c n ≡ true) ⊎ (fits q unit ≡ false) → (other k : ℕ) → is_answered (Reply c n unit ∷ before) other k ≡ is_answered before other k
 answered_same before c n unit q is counts other k =
     ap (λ b. b || is_answered before other k) (grouped (eqb c other) (eqb n k) (fits_query (slice_get (asked before other) k) unit))
@@ -100,7 +123,7 @@ answered_other before c n unit other k apart =
 -- ---- the open connections after a reply
 
 -- queries past the one that is answered stay
-past_queries : (before : History) (c n : ℕ) (unit : List ℕ) (m : ℕ) (qs : List Question) → n < m
+past_queries : (before : History) (c n : ℕ) (unit : List ℕ) (m : ℕ) (qs : List Query) → n < m
     → queries_from (Reply c n unit ∷ before) c m qs ≡ queries_from before c m qs
 past_queries before c n unit m [] lt = refl
 past_queries before c n unit m (q ∷ qs) lt =
@@ -115,8 +138,8 @@ past_queries before c n unit m (q ∷ qs) lt =
     none true f = refl
     none false f = refl
 
-settled_queries : (before : History) (c n : ℕ) (unit : List ℕ) (q : Question) → slice_get (asked before c) n ≡ Some q → fits q unit ≡ true
-    → (k m : ℕ) (qs : List Question) → n ≡ m + k → queries_from (Reply c n unit ∷ before) c m qs ≡ settled_at k (queries_from before c m qs)
+settled_queries : (before : History) (c n : ℕ) (unit : List ℕ) (q : Query) → slice_get (asked before c) n ≡ Some q → fits q unit ≡ true
+    → (k m : ℕ) (qs : List Query) → n ≡ m + k → queries_from (Reply c n unit ∷ before) c m qs ≡ settled_at k (queries_from before c m qs)
 settled_queries before c n unit q is fit k m [] at = refl
 settled_queries before c n unit q is fit zero m (p ∷ qs) at =
     let same : n ≡ m = omega arith in
@@ -131,7 +154,7 @@ settled_queries before c n unit q is fit (suc k) m (p ∷ qs) at =
     λ i. record { asked = asked_of p; settled = off i } ∷ settled_queries before c n unit q is fit k (m + 1) qs (omega arith) i
 
 -- the connection with that query settled
-open_answered : (before : History) (c n : ℕ) (unit : List ℕ) (q : Question) → slice_get (asked before c) n ≡ Some q → fits q unit ≡ true
+open_answered : (before : History) (c n : ℕ) (unit : List ℕ) (q : Query) → slice_get (asked before c) n ≡ Some q → fits q unit ≡ true
     → length (asked before c) ≤ n + 65536 → with_answer n (open_of before c) ≡ open_of (Reply c n unit ∷ before) c
 open_answered before c n unit q is fit near = by (open_line before c)
   where
@@ -150,7 +173,9 @@ open_answered before c n unit q is fit near = by (open_line before c)
 pub seen_told : (before : History) (happening : Happening) (conn : ℕ) (frame : Frame) → MayHappen before happening → Sees before happening (event.Arrive conn frame)
     → answer_of before happening ≡ frame_answer before conn frame
 seen_told before (Restart site) conn frame may sees = absurd sees
-seen_told before (Load list) conn frame may sees = absurd sees
+seen_told before (Load caller key list) conn frame may sees = absurd sees
+seen_told before (Order caller key point value) conn frame may sees = absurd sees
+seen_told before (Send c number) conn frame may sees = absurd sees
 seen_told before (Open line) conn frame may sees = absurd sees
 seen_told before (Ask c device slot read) conn frame may sees = absurd sees
 seen_told before (Reply c n unit) conn frame may sees = reply_told before c n unit may.1 ∙ λ i. frame_answer before (sym sees.0 i) (sym sees.1 i)
@@ -159,7 +184,7 @@ seen_told before (Noise c noise) conn frame may sees = λ i. frame_answer before
 own_unit : (n : ℕ) → not (eqb n n) ≡ false
 own_unit n = ap not (eq-eqb n n refl)
 
-some_at : (xs : List Question) (n : ℕ) → n < length xs → (q : Question) × (slice_get xs n ≡ Some q)
+some_at : (xs : List Query) (n : ℕ) → n < length xs → (q : Query) × (slice_get xs n ≡ Some q)
 some_at [] n h = absurd (omega arith)
 some_at (x ∷ xs) zero h = (x, refl)
 some_at (x ∷ xs) (suc n) h = some_at xs n (omega arith)
@@ -172,11 +197,11 @@ late false false true e p h = inr refl
 late false false false e p h = absurd (cc)
 
 -- of a reply in time only a repeat or a wrong reply is refused
-reply_late : (before : History) (c n : ℕ) (unit : List ℕ) (q : Question) (e : MatchError) → slice_get (asked before c) n ≡ Some q → IsTimely before c n
+reply_late : (before : History) (c n : ℕ) (unit : List ℕ) (q : Query) (e : MatchError) → slice_get (asked before c) n ≡ Some q → IsTimely before c n
     → refusal (open_of before c) (reply_frame n (slice_get (asked before c) n) unit) ≡ Some e → (is_answered before c n ≡ true) ⊎ (fits q unit ≡ false)
 reply_late before c n unit q e is timely refused =
     ⊎_elim (λ (a : is_answered before c n ≡ true). inl a) (λ (u : not (fits q unit) ≡ true). inr (not-true (fits q unit) u))
-    (late (not (eqb q.unit_id q.unit_id)) (is_answered before c n) (not (fits q unit)) e (own_unit q.unit_id)
+    (late (not (eqb (unit_id_of q) (unit_id_of q))) (is_answered before c n) (not (fits q unit)) e (own_unit (unit_id_of q))
     (sym (there (open_line before c) timely.0) ∙ sym (refusal_is before c (reply_frame n (Some q) unit))
     ∙ ap (λ o. refusal (open_of before c) (reply_frame n o unit)) (sym is) ∙ refused))
   where
@@ -196,7 +221,9 @@ module _ (holds : Tables → Type 0) (now : Site) (known : List PointRow) (all :
     where
       by : (h : Happening) → MayHappen before h → Sees before h (event.Arrive conn frame) → refusal (open_of before conn) frame ≡ Some e → StandsFor holds now known all (h ∷ before)
       by (Restart site) may sees found = absurd sees
-      by (Load list) may sees found = absurd sees
+      by (Load caller key list) may sees found = absurd sees
+      by (Order caller key point value) may sees found = absurd sees
+      by (Send c number) may sees found = absurd sees
       by (Open line) may sees found = absurd sees
       by (Ask c device slot read) may sees found = absurd sees
       by (Reply c n unit) may sees found =
@@ -216,7 +243,7 @@ module _ (holds : Tables → Type 0) (now : Site) (known : List PointRow) (all :
       }
 
   -- an accepted frame is the first answering reply to its query
-  pub arrival_accepted : (happening : Happening) (conn : ℕ) (frame : Frame) (n : ℕ) (q : Question) → MayHappen before happening → Sees before happening (event.Arrive conn frame)
+  pub arrival_accepted : (happening : Happening) (conn : ℕ) (frame : Frame) (n : ℕ) (q : Query) → MayHappen before happening → Sees before happening (event.Arrive conn frame)
       → Accepted before conn frame n q → (holds' : Tables → Type 0) → holds' (recorded (points before) q frame.unit (tables before))
       → (all' : List OpenOne) → Changes conn (with_answer n) all all'
       → StandsFor holds' now known all' (happening ∷ before) × (unit_answer (readings before) (points before) q frame.unit ≡ answer_of before happening)
@@ -225,7 +252,9 @@ module _ (holds : Tables → Type 0) (now : Site) (known : List PointRow) (all :
     where
       by : (h : Happening) → MayHappen before h → Sees before h (event.Arrive conn frame) → StandsFor holds' now known all' (h ∷ before)
       by (Restart site) may sees = absurd sees
-      by (Load list) may sees = absurd sees
+      by (Load caller key list) may sees = absurd sees
+      by (Order caller key point value) may sees = absurd sees
+      by (Send c number) may sees = absurd sees
       by (Open line) may sees = absurd sees
       by (Ask c device slot read) may sees = absurd sees
       by (Reply c m unit) may sees =
@@ -256,4 +285,4 @@ module _ (holds : Tables → Type 0) (now : Site) (known : List PointRow) (all :
           noisy c noise (inl shut) a = let e : Some a.line ≡ None = sym a.is_open ∙ shut in absurd (cc)
           noisy c noise (inr quiet) a =
               let near = numbered_is noise.transaction (length (asked before c)) n a.number in
-              false≢true (sym (quiet n q a.query near.1 near.2) ∙ and_from (eqb noise.unit_id q.unit_id) (fits q noise.unit) a.unit_id a.fit)
+              false≢true (sym (quiet n q a.query near.1 near.2) ∙ and_from (eqb noise.unit_id (unit_id_of q)) (fits q noise.unit) a.unit_id a.fit)

@@ -26,9 +26,9 @@ use Rattle.office_core.specs.declared.site.Target.{Target}
 use Rattle.poll_book.specs.declared.fault.StoreFault.{StoreFault}
 use Rattle.office_core.specs.Errors.{refused_by, IsCaused}
 use Rattle.office_core.specs.Sites.{target}
-use Rattle.office_core.specs.Cover.{asked_of, is_readable}
+use Rattle.office_core.specs.Cover.{is_readable}
+use Rattle.office_core.specs.Queries.{Reads, asked_of, query_frame, read_text}
 use Rattle.office_core.specs.History.{History, open_line, asked, ask_fault, ask_fault_on, question, question_to}
-use Rattle.office_core.specs.Answers.{query_frame, read_text}
 use Rattle.office_core.specs.Standing.{queries, open_one, StandsFor, Goes, is_store}
 use Rattle.office_core.proofs.Opens.{line_held}
 use Rattle.office_core.proofs.Queries.{length-queries}
@@ -95,7 +95,7 @@ module _ (holds : Tables → Type 0) (now : Site) (known : List PointRow) (all :
       → (all' : List OpenOne) → Changes conn (with_query (asking.Read to.unit_id to.place slot read (length known))) all all'
       → Goes (StandsFor holds now known all) (StandsFor holds now known all') (event.Ask conn device slot read) (answer.Query frame)
   asking_goes frame none next all' queried =
-      let same : asked_of (question now known device slot read) ≡ asking.Read to.unit_id to.place slot read (length known) = ap (λ t. asked_of (question_to t device slot read (length known))) there in
+      let same : asked_of (Reads (question now known device slot read)) ≡ asking.Read to.unit_id to.place slot read (length known) = ap (λ t. asked_of (Reads (question_to t device slot read (length known)))) there in
       asked_goes holds now known all conn device slot read frame
       (λ before stands. fault_is before stands ∙ ap (option_map refused_by) (sym (refusal_is before stands) ∙ none))
       (λ before stands.
@@ -105,7 +105,7 @@ module _ (holds : Tables → Type 0) (now : Site) (known : List PointRow) (all :
       let valid : is_valid_read read ≡ true = (and_parts (is_valid_read read) _ readable).0 in
       let text : frame.unit ≡ read_text read = read_spelled read frame.unit (can_be_asked (asking.Read to.unit_id to.place slot read (length known)) valid) next.unit in
       (λ i. record { transaction = number i; unit_id = next.unit_id i; unit = text i })
-      ∙ sym (ap (λ t. query_frame (length (asked before conn)) (question_to t device slot read (length known))) there))
+      ∙ sym (ap (λ t. query_frame (length (asked before conn)) (Reads (question_to t device slot read (length known)))) there))
       all' (subst (λ q. Changes conn (with_query q) all all') (sym same) queried)
 
 -- an ask that is refused for its line, its device or its read

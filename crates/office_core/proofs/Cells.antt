@@ -21,7 +21,8 @@ use Rattle.sunspec.specs.PointType.{row}
 use Rattle.point_list.specs.declared.point.Point.{Point}
 use Rattle.read_planner.specs.declared.Read.{Read}
 use Rattle.read_planner.specs.Read.{read_request}
-use Rattle.office_core.specs.Cover.{one_or_zero, Brings, covers, reads_table, has_size, words_in, cells, cells_of, reply_cells, excepts, exception_code}
+use Rattle.office_core.specs.Cover.{one_or_zero, Brings, covers, reads_table, has_size, words_in, cells, cells_of, reply_cells, excepts}
+use Rattle.office_core.specs.Queries.{exception_code}
 
 -- one cell of a list of bits
 pub one_cell : (bits : List Bool) (place : ℕ) → place < length bits → take 1 (drop place (map one_or_zero bits)) ≡ one_or_zero (get_or bits place false) ∷ []
@@ -94,7 +95,7 @@ exception_spelled read code unit h =
     (ap (is_exception f) h ∙ eq-eqb (f + 128) (f + 128) refl, ap exception_code h)
 
 -- a unit that begins with its function is no exception
-no_exception : (f count : ℕ) (rest : List ℕ) → is_exception f (f ∷ count ∷ rest) ≡ false
+pub no_exception : (f count : ℕ) (rest : List ℕ) → is_exception f (f ∷ count ∷ rest) ≡ false
 no_exception f count [] = grind (arith, nat_tests)
 no_exception f count (x ∷ rest) = refl
 

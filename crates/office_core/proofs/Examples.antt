@@ -1,5 +1,5 @@
--- What histories that are written out come to, of a site with one line and one device.
-use Rattle.std.proofs.Common.{◌≡◌, ◌%◌, ℕ, zero, suc, true, false, ltb, List, [], ◌∷◌, ◌++◌, length, Some, None, IsSome, inl, inr, refl, sym, ap, ◌∙◌, subst, arith, codes, pos}
+-- What histories that are written out come to, of sites with one line.
+use Rattle.std.proofs.Common.{◌≡◌, ◌%◌, ℕ, zero, suc, true, false, ltb, List, [], ◌∷◌, ◌++◌, length, Some, None, IsSome, inl, inr, refl, sym, ap, ◌∙◌, subst, arith, codes, pos, negsuc}
 use Rattle.std.specs.Prelude.{slice_get}
 use Rattle.std.specs.List.{list_all}
 use Rattle.std.proofs.lemmas.Bool.{and_parts, ltb-true}
@@ -10,7 +10,7 @@ use Rattle.mb_pdu.specs.Packing.{two, unworded}
 use Rattle.mb_pdu.specs.Replies.{IsBytes}
 use Rattle.sunspec.specs.declared.point_type.PointType.{PointType}
 use Rattle.sunspec.specs.declared.point_type.PointType.TheVariants.{Uint16, Acc32}
-use Rattle.point_list.specs.declared.error.ListFault.TheVariants.{LeftOutType}
+use Rattle.point_list.specs.declared.error.ListFault.TheVariants.{LeftOutType, UnknownDevice}
 use Rattle.point_list.specs.declared.site.Site.{Site}
 use Rattle.point_list.specs.declared.point.Point.{Point}
 use Rattle.point_list.specs.declared.point.Role.TheVariants.{Gauge, Counter}
@@ -20,14 +20,21 @@ use Rattle.read_planner.specs.declared.Read.{Read}
 use Rattle.poll_match.specs.Window.{numbered}
 use Rattle.poll_book.specs.declared.rows.PointRow.{PointRow}
 use Rattle.poll_book.specs.declared.rows.Reading.{Reading}
+use Rattle.poll_book.specs.declared.rows.OrderState.TheVariants.{Waiting, Done, Refused}
+use Rattle.poll_book.specs.declared.rows.Setting.{Setting}
+use Rattle.poll_book.specs.declared.requests.Body.TheVariants as body
+use Rattle.poll_book.specs.declared.requests.Outcome.{Outcome}
+use Rattle.poll_book.specs.declared.requests.Outcome.TheVariants as outcome
+use Rattle.poll_book.specs.declared.requests.RequestFault.{RequestFault}
+use Rattle.poll_book.specs.declared.requests.RequestFault.TheVariants as fault
 use Rattle.poll_book.specs.Tables.{Tables, Readings, reading_at}
 use Rattle.office_core.specs.declared.error.OfficeError.TheVariants as error
-use Rattle.office_core.specs.declared.event.Arrival.TheVariants.{Recorded, Excepted}
+use Rattle.office_core.specs.declared.event.Arrival.TheVariants.{Recorded, Settled, Excepted}
+use Rattle.office_core.specs.declared.event.EventAnswer.{EventAnswer}
 use Rattle.office_core.specs.declared.event.EventAnswer.TheVariants as answer
-use Rattle.office_core.specs.declared.event.LoadFault.TheVariants as fault
-use Rattle.office_core.specs.declared.event.Outcome.TheVariants as outcome
-use Rattle.office_core.specs.Cover.{Question}
-use Rattle.office_core.specs.History.{Happening, Restart, Load, Open, Ask, Reply, Noise, History, after, points, open_line, asked, readings, tables, total}
+use Rattle.office_core.specs.declared.event.RequestAnswer.TheVariants.{Kept, KeyReused}
+use Rattle.office_core.specs.Queries.{Query, Reads}
+use Rattle.office_core.specs.History.{Happening, Restart, Load, Order, Open, Ask, Send, Reply, Noise, History, after, points, open_line, asked, settings, readings, tables, total}
 use Rattle.office_core.specs.Loads.{Taken, loading}
 use Rattle.office_core.specs.Answers.{answer_of, answers_of}
 use Rattle.office_core.specs.Legal.{IsNoise, IsTimely, MayHappen, Legal, frame_answers}
@@ -45,6 +52,20 @@ roof =
       lines = record { name = codes "roof"; address = codes "127.0.0.1:502" } ∷ [];
       devices = record { name = codes "m1"; line = 0; unit = 17; gap = 8 } ∷ [];
     }
+
+-- a request of Ann's for a list, and one for a value of a point
+abbrev loads : List ℕ → List ℕ → Happening
+loads key list = Load (codes "ann") key list
+
+abbrev orders : List ℕ → List ℕ → ℕ → Happening
+orders key point value = Order (codes "ann") key point (pos value)
+
+-- the answer to a first request, and to one that comes again
+abbrev first : Outcome → EventAnswer
+first outcome = answer.Request (Kept true outcome)
+
+abbrev again : Outcome → EventAnswer
+again outcome = answer.Request (Kept false outcome)
 
 -- three gauges
 abbrev gauges : List ℕ
@@ -110,7 +131,7 @@ uncounted word = record { words = word ∷ []; counted = false }
 -- ---- three gauges
 
 abbrev three : History
-three = after [] (Restart roof ∷ Load gauges ∷ Open (codes "roof") ∷ [])
+three = after [] (Restart roof ∷ loads (codes "l1") gauges ∷ Open (codes "roof") ∷ [])
 
 abbrev ask : Happening
 ask = Ask 1 (codes "m1") 1 (read 107 3)
@@ -153,7 +174,13 @@ three_readings = refl
 
 -- what an office keeps of them
 abbrev three_tables : Tables
-three_tables = record { points = three_rows; readings = three_words; connections = 1 }
+three_tables = record {
+  points = three_rows;
+  readings = three_words;
+  settings = [];
+  requests = ((codes "ann", codes "l1"), record { body = body.List gauges; outcome = outcome.Loaded 3 }) ∷ [];
+  connections = 1;
+}
 
 pub three_kept : tables (after asked_once (Reply 1 0 normal ∷ [])) ≡ three_tables
 unfolding histories_on_literals
@@ -190,7 +217,7 @@ exception_then_reply = refl
 -- a counter that was asked for slots 1, 2 and 3, by queries 0, 1 and 2
 abbrev counting : List ℕ → ℕ → History
 counting list registers =
-    after [] (Restart roof ∷ Load list ∷ Open (codes "roof")
+    after [] (Restart roof ∷ loads (codes "l1") list ∷ Open (codes "roof")
     ∷ Ask 1 (codes "m1") 1 (read 107 registers) ∷ Ask 1 (codes "m1") 2 (read 107 registers) ∷ Ask 1 (codes "m1") 3 (read 107 registers) ∷ [])
 
 -- a reply of one register, and one of two
@@ -285,7 +312,7 @@ rolled_total = refl
 -- ---- a point that is loaded between a query and its reply
 
 abbrev loaded_late : History
-loaded_late = after [] (Restart roof ∷ Load outer_gauges ∷ Open (codes "roof") ∷ ask ∷ Load inner_gauge ∷ [])
+loaded_late = after [] (Restart roof ∷ loads (codes "l1") outer_gauges ∷ Open (codes "roof") ∷ ask ∷ loads (codes "l2") inner_gauge ∷ [])
 
 -- the reply covers it and is recorded for the two that were known
 pub late_point_not_recorded : answer_of loaded_late (Reply 1 0 normal) ≡ answer.Arrived (Recorded 2)
@@ -325,40 +352,215 @@ no_reply_after_a_restart timely = let e : false ≡ true = timely.0 in absurd (c
 
 -- ---- lists that are refused, and a list that comes again
 
-pub moved_refused : answer_of three (Load moved_gauge)
-    ≡ answer.Judged (outcome.RefusedFor (record { fault = fault.PointDiffers; row = 3; column = 1 }))
+pub moved_refused : answer_of three (loads (codes "l2") moved_gauge)
+    ≡ first (outcome.RefusedFor (record { fault = fault.PointDiffers; row = 3; column = 1 }))
 unfolding histories_on_literals
 moved_refused = refl
 
-moved_known : points (after three (Load moved_gauge ∷ [])) ≡ three_rows
+moved_known : points (after three (loads (codes "l2") moved_gauge ∷ [])) ≡ three_rows
 unfolding histories_on_literals
 moved_known = refl
 
-pub moved_adds_nothing : points (after three (Load moved_gauge ∷ [])) ≡ points three
+pub moved_adds_nothing : points (after three (loads (codes "l2") moved_gauge ∷ [])) ≡ points three
 moved_adds_nothing = moved_known ∙ sym three_known
 
-pub left_out_refused : answer_of three (Load real_gauge)
-    ≡ answer.Judged (outcome.RefusedFor (record { fault = fault.List LeftOutType; row = 3; column = 5 }))
+pub left_out_refused : answer_of three (loads (codes "l2") real_gauge)
+    ≡ first (outcome.RefusedFor (record { fault = fault.List LeftOutType; row = 3; column = 5 }))
 unfolding histories_on_literals
 left_out_refused = refl
 
-left_out_known : points (after three (Load real_gauge ∷ [])) ≡ three_rows
+left_out_known : points (after three (loads (codes "l2") real_gauge ∷ [])) ≡ three_rows
 unfolding histories_on_literals
 left_out_known = refl
 
-pub left_out_adds_nothing : points (after three (Load real_gauge ∷ [])) ≡ points three
+pub left_out_adds_nothing : points (after three (loads (codes "l2") real_gauge ∷ [])) ≡ points three
 left_out_adds_nothing = left_out_known ∙ sym three_known
 
-pub again_loaded : answer_of three (Load gauges) ≡ answer.Judged (outcome.Loaded 3)
+pub again_loaded : answer_of three (loads (codes "l2") gauges) ≡ first (outcome.Loaded 3)
 unfolding histories_on_literals
 again_loaded = refl
 
-again_known : points (after three (Load gauges ∷ [])) ≡ three_rows
+again_known : points (after three (loads (codes "l2") gauges ∷ [])) ≡ three_rows
 unfolding histories_on_literals
 again_known = refl
 
-pub again_adds_nothing : points (after three (Load gauges ∷ [])) ≡ points three
+pub again_adds_nothing : points (after three (loads (codes "l2") gauges ∷ [])) ≡ points three
 again_adds_nothing = again_known ∙ sym three_known
+
+-- ---- requests and orders
+
+-- a setting and a gauge; with another setting; and a point of a device that the site hasn't
+abbrev limits : List ℕ
+limits = codes "name,device,table,address,type,length,scale,role,roll\nlim,m1,holding,40,uint16,,,setting,\na,m1,holding,107,uint16,,,gauge,\n"
+
+abbrev more_limits : List ℕ
+more_limits = codes "name,device,table,address,type,length,scale,role,roll\nzz,m1,holding,41,uint16,,,setting,\n"
+
+abbrev far_gauge : List ℕ
+far_gauge = codes "name,device,table,address,type,length,scale,role,roll\nb,m2,holding,107,uint16,,,gauge,\n"
+
+-- the site with that device as well
+abbrev wider_roof : Site
+wider_roof =
+    record {
+      lines = record { name = codes "roof"; address = codes "127.0.0.1:502" } ∷ [];
+      devices = record { name = codes "m1"; line = 0; unit = 17; gap = 8 } ∷ record { name = codes "m2"; line = 0; unit = 18; gap = 8 } ∷ [];
+    }
+
+-- a refusal that names no record
+abbrev refused_for : RequestFault → Outcome
+refused_for fault = outcome.RefusedFor (record { fault = fault; row = 0; column = 0 })
+
+abbrev limited : History
+limited = after [] (Restart roof ∷ loads (codes "l1") limits ∷ [])
+
+-- an order is taken once; under its key the same is told again, and another value is refused
+pub order_taken_once : answers_of limited (orders (codes "k1") (codes "lim") 80 ∷ orders (codes "k1") (codes "lim") 80 ∷ orders (codes "k1") (codes "lim") 81 ∷ [])
+    ≡ first (outcome.Ordered 1) ∷ again (outcome.Ordered 1) ∷ answer.Request KeyReused ∷ []
+unfolding histories_on_literals
+order_taken_once = refl
+
+-- 65,535 means unimplemented, and no register has it as its value
+pub order_out_of_range : answers_of limited (orders (codes "k1") (codes "lim") 80 ∷ orders (codes "k2") (codes "lim") 65535 ∷ [])
+    ≡ first (outcome.Ordered 1) ∷ first (refused_for fault.OutOfRange) ∷ []
+unfolding histories_on_literals
+order_out_of_range = refl
+
+-- a refusal under a key stays, also where the same would be taken later
+pub refusal_stays : answers_of limited (orders (codes "k3") (codes "zz") 5 ∷ loads (codes "l2") more_limits ∷ orders (codes "k3") (codes "zz") 5 ∷ orders (codes "k4") (codes "zz") 5 ∷ [])
+    ≡ first (refused_for fault.UnknownPoint) ∷ first (outcome.Loaded 1) ∷ again (refused_for fault.UnknownPoint) ∷ first (outcome.Ordered 1) ∷ []
+unfolding histories_on_literals
+refusal_stays = refl
+
+-- the key of a list isn't one of an order as well, but another caller's is
+pub key_of_a_list_refused : answers_of limited (orders (codes "l1") (codes "lim") 80 ∷ Order (codes "bob") (codes "l1") (codes "lim") (pos 80) ∷ [])
+    ≡ answer.Request KeyReused ∷ first (outcome.Ordered 1) ∷ []
+unfolding histories_on_literals
+key_of_a_list_refused = refl
+
+pub gauge_not_ordered : answer_of limited (orders (codes "k1") (codes "a") 80) ≡ first (refused_for fault.NotASetting)
+unfolding histories_on_literals
+gauge_not_ordered = refl
+
+-- a list is taken once; under its key the same is told again, and another list is refused
+pub list_taken_once : answers_of (Restart roof ∷ []) (loads (codes "l1") limits ∷ loads (codes "l1") limits ∷ loads (codes "l1") more_limits ∷ [])
+    ≡ first (outcome.Loaded 2) ∷ again (outcome.Loaded 2) ∷ answer.Request KeyReused ∷ []
+unfolding histories_on_literals
+list_taken_once = refl
+
+-- and a list that was refused is refused again under its key by a site that has its device
+pub list_stays_refused : answers_of limited (loads (codes "l2") far_gauge ∷ Restart wider_roof ∷ loads (codes "l2") far_gauge ∷ loads (codes "l3") far_gauge ∷ [])
+    ≡ first (outcome.RefusedFor (record { fault = fault.List UnknownDevice; row = 2; column = 2 }))
+    ∷ answer.Restarted
+    ∷ again (outcome.RefusedFor (record { fault = fault.List UnknownDevice; row = 2; column = 2 }))
+    ∷ first (outcome.Loaded 1) ∷ []
+unfolding histories_on_literals
+list_stays_refused = refl
+
+-- ---- orders that are sent
+
+-- two orders that wait on the device
+abbrev ordered_twice : History
+ordered_twice = after limited (orders (codes "k1") (codes "lim") 80 ∷ orders (codes "k2") (codes "lim") 90 ∷ Open (codes "roof") ∷ [])
+
+-- what sets the first, and the second
+abbrev set_80 : List ℕ
+set_80 = 6 ∷ 0 ∷ 40 ∷ 0 ∷ 80 ∷ []
+
+abbrev set_90 : List ℕ
+set_90 = 6 ∷ 0 ∷ 40 ∷ 0 ∷ 90 ∷ []
+
+-- the device is busy
+abbrev busy : List ℕ
+busy = 134 ∷ 6 ∷ []
+
+-- what an order sets that waits
+abbrev set_to : ℕ → Setting
+set_to word = record { point = 1; words = word ∷ []; state = Waiting }
+
+-- an order is sent again where the device was busy, until its echo comes; the next waits as long
+pub orders_sent : answers_of ordered_twice (Send 1 1 ∷ Reply 1 0 busy ∷ Send 1 2 ∷ Send 1 1 ∷ Reply 1 1 set_80 ∷ Send 1 1 ∷ Send 1 2 ∷ [])
+    ≡ answer.Query (record { transaction = 0; unit_id = 17; unit = set_80 })
+    ∷ answer.Arrived (Excepted 6)
+    ∷ answer.Refused error.NotNext
+    ∷ answer.Query (record { transaction = 1; unit_id = 17; unit = set_80 })
+    ∷ answer.Arrived Settled
+    ∷ answer.Refused error.Settled
+    ∷ answer.Query (record { transaction = 2; unit_id = 17; unit = set_90 }) ∷ []
+unfolding histories_on_literals
+orders_sent = refl
+
+pub order_waits_on : settings (after ordered_twice (Send 1 1 ∷ Reply 1 0 busy ∷ [])) ≡ (1, set_to 80) ∷ (2, set_to 90) ∷ []
+unfolding histories_on_literals
+order_waits_on = refl
+
+pub order_done : settings (after ordered_twice (Send 1 1 ∷ Reply 1 0 busy ∷ Send 1 1 ∷ Reply 1 1 set_80 ∷ []))
+    ≡ (1, record (set_to 80) { state = Done }) ∷ (2, set_to 90) ∷ []
+unfolding histories_on_literals
+order_done = refl
+
+-- any other exception refuses an order, and the next is sent
+pub order_refused : answers_of ordered_twice (Send 1 1 ∷ Reply 1 0 (134 ∷ 3 ∷ []) ∷ Send 1 1 ∷ Send 1 2 ∷ [])
+    ≡ answer.Query (record { transaction = 0; unit_id = 17; unit = set_80 })
+    ∷ answer.Arrived (Excepted 3)
+    ∷ answer.Refused error.Settled
+    ∷ answer.Query (record { transaction = 1; unit_id = 17; unit = set_90 }) ∷ []
+unfolding histories_on_literals
+order_refused = refl
+
+pub refusal_kept : settings (after ordered_twice (Send 1 1 ∷ Reply 1 0 (134 ∷ 3 ∷ []) ∷ []))
+    ≡ (1, record (set_to 80) { state = Refused 3 }) ∷ (2, set_to 90) ∷ []
+unfolding histories_on_literals
+refusal_kept = refl
+
+pub no_such_order : answer_of ordered_twice (Send 1 3) ≡ answer.Refused error.NoOrder
+unfolding histories_on_literals
+no_such_order = refl
+
+-- an order that waits is sent anew over the next connection of its line
+pub sent_anew : answers_of ordered_twice (Send 1 1 ∷ Open (codes "roof") ∷ Send 1 1 ∷ Send 2 1 ∷ [])
+    ≡ answer.Query (record { transaction = 0; unit_id = 17; unit = set_80 })
+    ∷ answer.Opened 2
+    ∷ answer.Refused error.NoConnection
+    ∷ answer.Query (record { transaction = 0; unit_id = 17; unit = set_80 }) ∷ []
+unfolding histories_on_literals
+sent_anew = refl
+
+-- of the replies to an order that was sent twice the first that settles it stays
+pub settled_once : answers_of ordered_twice (Send 1 1 ∷ Send 1 1 ∷ Reply 1 0 set_80 ∷ Reply 1 1 (134 ∷ 3 ∷ []) ∷ [])
+    ≡ answer.Query (record { transaction = 0; unit_id = 17; unit = set_80 })
+    ∷ answer.Query (record { transaction = 1; unit_id = 17; unit = set_80 })
+    ∷ answer.Arrived Settled
+    ∷ answer.Arrived (Excepted 3) ∷ []
+unfolding histories_on_literals
+settled_once = refl
+
+pub settled_for_good : settings (after ordered_twice (Send 1 1 ∷ Send 1 1 ∷ Reply 1 0 set_80 ∷ Reply 1 1 (134 ∷ 3 ∷ []) ∷ []))
+    ≡ (1, record (set_to 80) { state = Done }) ∷ (2, set_to 90) ∷ []
+unfolding histories_on_literals
+settled_for_good = refl
+
+-- a bit, a number with sign and a number of two registers are set
+abbrev all_kinds : List ℕ
+all_kinds =
+    codes "name,device,table,address,type,length,scale,role,roll\non,m1,coil,3,bit,,,setting,\nlow,m1,holding,41,int16,,,setting,\n"
+    ++ codes "far,m1,holding,50,uint32,,,setting,\n"
+
+abbrev all_ordered : History
+all_ordered =
+    after [] (Restart roof ∷ loads (codes "l1") all_kinds ∷ Open (codes "roof")
+    ∷ orders (codes "k1") (codes "on") 1 ∷ Order (codes "ann") (codes "k2") (codes "low") (negsuc 1) ∷ orders (codes "k3") (codes "far") 65539 ∷ [])
+
+pub all_sent
+    : answers_of all_ordered (Send 1 1 ∷ Reply 1 0 (5 ∷ 0 ∷ 3 ∷ 255 ∷ 0 ∷ []) ∷ Send 1 2 ∷ Reply 1 1 (6 ∷ 0 ∷ 41 ∷ 255 ∷ 254 ∷ []) ∷ Send 1 3 ∷ Reply 1 2 (16 ∷ 0 ∷ 50 ∷ 0 ∷ 2 ∷ []) ∷ [])
+    ≡ answer.Query (record { transaction = 0; unit_id = 17; unit = 5 ∷ 0 ∷ 3 ∷ 255 ∷ 0 ∷ [] })
+    ∷ answer.Arrived Settled
+    ∷ answer.Query (record { transaction = 1; unit_id = 17; unit = 6 ∷ 0 ∷ 41 ∷ 255 ∷ 254 ∷ [] })
+    ∷ answer.Arrived Settled
+    ∷ answer.Query (record { transaction = 2; unit_id = 17; unit = 16 ∷ 0 ∷ 50 ∷ 0 ∷ 2 ∷ 4 ∷ 0 ∷ 1 ∷ 0 ∷ 3 ∷ [] })
+    ∷ answer.Arrived Settled ∷ []
+unfolding histories_on_literals
+all_sent = refl
 
 -- ---- frames that are no replies
 
@@ -399,16 +601,39 @@ roof_sound = refl
 
 pub three_legal : Legal three
 three_legal =
-    legal_more (Open (codes "roof")) (Load gauges) (Restart roof ∷ []) (bytes_so (codes "roof") refl)
-    (legal_more (Load gauges) (Restart roof) [] (bytes_so gauges refl) ((roof_sound, refl), (λ e. refl), tt))
+    legal_more (Open (codes "roof")) (loads (codes "l1") gauges) (Restart roof ∷ []) (bytes_so (codes "roof") refl)
+    (legal_more (loads (codes "l1") gauges) (Restart roof) [] (bytes_so gauges refl, (refl, refl)) ((roof_sound, refl), (λ e. refl), tt))
 
 pub asked_once_legal : Legal asked_once
 asked_once_legal =
-    legal_more ask (Open (codes "roof")) (Load gauges ∷ Restart roof ∷ []) (bytes_so (codes "m1") refl, omega arith, omega arith) three_legal
+    legal_more ask (Open (codes "roof")) (loads (codes "l1") gauges ∷ Restart roof ∷ []) (bytes_so (codes "m1") refl, omega arith, omega arith) three_legal
+
+-- so may orders, and what is sent for one
+abbrev once_sent : History
+once_sent = after ordered_twice (Send 1 1 ∷ [])
+
+pub once_sent_legal : Legal once_sent
+once_sent_legal =
+    legal_more (Send 1 1) (Open (codes "roof")) (orders (codes "k2") (codes "lim") 90 ∷ orders (codes "k1") (codes "lim") 80 ∷ limited) (omega arith, omega arith)
+    (legal_more (Open (codes "roof")) (orders (codes "k2") (codes "lim") 90) (orders (codes "k1") (codes "lim") 80 ∷ limited) (bytes_so (codes "roof") refl)
+    (legal_more (orders (codes "k2") (codes "lim") 90) (orders (codes "k1") (codes "lim") 80) limited (bytes_so (codes "lim") refl, omega arith, (refl, refl))
+    (legal_more (orders (codes "k1") (codes "lim") 80) (loads (codes "l1") limits) (Restart roof ∷ []) (bytes_so (codes "lim") refl, omega arith, (refl, refl))
+    (legal_more (loads (codes "l1") limits) (Restart roof) [] (bytes_so limits refl, (refl, refl)) ((roof_sound, refl), (λ e. refl), tt)))))
+
+once_sent_open : IsSome (open_line once_sent 1)
+unfolding histories_on_literals
+once_sent_open = refl
+
+once_sent_asked : length (asked once_sent 1) ≡ 1
+unfolding histories_on_literals
+once_sent_asked = refl
+
+pub echo_may_come : MayHappen once_sent (Reply 1 0 set_80)
+echo_may_come = let made = once_sent_asked in (bytes_so set_80 refl, (once_sent_open, omega arith, omega arith))
 
 -- the one query that was made
-abbrev question_of_three : Question
-question_of_three = record { device = codes "m1"; place = 0; unit_id = 17; slot = 1; read = read 107 3; known = 3 }
+abbrev question_of_three : Query
+question_of_three = Reads (record { device = codes "m1"; place = 0; unit_id = 17; slot = 1; read = read 107 3; known = 3 })
 
 three_asked : asked asked_once 1 ≡ question_of_three ∷ []
 unfolding histories_on_literals
@@ -418,7 +643,7 @@ three_open : IsSome (open_line asked_once 1)
 unfolding histories_on_literals
 three_open = refl
 
-only_question : (n : ℕ) (q : Question) → slice_get (question_of_three ∷ []) n ≡ Some q → (n ≡ 0) × (q ≡ question_of_three)
+only_question : (n : ℕ) (q : Query) → slice_get (question_of_three ∷ []) n ≡ Some q → (n ≡ 0) × (q ≡ question_of_three)
 only_question zero q e = (refl, sym (same_Some question_of_three q e))
 only_question (suc n) q e = absurd (none-some q e)
 
@@ -432,7 +657,7 @@ reply_may_come unit bytes =
 noise_by : (frame : Frame) → (0 ≡ frame.transaction → frame_answers question_of_three frame ≡ false) → IsNoise asked_once 1 frame
 noise_by frame answers = inr (λ n q at kept named.
     let only = only_question n q (subst (λ qs. slice_get qs n ≡ Some q) three_asked at) in
-    subst (λ (x : Question). frame_answers x frame ≡ false) (sym only.1) (answers (ap (λ m. m % 65536) (sym only.0) ∙ named)))
+    subst (λ (x : Query). frame_answers x frame ≡ false) (sym only.1) (answers (ap (λ m. m % 65536) (sym only.0) ∙ named)))
 
 pub another_unit_may_come : MayHappen asked_once (Noise 1 (noise 0 18 normal))
 another_unit_may_come = (bytes_so normal refl, noise_by (noise 0 18 normal) (λ e. refl))

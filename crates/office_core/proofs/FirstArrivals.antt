@@ -19,7 +19,6 @@ use Rattle.mb_pdu.proofs.Answered.{answered}
 use Rattle.mb_pdu.proofs.Tells.{told}
 use Rattle.read_planner.specs.declared.Read.{Read}
 use Rattle.read_planner.specs.Read.{read_request}
-use Rattle.point_list.specs.declared.point.Point.{Point}
 use Rattle.poll_book.specs.declared.rows.PointRow.{PointRow}
 use Rattle.poll_book.specs.declared.rows.Reading.{Reading}
 use Rattle.poll_book.specs.Tables.{Key, key_cmp, Readings, reading_at, with_rows}
@@ -29,39 +28,19 @@ use Rattle.poll_book.proofs.Tabled.{keys_total, exact_keys}
 use Rattle.office_core.specs.declared.error.OfficeError.{OfficeError}
 use Rattle.office_core.specs.declared.site.Target.{Target}
 use Rattle.office_core.specs.Sites.{target}
-use Rattle.office_core.specs.Cover.{Question, Brings, covers, covered, words_in, given_of, given_rows, reply_cells, fits, excepts}
-use Rattle.office_core.specs.Loads.{Loading, Refused, Taken, loading, added, numbered_on}
-use Rattle.office_core.specs.History.{Happening, Restart, Load, Open, Ask, Reply, Noise, History, site_of, points, open_line, ask_fault, question, question_to, asked, fits_query, is_answered, given_by, given, readings}
+use Rattle.office_core.specs.Cover.{Question, Brings, covers, covered, words_in, given_of, given_rows, reply_cells, excepts}
+use Rattle.office_core.specs.Queries.{Writing, Query, Reads, Writes, fits}
+use Rattle.office_core.specs.Loads.{loading, added}
+use Rattle.office_core.specs.History.{Happening, Restart, Load, Order, Open, Ask, Send, Reply, Noise, History, site_of, points, is_used, open_line, ask_fault, question, question_to, asked, fits_query, is_answered, given_by, given, readings}
 use Rattle.office_core.specs.Legal.{Legal}
 use Rattle.office_core.specs.FirstArrivals.{Happened, IsQuery, IsReplyTo, IsFirst, Gives, IsReadingOf}
 use Rattle.office_core.proofs.Cells.{cells_spelled, bits_plain, words_plain, no_echo}
+use Rattle.office_core.proofs.Loaded.{numbered_points}
+use Rattle.office_core.proofs.Queries.{same_read}
+use Rattle.office_core.proofs.Standings.{step_later, legal_at, get_last, get_either, asked_stays, answers_on}
+use Rattle.office_core.proofs.Sends.{send_made, sends}
 
 -- ---- numbered points
-
-numbered_append : (n : ℕ) (xs ys : List PointRow) → AreNumbered n xs → AreNumbered (n + length xs) ys → AreNumbered n (xs ++ ys)
-numbered_append n [] ys a b = subst (λ m. AreNumbered m ys) (omega arith) b
-numbered_append n (x ∷ xs) ys a b = (a.0, numbered_append (n + 1) xs ys a.1 (subst (λ m. AreNumbered m ys) (omega arith) b))
-
-numbered_on_so : (n : ℕ) (ps : List Point) → AreNumbered n (numbered_on n ps)
-numbered_on_so n [] = tt
-numbered_on_so n (p ∷ ps) = (refl, numbered_on_so (n + 1) ps)
-
-added_numbered : (n : ℕ) (l : Loading) → AreNumbered n (added n l)
-added_numbered n (Refused reason) = tt
-added_numbered n (Taken count ps) = numbered_on_so n ps
-
--- the points of a history are numbered from 1
-pub points_numbered : (before : History) → AreNumbered 0 (points before)
-points_numbered [] = tt
-points_numbered (Restart site ∷ before) = points_numbered before
-points_numbered (Load list ∷ before) =
-    numbered_append 0 (points before) _ (points_numbered before)
-    (subst (λ m. AreNumbered m (added (length (points before)) (loading (site_of before) (points before) list))) (omega arith)
-    (added_numbered (length (points before)) (loading (site_of before) (points before) list)))
-points_numbered (Open line ∷ before) = points_numbered before
-points_numbered (Ask c device slot read ∷ before) = points_numbered before
-points_numbered (Reply c n unit ∷ before) = points_numbered before
-points_numbered (Noise c frame ∷ before) = points_numbered before
 
 take_numbered : (k n : ℕ) (xs : List PointRow) → AreNumbered n xs → AreNumbered n (take k xs)
 take_numbered zero n xs a = tt
@@ -212,77 +191,24 @@ module _ (device : List ℕ) (read : Read) (words : List ℕ) (slot : ℕ) where
           ∙ rest
       later past false rest = rest
 
--- ---- places in a history
-
-step_later : (h : Happening) (before : History) (happening : Happening) (earlier : History)
-    → Happened before happening earlier → Happened (h ∷ before) happening earlier
-step_later h before happening earlier p = record { later = h ∷ p.later; stands = ap (λ l. h ∷ l) p.stands }
-
-legal_before : (later : List Happening) (before : History) → Legal (later ++ before) → Legal before
-legal_before [] before legal = legal
-legal_before (h ∷ later) before legal = legal_before later before legal.2
-
--- what a history stands on is legal where it is
-legal_at : (before : History) (happening : Happening) (earlier : History) → Happened before happening earlier → Legal before → Legal (happening ∷ earlier)
-legal_at before happening earlier p legal = legal_before p.later (happening ∷ earlier) (subst Legal p.stands legal)
-
 -- ---- queries
 
 -- the refusal of an ask after a history
 abbrev fault_of : History → ℕ → List ℕ → Read → Option OfficeError
 fault_of before c device read = ask_fault (open_line before c) (site_of before) (points before) (length (asked before c)) device read
 
-get_more : (qs more : List Question) (n : ℕ) (q : Question) → slice_get qs n ≡ Some q → slice_get (qs ++ more) n ≡ Some q
-get_more [] more n q e = absurd (none-some q e)
-get_more (x ∷ qs) more zero q e = e
-get_more (x ∷ qs) more (suc n) q e = get_more qs more n q e
-
-get_last : (qs : List Question) (q : Question) → slice_get (qs ++ q ∷ []) (length qs) ≡ Some q
-get_last [] q = refl
-get_last (x ∷ qs) q = get_last qs q
-
--- what stands in a longer list stood there before, or is the last
-get_either : (qs : List Question) (last : Question) (n : ℕ) (q : Question) → slice_get (qs ++ last ∷ []) n ≡ Some q
-    → (slice_get qs n ≡ Some q) ⊎ ((length qs ≡ n) × (q ≡ last))
-get_either [] last zero q e = inr (refl, sym (same_Some last q e))
-get_either [] last (suc n) q e = absurd (none-some q e)
-get_either (x ∷ qs) last zero q e = inl e
-get_either (x ∷ qs) last (suc n) q e = elim (get_either qs last n q e) [ inl there ↦ inl there | inr here ↦ inr (ap suc here.0, here.1) ]
-
--- a query keeps its number
-asked_stays : (later : List Happening) (before : History) (c n : ℕ) (q : Question) → slice_get (asked before c) n ≡ Some q
-    → slice_get (asked (later ++ before) c) n ≡ Some q
-asked_stays [] before c n q e = e
-asked_stays (Restart site ∷ later) before c n q e = asked_stays later before c n q e
-asked_stays (Load list ∷ later) before c n q e = asked_stays later before c n q e
-asked_stays (Open line ∷ later) before c n q e = asked_stays later before c n q e
-asked_stays (Reply d m unit ∷ later) before c n q e = asked_stays later before c n q e
-asked_stays (Noise d frame ∷ later) before c n q e = asked_stays later before c n q e
-asked_stays (Ask d device slot read ∷ later) before c n q e =
-    by (eqb d c && is_none (fault_of (later ++ before) d device read)) (asked_stays later before c n q e)
-  where
-    asks : List Question
-    asks = asked (later ++ before) c
-
-    new : Question
-    new = question (site_of (later ++ before)) (points (later ++ before)) device slot read
-
-    by : (b : Bool) → slice_get asks n ≡ Some q → slice_get (cond b (asks ++ new ∷ []) asks) n ≡ Some q
-    by true rest = get_more asks (new ∷ []) n q rest
-    by false rest = rest
-
 -- a query that was asked is among those of its connection
-query_there : (before : History) (c n : ℕ) (q : Question) (asking : History) → IsQuery before c n q asking → slice_get (asked before c) n ≡ Some q
+query_there : (before : History) (c n : ℕ) (q : Question) (asking : History) → IsQuery before c n q asking → slice_get (asked before c) n ≡ Some (Reads q)
 query_there before c n q asking is =
-    let asks : List Question = asked asking c in
+    let asks : List Query = asked asking c in
     let new : Question = question (site_of asking) (points asking) is.device is.slot is.read in
-    let at : slice_get (asked (Ask c is.device is.slot is.read ∷ asking) c) (length (asked asking c)) ≡ Some new =
-    ap (λ b. slice_get (cond (b && is_none (fault_of asking c is.device is.read)) (asks ++ new ∷ []) asks) (length asks)) (eq-eqb c c refl)
-    ∙ ap (λ o. slice_get (cond (is_none o) (asks ++ new ∷ []) asks) (length asks)) is.accepted
-    ∙ get_last asks new in
+    let at : slice_get (asked (Ask c is.device is.slot is.read ∷ asking) c) (length (asked asking c)) ≡ Some (Reads new) =
+    ap (λ b. slice_get (cond (b && is_none (fault_of asking c is.device is.read)) (asks ++ Reads new ∷ []) asks) (length asks)) (eq-eqb c c refl)
+    ∙ ap (λ o. slice_get (cond (is_none o) (asks ++ Reads new ∷ []) asks) (length asks)) is.accepted
+    ∙ get_last asks (Reads new) in
     ap (λ h. slice_get (asked h c) n) is.came.stands
-    ∙ asked_stays is.came.later (Ask c is.device is.slot is.read ∷ asking) c n q
-    (ap (λ m. slice_get (asked (Ask c is.device is.slot is.read ∷ asking) c) m) (sym is.count) ∙ at ∙ ap Some (sym is.is))
+    ∙ asked_stays is.came.later (Ask c is.device is.slot is.read ∷ asking) c n (Reads q)
+    (ap (λ m. slice_get (asked (Ask c is.device is.slot is.read ∷ asking) c) m) (sym is.count) ∙ at ∙ ap (λ (x : Question). Some (Reads x)) (sym is.is))
 
 record WasAsked (before : History) (c n : ℕ) (q : Question) : Type 0 where
   asking : History
@@ -302,11 +228,12 @@ asked_later h before c n q was = record {
   };
 }
 
--- and each query of a connection was asked
-query_asked : (before : History) (c n : ℕ) (q : Question) → slice_get (asked before c) n ≡ Some q → WasAsked before c n q
-query_asked [] c n q e = absurd (none-some q e)
+-- and each read of a connection was asked
+query_asked : (before : History) (c n : ℕ) (q : Question) → slice_get (asked before c) n ≡ Some (Reads q) → WasAsked before c n q
+query_asked [] c n q e = absurd (none-some (Reads q) e)
 query_asked (Restart site ∷ before) c n q e = asked_later (Restart site) before c n q (query_asked before c n q e)
-query_asked (Load list ∷ before) c n q e = asked_later (Load list) before c n q (query_asked before c n q e)
+query_asked (Load caller key list ∷ before) c n q e = asked_later (Load caller key list) before c n q (query_asked before c n q e)
+query_asked (Order caller key point value ∷ before) c n q e = asked_later (Order caller key point value) before c n q (query_asked before c n q e)
 query_asked (Open line ∷ before) c n q e = asked_later (Open line) before c n q (query_asked before c n q e)
 query_asked (Reply d m unit ∷ before) c n q e = asked_later (Reply d m unit) before c n q (query_asked before c n q e)
 query_asked (Noise d frame ∷ before) c n q e = asked_later (Noise d frame) before c n q (query_asked before c n q e)
@@ -331,33 +258,51 @@ query_asked (Ask d device slot read ∷ before) c n q e =
       };
     }
 
-    by : (slice_get (asked before c) n ≡ Some q → WasAsked before c n q) → (a : Bool) (o : Option OfficeError) → eqb d c ≡ a → fault_of before d device read ≡ o
-        → slice_get (cond (a && is_none o) (asked before c ++ question (site_of before) (points before) device slot read ∷ []) (asked before c)) n ≡ Some q
+    by : (slice_get (asked before c) n ≡ Some (Reads q) → WasAsked before c n q) → (a : Bool) (o : Option OfficeError) → eqb d c ≡ a → fault_of before d device read ≡ o
+        → slice_get (cond (a && is_none o) (asked before c ++ Reads (question (site_of before) (points before) device slot read) ∷ []) (asked before c)) n ≡ Some (Reads q)
         → WasAsked (Ask d device slot read ∷ before) c n q
-    by rest true None same accepted f = elim (get_either (asked before c) (question (site_of before) (points before) device slot read) n q f) [
+    by rest true None same accepted f = elim (get_either (asked before c) (Reads (question (site_of before) (points before) device slot read)) n (Reads q) f) [
       | inl there ↦ later (rest there)
-      | inr last ↦ here (eqb-true d c same) accepted last
+      | inr last ↦ here (eqb-true d c same) accepted (last.0, same_read q (question (site_of before) (points before) device slot read) last.1)
     ]
     by rest true (Some fault) same refused f = later (rest f)
     by rest false o other fault f = later (rest f)
+query_asked (Send d number ∷ before) c n q e = by (λ f. query_asked before c n q f) (eqb d c && send_made before d number) e
+  where
+    by : (slice_get (asked before c) n ≡ Some (Reads q) → WasAsked before c n q) → (b : Bool)
+        → slice_get (cond b (asked before c ++ Writes (sends before number) ∷ []) (asked before c)) n ≡ Some (Reads q) → WasAsked (Send d number ∷ before) c n q
+    by rest true f = elim (get_either (asked before c) (Writes (sends before number)) n (Reads q) f) [
+      | inl there ↦ asked_later (Send d number) before c n q (rest there)
+      | inr last ↦ let e : Reads q ≡ Writes (sends before number) = last.1 in absurd (cc)
+    ]
+    by rest false f = asked_later (Send d number) before c n q (rest f)
 
 -- ---- points that were known
 
-record Longer (before longer : History) : Type 0 where
-  more : List PointRow
-  is : points longer ≡ points before ++ more
+-- these points are those, and then more
+abbrev Longer : List PointRow → List PointRow → Type 0
+Longer first all = (more : List PointRow) × (all ≡ first ++ more)
 
-points_stay : (later : List Happening) (before : History) → Longer before (later ++ before)
-points_stay [] before = record { more = []; is = sym (append-nil (points before)) }
-points_stay (Restart site ∷ later) before = let l = points_stay later before in record { more = l.more; is = l.is }
-points_stay (Open line ∷ later) before = let l = points_stay later before in record { more = l.more; is = l.is }
-points_stay (Ask c device slot read ∷ later) before = let l = points_stay later before in record { more = l.more; is = l.is }
-points_stay (Reply c n unit ∷ later) before = let l = points_stay later before in record { more = l.more; is = l.is }
-points_stay (Noise c frame ∷ later) before = let l = points_stay later before in record { more = l.more; is = l.is }
-points_stay (Load list ∷ later) before =
-    let l = points_stay later before in
-    let new : List PointRow = added (length (points (later ++ before))) (loading (site_of (later ++ before)) (points (later ++ before)) list) in
-    record { more = l.more ++ new; is = ap (λ ps. ps ++ new) l.is ∙ append_assoc (points before) l.more new }
+points_stay : (later : List Happening) (before : History) → Longer (points before) (points (later ++ before))
+points_stay [] before = ([], sym (append-nil (points before)))
+points_stay (Restart site ∷ later) before = points_stay later before
+points_stay (Order caller key point value ∷ later) before = points_stay later before
+points_stay (Open line ∷ later) before = points_stay later before
+points_stay (Ask c device slot read ∷ later) before = points_stay later before
+points_stay (Send c number ∷ later) before = points_stay later before
+points_stay (Reply c n unit ∷ later) before = points_stay later before
+points_stay (Noise c frame ∷ later) before = points_stay later before
+points_stay (Load caller key list ∷ later) before = by (is_used (later ++ before) (caller, key)) (points_stay later before)
+  where
+    old : List PointRow
+    old = points (later ++ before)
+
+    new : List PointRow
+    new = added (length old) (loading (site_of (later ++ before)) old list)
+
+    by : (b : Bool) → Longer (points before) old → Longer (points before) (cond b old (old ++ new))
+    by true l = l
+    by false l = (l.0 ++ new, ap (λ ps. ps ++ new) l.1 ∙ append_assoc (points before) l.0 new)
 
 known_so : (o : Option Target) (device : List ℕ) (slot : ℕ) (read : Read) (known : ℕ) → (question_to o device slot read known).known ≡ known
 known_so None device slot read known = refl
@@ -370,26 +315,40 @@ points_of_query before c n q asking is =
     let count : q.known ≡ length (points asking) =
     ap (λ (x : Question). x.known) is.is ∙ known_so (target (site_of asking) is.device) is.device is.slot is.read (length (points asking)) in
     ap (λ h. take q.known (points h)) is.came.stands
-    ∙ ap (take q.known) longer.is
-    ∙ take_at (points asking) longer.more q.known (sym count)
+    ∙ ap (take q.known) longer.1
+    ∙ take_at (points asking) longer.0 q.known (sym count)
 
 -- ---- replies
 
--- a unit that fits a query is a reply to it
+-- the query of this number, if it is there, is no write
+abbrev IsNoWrite : History → ℕ → ℕ → Type 0
+IsNoWrite before c n = (w : Writing) → slice_get (asked before c) n ≡ Some (Writes w) → ⊥
+
+-- it was none before either
+no_write_before : (h : Happening) (before : History) (c n : ℕ) → IsNoWrite (h ∷ before) c n → IsNoWrite before c n
+no_write_before h before c n none w e = none w (asked_stays (h ∷ []) before c n (Writes w) e)
+
+-- a read is none
+read_no_write : (before : History) (c n : ℕ) (q : Question) → slice_get (asked before c) n ≡ Some (Reads q) → IsNoWrite before c n
+read_no_write before c n q is w e = let same : Some (Reads q) ≡ Some (Writes w) = sym is ∙ e in absurd (cc)
+
+-- a unit that fits a read is a reply to it
 record IsOne (earlier : History) (c n : ℕ) (unit : List ℕ) : Type 0 where
   q : Question
   reply : AReply
   is : IsReplyTo earlier c n unit q reply
 
-one_of : (earlier : History) (c n : ℕ) (unit : List ℕ) → IsBytes unit → fits_query (slice_get (asked earlier c) n) unit ≡ true → IsOne earlier c n unit
-one_of earlier c n unit bytes e = by (slice_get (asked earlier c) n) refl e
+one_of : (earlier : History) (c n : ℕ) (unit : List ℕ) → IsBytes unit → IsNoWrite earlier c n → fits_query (slice_get (asked earlier c) n) unit ≡ true
+    → IsOne earlier c n unit
+one_of earlier c n unit bytes none e = by (slice_get (asked earlier c) n) refl e
   where
-    by : (o : Option Question) → slice_get (asked earlier c) n ≡ o → fits_query o unit ≡ true → IsOne earlier c n unit
+    by : (o : Option Query) → slice_get (asked earlier c) n ≡ o → fits_query o unit ≡ true → IsOne earlier c n unit
     by None is f = absurd (cc)
-    by (Some q) is f =
+    by (Some (Reads q)) is f =
         let spelled = told (read_request q.read) unit bytes f in
         let was = query_asked earlier c n q is in
         record { q = q; reply = spelled.0; is = record { asking = was.asking; query = was.is; spelled = spelled.1 } }
+    by (Some (Writes w)) is f = absurd (none w is)
 
 -- and a reply fits its query
 fits_so : (earlier : History) (c n : ℕ) (unit : List ℕ) (q : Question) (reply : AReply) → IsReplyTo earlier c n unit q reply
@@ -397,7 +356,7 @@ fits_so : (earlier : History) (c n : ℕ) (unit : List ℕ) (q : Question) (repl
 fits_so earlier c n unit q reply is =
     ap (λ o. fits_query o unit) (query_there earlier c n q is.asking is.query) ∙ answered (read_request q.read) reply unit is.spelled
 
--- a query that was answered has a place where a reply to it stands
+-- a read that was answered has a place where a reply to it stands
 record HasReply (before : History) (c n : ℕ) : Type 0 where
   older : History
   unit : List ℕ
@@ -416,23 +375,30 @@ reply_later h before c n r = record {
   is = r.is;
 }
 
-answered_so : (before : History) (c n : ℕ) → Legal before → is_answered before c n ≡ true → HasReply before c n
-answered_so [] c n legal e = absurd (cc)
-answered_so (Restart site ∷ before) c n legal e = reply_later (Restart site) before c n (answered_so before c n legal.2 e)
-answered_so (Load list ∷ before) c n legal e = reply_later (Load list) before c n (answered_so before c n legal.2 e)
-answered_so (Open line ∷ before) c n legal e = reply_later (Open line) before c n (answered_so before c n legal.2 e)
-answered_so (Ask d device slot read ∷ before) c n legal e = reply_later (Ask d device slot read) before c n (answered_so before c n legal.2 e)
-answered_so (Noise d frame ∷ before) c n legal e = reply_later (Noise d frame) before c n (answered_so before c n legal.2 e)
-answered_so (Reply d m unit ∷ before) c n legal e =
-    by (λ f. answered_so before c n legal.2 f) (eqb d c && (eqb m n && fits_query (slice_get (asked before c) n) unit)) refl e
+answered_so : (before : History) (c n : ℕ) → Legal before → IsNoWrite before c n → is_answered before c n ≡ true → HasReply before c n
+answered_so [] c n legal none e = absurd (cc)
+answered_so (Restart site ∷ before) c n legal none e = reply_later (Restart site) before c n (answered_so before c n legal.2 (no_write_before (Restart site) before c n none) e)
+answered_so (Load caller key list ∷ before) c n legal none e = reply_later (Load caller key list) before c n (answered_so before c n legal.2 (no_write_before (Load caller key list) before c n none) e)
+answered_so (Order caller key point value ∷ before) c n legal none e =
+    reply_later (Order caller key point value) before c n (answered_so before c n legal.2 (no_write_before (Order caller key point value) before c n none) e)
+answered_so (Open line ∷ before) c n legal none e = reply_later (Open line) before c n (answered_so before c n legal.2 (no_write_before (Open line) before c n none) e)
+answered_so (Ask d device slot read ∷ before) c n legal none e = reply_later (Ask d device slot read) before c n (answered_so before c n legal.2 (no_write_before (Ask d device slot read) before c n none) e)
+answered_so (Send d number ∷ before) c n legal none e =
+    reply_later (Send d number) before c n (answered_so before c n legal.2 (no_write_before (Send d number) before c n none) e)
+answered_so (Noise d frame ∷ before) c n legal none e = reply_later (Noise d frame) before c n (answered_so before c n legal.2 (no_write_before (Noise d frame) before c n none) e)
+answered_so (Reply d m unit ∷ before) c n legal none e =
+    by (λ f. answered_so before c n legal.2 old f) (eqb d c && (eqb m n && fits_query (slice_get (asked before c) n) unit)) refl e
   where
+    old : IsNoWrite before c n
+    old = no_write_before (Reply d m unit) before c n none
+
     by : (is_answered before c n ≡ true → HasReply before c n)
         → (b : Bool) → (eqb d c && (eqb m n && fits_query (slice_get (asked before c) n) unit)) ≡ b → (b || is_answered before c n) ≡ true
         → HasReply (Reply d m unit ∷ before) c n
     by rest true now f =
         let a = and_parts (eqb d c) _ now in
         let b = and_parts (eqb m n) _ a.1 in
-        let one = one_of before c n unit legal.0.0 b.1 in
+        let one = one_of before c n unit legal.0.0 old b.1 in
         let same_c : d ≡ c = eqb-true d c a.0 in
         let same_n : m ≡ n = eqb-true m n b.0 in
         record {
@@ -445,35 +411,17 @@ answered_so (Reply d m unit ∷ before) c n legal e =
         }
     by rest false other f = reply_later (Reply d m unit) before c n (rest f)
 
-or_true : (a b : Bool) → b ≡ true → (a || b) ≡ true
-or_true true b e = refl
-or_true false b e = e
-
--- and a place where a reply stands answers its query
-answers_on : (later : List Happening) (older : History) (c n : ℕ) (unit : List ℕ) → fits_query (slice_get (asked older c) n) unit ≡ true
-    → is_answered (later ++ Reply c n unit ∷ older) c n ≡ true
-answers_on [] older c n unit e =
-    ap (λ b. (b && (eqb n n && fits_query (slice_get (asked older c) n) unit)) || is_answered older c n) (eq-eqb c c refl)
-    ∙ ap (λ b. (b && fits_query (slice_get (asked older c) n) unit) || is_answered older c n) (eq-eqb n n refl)
-    ∙ ap (λ b. b || is_answered older c n) e
-answers_on (Restart site ∷ later) older c n unit e = answers_on later older c n unit e
-answers_on (Load list ∷ later) older c n unit e = answers_on later older c n unit e
-answers_on (Open line ∷ later) older c n unit e = answers_on later older c n unit e
-answers_on (Ask d device slot read ∷ later) older c n unit e = answers_on later older c n unit e
-answers_on (Noise d frame ∷ later) older c n unit e = answers_on later older c n unit e
-answers_on (Reply d m other ∷ later) older c n unit e = or_true _ _ (answers_on later older c n unit e)
-
 first_so : (before : History) (c n : ℕ) → is_answered before c n ≡ false → IsFirst before c n
 first_so before c n e older unit q reply came is =
     let yes : is_answered before c n ≡ true =
     ap (λ h. is_answered h c n) came.stands ∙ answers_on came.later older c n unit (fits_so older c n unit q reply is) in
     absurd (cc)
 
-unanswered : (before : History) (c n : ℕ) → Legal before → IsFirst before c n → is_answered before c n ≡ false
-unanswered before c n legal first = by (is_answered before c n) refl
+unanswered : (before : History) (c n : ℕ) (q : Question) → Legal before → slice_get (asked before c) n ≡ Some (Reads q) → IsFirst before c n → is_answered before c n ≡ false
+unanswered before c n q legal is first = by (is_answered before c n) refl
   where
     by : (b : Bool) → is_answered before c n ≡ b → b ≡ false
-    by true e = let r = answered_so before c n legal e in absurd (first r.older r.unit r.q r.reply r.came r.is)
+    by true e = let r = answered_so before c n legal (read_no_write before c n q is) e in absurd (first r.older r.unit r.q r.reply r.came r.is)
     by false e = refl
 
 -- ---- normal replies
@@ -496,13 +444,14 @@ abbrev new_given : History → ℕ → ℕ → List ℕ → Readings
 new_given earlier c n unit = cond (is_answered earlier c n) [] (given_by (points earlier) (slice_get (asked earlier c) n) unit)
 
 known_numbered : (earlier : History) (k : ℕ) → AreNumbered 0 (take k (points earlier))
-known_numbered earlier k = take_numbered k 0 (points earlier) (points_numbered earlier)
+known_numbered earlier k = take_numbered k 0 (points earlier) (numbered_points earlier)
 
 -- the words that it gives are the row's reading
 gives_reading : (earlier : History) (c n : ℕ) (unit : List ℕ) (row : PointRow) (slot : ℕ) (words : List ℕ) → Legal earlier → Gives earlier c n unit row slot words
     → reading_at (new_given earlier c n unit) (row.number, slot) ≡ Some (record { words = words; counted = is_counted row.point words })
 gives_reading earlier c n unit row slot words legal g =
     let q = g.q in
+    let query = query_there earlier c n q g.replies.asking g.replies.query in
     let known = take q.known (points earlier) in
     let there : Contains known row =
     subst (λ l. Contains l row) (sym (points_of_query earlier c n q g.replies.asking g.replies.query)) g.known in
@@ -510,8 +459,8 @@ gives_reading earlier c n unit row slot words legal g =
     let same = (cells_spelled q.read g.reply unit g.replies.spelled plain).0 in
     let table_of : List ℕ → Readings = λ ws. keyed q.slot (given_of known q.device q.read ws) in
     let reading_of : List ℕ → Reading = λ ws. record { words = ws; counted = is_counted row.point ws } in
-    ap (λ b. reading_at (cond b [] (given_by (points earlier) (slice_get (asked earlier c) n) unit)) (row.number, slot)) (unanswered earlier c n legal g.first)
-    ∙ ap (λ o. reading_at (given_by (points earlier) o unit) (row.number, slot)) (query_there earlier c n q g.replies.asking g.replies.query)
+    ap (λ b. reading_at (cond b [] (given_by (points earlier) (slice_get (asked earlier c) n) unit)) (row.number, slot)) (unanswered earlier c n q legal query g.first)
+    ∙ ap (λ o. reading_at (given_by (points earlier) o unit) (row.number, slot)) query
     ∙ ap (λ b. reading_at (cond (b && not (excepts q.read unit)) (given_rows (points earlier) q unit) []) (row.number, slot))
     (answered (read_request q.read) g.reply unit g.replies.spelled)
     ∙ ap (λ b. reading_at (cond (not b) (given_rows (points earlier) q unit) []) (row.number, slot)) plain
@@ -532,7 +481,7 @@ reading_new : (earlier : History) (c n : ℕ) (unit : List ℕ) (point slot : �
     → reading_at (new_given earlier c n unit) (point, slot) ≡ Some reading → IsNew earlier c n unit point slot reading
 reading_new earlier c n unit point slot reading legal bytes e = by (is_answered earlier c n) refl e
   where
-    normal : (q : Question) → slice_get (asked earlier c) n ≡ Some q → IsFirst earlier c n → fits q unit ≡ true → excepts q.read unit ≡ false
+    normal : (q : Question) → slice_get (asked earlier c) n ≡ Some (Reads q) → IsFirst earlier c n → fits (Reads q) unit ≡ true → excepts q.read unit ≡ false
         → reading_at (given_rows (points earlier) q unit) (point, slot) ≡ Some reading → IsNew earlier c n unit point slot reading
     normal q query first fit plain f =
         let spelled = told (read_request q.read) unit bytes fit in
@@ -559,16 +508,17 @@ reading_new earlier c n unit point slot reading legal bytes e = by (is_answered 
           is = g.is;
         }
 
-    fitting : (q : Question) → slice_get (asked earlier c) n ≡ Some q → IsFirst earlier c n → (a b : Bool) → fits q unit ≡ a → excepts q.read unit ≡ b
+    fitting : (q : Question) → slice_get (asked earlier c) n ≡ Some (Reads q) → IsFirst earlier c n → (a b : Bool) → fits (Reads q) unit ≡ a → excepts q.read unit ≡ b
         → reading_at (cond (a && not b) (given_rows (points earlier) q unit) []) (point, slot) ≡ Some reading → IsNew earlier c n unit point slot reading
     fitting q query first true false fit plain f = normal q query first fit plain f
     fitting q query first true true fit plain f = absurd (none-some reading f)
     fitting q query first false b fit plain f = absurd (none-some reading f)
 
-    queried : (o : Option Question) → slice_get (asked earlier c) n ≡ o → IsFirst earlier c n
+    queried : (o : Option Query) → slice_get (asked earlier c) n ≡ o → IsFirst earlier c n
         → reading_at (given_by (points earlier) o unit) (point, slot) ≡ Some reading → IsNew earlier c n unit point slot reading
     queried None query first f = absurd (none-some reading f)
-    queried (Some q) query first f = fitting q query first (fits q unit) (excepts q.read unit) refl refl f
+    queried (Some (Reads q)) query first f = fitting q query first (fits (Reads q) unit) (excepts q.read unit) refl refl f
+    queried (Some (Writes w)) query first f = absurd (none-some reading f)
 
     by : (b : Bool) → is_answered earlier c n ≡ b
         → reading_at (cond b [] (given_by (points earlier) (slice_get (asked earlier c) n) unit)) (point, slot) ≡ Some reading
@@ -587,9 +537,11 @@ given_stays : (later : List Happening) (before : History) (key : Key) (r : Readi
     → reading_at (given before) key ≡ Some r → reading_at (given (later ++ before)) key ≡ Some r
 given_stays [] before key r e = e
 given_stays (Restart site ∷ later) before key r e = given_stays later before key r e
-given_stays (Load list ∷ later) before key r e = given_stays later before key r e
+given_stays (Load caller word list ∷ later) before key r e = given_stays later before key r e
+given_stays (Order caller word point value ∷ later) before key r e = given_stays later before key r e
 given_stays (Open line ∷ later) before key r e = given_stays later before key r e
 given_stays (Ask c device slot read ∷ later) before key r e = given_stays later before key r e
+given_stays (Send c number ∷ later) before key r e = given_stays later before key r e
 given_stays (Noise c frame ∷ later) before key r e = given_stays later before key r e
 given_stays (Reply c n unit ∷ later) before key r e =
     at_append (given (later ++ before)) (new_given (later ++ before) c n unit) key ∙ or_some _ _ r (given_stays later before key r e)
@@ -634,10 +586,14 @@ given_earliest : (before : History) (point slot : ℕ) (reading : Reading) → L
     → reading_at (given before) (point, slot) ≡ Some reading → IsReadingOf before point slot reading
 given_earliest [] point slot reading legal e = absurd (none-some reading e)
 given_earliest (Restart site ∷ before) point slot reading legal e = reading_later _ before point slot reading (given_earliest before point slot reading legal.2 e)
-given_earliest (Load list ∷ before) point slot reading legal e = reading_later _ before point slot reading (given_earliest before point slot reading legal.2 e)
+given_earliest (Load caller key list ∷ before) point slot reading legal e =
+    reading_later _ before point slot reading (given_earliest before point slot reading legal.2 e)
+given_earliest (Order caller key name value ∷ before) point slot reading legal e =
+    reading_later _ before point slot reading (given_earliest before point slot reading legal.2 e)
 given_earliest (Open line ∷ before) point slot reading legal e = reading_later _ before point slot reading (given_earliest before point slot reading legal.2 e)
 given_earliest (Ask c device s read ∷ before) point slot reading legal e =
     reading_later _ before point slot reading (given_earliest before point slot reading legal.2 e)
+given_earliest (Send c number ∷ before) point slot reading legal e = reading_later _ before point slot reading (given_earliest before point slot reading legal.2 e)
 given_earliest (Noise c frame ∷ before) point slot reading legal e = reading_later _ before point slot reading (given_earliest before point slot reading legal.2 e)
 given_earliest (Reply c n unit ∷ before) point slot reading legal e =
     by (λ r f. given_earliest before point slot r legal.2 f) (reading_at (given before) (point, slot)) refl

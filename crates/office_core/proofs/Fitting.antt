@@ -33,13 +33,14 @@ use Rattle.poll_book.specs.Tables.{Key, key_cmp, Readings, is_between, readings_
 use Rattle.poll_book.specs.Changes.{keyed, AreNumbered}
 use Rattle.poll_book.specs.Totals.{is_counted}
 use Rattle.poll_book.proofs.Tabled.{exact_keys}
-use Rattle.office_core.specs.Cover.{Question, one_or_zero, Brings, covers, reads_table, has_size, words_in, reply_cells, given_of, given_rows, fits, excepts}
+use Rattle.office_core.specs.Cover.{Question, one_or_zero, Brings, covers, reads_table, has_size, words_in, reply_cells, given_of, given_rows, excepts}
+use Rattle.office_core.specs.Queries.{Query, Reads, Writes, fits}
 use Rattle.office_core.specs.Loads.{loading, added}
-use Rattle.office_core.specs.History.{Restart, Load, Open, Ask, Reply, Noise, History, site_of, points, asked, is_answered, given_by, given, readings, tables}
+use Rattle.office_core.specs.History.{Restart, Load, Order, Open, Ask, Send, Reply, Noise, History, site_of, points, is_used, asked, is_answered, given_by, given, readings, tables}
 use Rattle.office_core.specs.Legal.{Legal}
 use Rattle.office_core.specs.Fitting.{IsFitting}
 use Rattle.office_core.proofs.Cells.{cells_spelled}
-use Rattle.office_core.proofs.FirstArrivals.{points_numbered}
+use Rattle.office_core.proofs.Loaded.{numbered_points}
 use Rattle.office_core.proofs.Forms.{IsFormed, IsFormedRow, points_formed}
 
 -- ---- the words of a point in a reply
@@ -193,7 +194,7 @@ new_fit before c n unit bytes = by (is_answered before c n)
     none : All (IsOf (points before)) []
     none = All-nil (IsOf (points before))
 
-    normal : (q : Question) → fits q unit ≡ true → excepts q.read unit ≡ false → All (IsOf (points before)) (given_rows (points before) q unit)
+    normal : (q : Question) → fits (Reads q) unit ≡ true → excepts q.read unit ≡ false → All (IsOf (points before)) (given_rows (points before) q unit)
     normal q fit plain =
         let spelled = told (read_request q.read) unit bytes fit in
         let same = cells_spelled q.read spelled.0 unit spelled.1 plain in
@@ -202,15 +203,16 @@ new_fit before c n unit bytes = by (is_answered before c n)
         (All-take (Contains (points before)) q.known (points before) (All-contains_itself (points before)))
         (All-take IsFormedRow q.known (points before) (points_formed before)) same.1)
 
-    fitting : (q : Question) (a b : Bool) → fits q unit ≡ a → excepts q.read unit ≡ b
+    fitting : (q : Question) (a b : Bool) → fits (Reads q) unit ≡ a → excepts q.read unit ≡ b
         → All (IsOf (points before)) (cond (a && not b) (given_rows (points before) q unit) [])
     fitting q true false fit plain = normal q fit plain
     fitting q true true fit plain = none
     fitting q false b fit plain = none
 
-    queried : (o : Option Question) → All (IsOf (points before)) (given_by (points before) o unit)
+    queried : (o : Option Query) → All (IsOf (points before)) (given_by (points before) o unit)
     queried None = none
-    queried (Some q) = fitting q (fits q unit) (excepts q.read unit) refl refl
+    queried (Some (Reads q)) = fitting q (fits (Reads q) unit) (excepts q.read unit) refl refl
+    queried (Some (Writes w)) = none
 
     by : (b : Bool) → All (IsOf (points before)) (cond b [] (given_by (points before) (slice_get (asked before c) n) unit))
     by true = none
@@ -219,14 +221,21 @@ new_fit before c n unit bytes = by (is_answered before c n)
 -- what a history gives is of its points
 given_fit : (before : History) → Legal before → All (IsOf (points before)) (given before)
 given_fit [] legal = All-nil (IsOf [])
-given_fit (Load list ∷ before) legal =
-    let more = added (length (points before)) (loading (site_of before) (points before) list) in
-    All-weaker (IsOf (points before)) (IsOf (points before ++ more)) (of_more (points before) more) (given before) (given_fit before legal.2)
+given_fit (Load caller key list ∷ before) legal = by (is_used before (caller, key)) (given_fit before legal.2)
+  where
+    more : List PointRow
+    more = added (length (points before)) (loading (site_of before) (points before) list)
+
+    by : (b : Bool) → All (IsOf (points before)) (given before) → All (IsOf (cond b (points before) (points before ++ more))) (given before)
+    by true earlier = earlier
+    by false earlier = All-weaker (IsOf (points before)) (IsOf (points before ++ more)) (of_more (points before) more) (given before) earlier
 given_fit (Reply c n unit ∷ before) legal =
     All-append (IsOf (points before)) (given before) _ (given_fit before legal.2) (new_fit before c n unit legal.0.0)
 given_fit (Restart site ∷ before) legal = given_fit before legal.2
+given_fit (Order caller key point value ∷ before) legal = given_fit before legal.2
 given_fit (Open line ∷ before) legal = given_fit before legal.2
 given_fit (Ask c device slot read ∷ before) legal = given_fit before legal.2
+given_fit (Send c number ∷ before) legal = given_fit before legal.2
 given_fit (Noise c frame ∷ before) legal = given_fit before legal.2
 
 -- ---- rows that are put into a table
@@ -298,5 +307,5 @@ tables_fit before legal k d lt =
         let a = and_parts (eqb x.0.0 own.number && leb from x.0.1) (leb x.0.1 to) between in
         let p = and_parts (eqb x.0.0 own.number) (leb from x.0.1) a.0 in
         let same : is.point ≡ own =
-        one_point 0 (points before) is.point own (points_numbered before) is.there there (is.number ∙ eqb-true x.0.0 own.number p.0) in
+        one_point 0 (points before) is.point own (numbered_points before) is.there there (is.number ∙ eqb-true x.0.0 own.number p.0) in
         subst (λ (r : PointRow). AreRegistersOf r.point.kind x.1.words) same is.registers

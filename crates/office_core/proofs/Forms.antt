@@ -1,5 +1,5 @@
 -- Points that lists say have the form of a type that there is.
-use Rattle.std.proofs.Common.{◌≡◌, ◌≤◌, ◌+◌, ℕ, zero, suc, Bool, true, false, cond, eqb, leb, List, [], ◌∷◌, length, Option, Some, None, Result, Ok, Err, refl, sym, ◌∙◌, subst, arith, T}
+use Rattle.std.proofs.Common.{◌≡◌, ◌≤◌, ◌+◌, ℕ, zero, suc, Bool, true, false, cond, eqb, leb, List, [], ◌∷◌, ◌++◌, length, Option, Some, None, Result, Ok, Err, refl, sym, ◌∙◌, subst, arith, T}
 use Rattle.std.specs.Prelude.{ℤ, pos, neg_ℤ, All, IfOk, ◌&&◌, ◌||◌, option_map, find, is_none, ⊤}
 use Rattle.std.specs.Str.{bytes_eq}
 use Rattle.std.specs.Str.Parse.{digits_value}
@@ -26,7 +26,7 @@ use Rattle.point_list.specs.ListMeaning.{point_in, row_before, rows_said, first_
 use Rattle.poll_book.specs.declared.rows.PointRow.{PointRow}
 use Rattle.office_core.specs.Fitting.{HasForm}
 use Rattle.office_core.specs.Loads.{Loading, Refused, Taken, known_named, unknown_of, points_of, too_many, loading_rows, differing, loading_of, loading, numbered_on, added}
-use Rattle.office_core.specs.History.{Restart, Load, Open, Ask, Reply, Noise, History, site_of, points}
+use Rattle.office_core.specs.History.{Restart, Load, Order, Open, Ask, Send, Reply, Noise, History, site_of, points, is_used}
 
 -- the form of a point, and a bit only in a table of bits
 abbrev pub IsFormed : Point → Type 0
@@ -247,12 +247,23 @@ added_formed n (Taken count new) formed = numbered_formed n new formed
 -- the points that were accepted are formed
 pub points_formed : (before : History) → All IsFormedRow (points before)
 points_formed [] = All-nil IsFormedRow
-points_formed (Load list ∷ before) =
-    let l = loading (site_of before) (points before) list in
-    All-append IsFormedRow (points before) (added (length (points before)) l) (points_formed before)
-    (added_formed (length (points before)) l (loading_formed (points before) _ (meaning_formed _ (records_of list))))
+points_formed (Load caller key list ∷ before) = by (is_used before (caller, key)) (points_formed before)
+  where
+    new : Loading
+    new = loading (site_of before) (points before) list
+
+    more : List PointRow
+    more = added (length (points before)) new
+
+    by : (b : Bool) → All IsFormedRow (points before) → All IsFormedRow (cond b (points before) (points before ++ more))
+    by true earlier = earlier
+    by false earlier =
+        All-append IsFormedRow (points before) more earlier
+        (added_formed (length (points before)) new (loading_formed (points before) _ (meaning_formed _ (records_of list))))
 points_formed (Restart site ∷ before) = points_formed before
+points_formed (Order caller key point value ∷ before) = points_formed before
 points_formed (Open line ∷ before) = points_formed before
 points_formed (Ask c device slot read ∷ before) = points_formed before
+points_formed (Send c number ∷ before) = points_formed before
 points_formed (Reply c n unit ∷ before) = points_formed before
 points_formed (Noise c frame ∷ before) = points_formed before

@@ -1,19 +1,20 @@
 -- What a reply gives.
-use Rattle.std.proofs.Common.{◌≡◌, ◌≢◌, ℕ, zero, suc, ◌+◌, Bool, true, false, cond, List, [], ◌∷◌, map, take, length, Some, None, Option, refl, arith, subst, sym}
-use Rattle.std.specs.Prelude.{filter}
+use Rattle.std.proofs.Common.{◌≡◌, ◌≢◌, ℕ, zero, suc, ◌+◌, Bool, true, false, cond, eqb, List, [], ◌∷◌, map, take, length, Some, None, Option, refl, arith, subst, sym}
+use Rattle.std.specs.Prelude.{filter, IfSome, ◌||◌}
 use Rattle.mb_pdu.specs.declared.reply.Reply.{Reply}
 use Rattle.mb_pdu.specs.declared.reply.Reply.TheVariants.{Bits, Registers, Written, Excepted}
 use Rattle.point_list.specs.declared.site.Site.{Site}
 use Rattle.read_planner.specs.declared.Read.{Read}
-use Rattle.poll_match.specs.declared.asked.Asked.{Asked}
-use Rattle.poll_match.specs.declared.asked.Asked.TheVariants as asked
+use Rattle.poll_book.specs.declared.rows.OrderState.TheVariants.{Refused}
+use Rattle.poll_book.specs.Orders.{is_waiting}
 use Rattle.poll_book.specs.declared.rows.PointRow.{PointRow}
 use Rattle.poll_book.specs.Tables.{Tables, new_rows}
 use Rattle.poll_book.specs.Changes.{AreNumbered, keyed}
 use Rattle.office_core.specs.declared.event.Arrival.TheVariants.{Recorded}
 use Rattle.office_core.specs.Sites.{device_name}
 use Rattle.office_core.specs.Cover.{covers, words_in, given_of, given_named, reply_cells}
-use Rattle.office_core.specs.Keeping.{Rises, with_given, rows_at, brought, arrival_of}
+use Rattle.office_core.specs.declared.cover.Asking.{Asking}
+use Rattle.office_core.specs.Keeping.{Rises, with_given, rows_at, brought_read, read_arrival, reply_state}
 use Rattle.office_core.proofs.Newness.{rises_from}
 
 -- the points that a read covers rise with their numbers
@@ -33,24 +34,37 @@ rises_given slot device read words n (point ∷ known) (suc k) numbered =
     by true r = let next = numbered.0 in (omega arith, subst (λ m. Rises m (keyed slot (map (λ (x : PointRow). (x, words_in read words x.point)) rest))) (sym next) r)
     by false r = rises_from n (n + 1) (keyed slot (map (λ (x : PointRow). (x, words_in read words x.point)) rest)) (omega arith) r
 
-pub rises_at : (site : Site) (known : List PointRow) (query : Asked) (reply : Reply) → AreNumbered 0 known → Rises 0 (rows_at site known query reply)
-rises_at site known (asked.Read unit_id place slot read before) reply numbered = by (device_name site place)
+pub rises_at : (site : Site) (known : List PointRow) (asking : Asking) (reply : Reply) → AreNumbered 0 known → Rises 0 (rows_at site known asking reply)
+rises_at site known asking reply numbered = by (device_name site asking.device)
   where
-    by : (o : Option (List ℕ)) → Rises 0 (keyed slot (given_named (take before known) o read (reply_cells reply)))
+    by : (o : Option (List ℕ)) → Rises 0 (keyed asking.slot (given_named (take asking.known known) o asking.read (reply_cells reply)))
     by None = tt
-    by (Some device) = rises_given slot device read (reply_cells reply) 0 known before numbered
+    by (Some device) = rises_given asking.slot device asking.read (reply_cells reply) 0 known asking.known numbered
 
 -- a reply that is no exception
-pub brought_rows : (site : Site) (known : List PointRow) (query : Asked) (reply : Reply) (kept : Tables) → ((code : ℕ) → reply ≢ Excepted code)
-    → brought site known query reply kept ≡ with_given (rows_at site known query reply) kept
-brought_rows site known query (Bits bits) kept normal = refl
-brought_rows site known query (Registers words) kept normal = refl
-brought_rows site known query Written kept normal = refl
-brought_rows site known query (Excepted code) kept normal = absurd (normal code refl)
+pub brought_rows : (site : Site) (known : List PointRow) (asking : Asking) (reply : Reply) (kept : Tables) → ((code : ℕ) → reply ≢ Excepted code)
+    → brought_read site known asking reply kept ≡ with_given (rows_at site known asking reply) kept
+brought_rows site known asking (Bits bits) kept normal = refl
+brought_rows site known asking (Registers words) kept normal = refl
+brought_rows site known asking Written kept normal = refl
+brought_rows site known asking (Excepted code) kept normal = absurd (normal code refl)
 
-pub arrival_rows : (site : Site) (known : List PointRow) (query : Asked) (reply : Reply) (kept : Tables) → ((code : ℕ) → reply ≢ Excepted code)
-    → arrival_of site known query reply kept ≡ Recorded (length (new_rows kept.readings (rows_at site known query reply)))
-arrival_rows site known query (Bits bits) kept normal = refl
-arrival_rows site known query (Registers words) kept normal = refl
-arrival_rows site known query Written kept normal = refl
-arrival_rows site known query (Excepted code) kept normal = absurd (normal code refl)
+pub arrival_rows : (site : Site) (known : List PointRow) (asking : Asking) (reply : Reply) (kept : Tables) → ((code : ℕ) → reply ≢ Excepted code)
+    → read_arrival site known asking reply kept ≡ Recorded (length (new_rows kept.readings (rows_at site known asking reply)))
+arrival_rows site known asking (Bits bits) kept normal = refl
+arrival_rows site known asking (Registers words) kept normal = refl
+arrival_rows site known asking Written kept normal = refl
+arrival_rows site known asking (Excepted code) kept normal = absurd (normal code refl)
+
+-- ---- a reply to a write
+
+-- no reply leaves an order waiting that it settles
+pub reply_settles : (reply : Reply) → IfSome (reply_state reply) (λ state. is_waiting state ≡ false)
+reply_settles (Bits bits) = refl
+reply_settles (Registers words) = refl
+reply_settles Written = refl
+reply_settles (Excepted code) = by (eqb code 5 || eqb code 6)
+  where
+    by : (b : Bool) → IfSome (cond b None (Some (Refused code))) (λ state. is_waiting state ≡ false)
+    by true = tt
+    by false = refl

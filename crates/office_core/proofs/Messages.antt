@@ -9,7 +9,7 @@ use Rattle.poll_match.specs.Window.{numbered}
 use Rattle.poll_match.proofs.Numbers.{numbered_at, numbered_is}
 use Rattle.office_core.specs.declared.event.Event.{Event}
 use Rattle.office_core.specs.declared.event.Event.TheVariants as event
-use Rattle.office_core.specs.Cover.{Question}
+use Rattle.office_core.specs.Queries.{Query, unit_id_of}
 use Rattle.office_core.specs.History.{Happening, Reply, Noise, History, open_line, asked}
 use Rattle.office_core.specs.Answers.{reply_frame}
 use Rattle.office_core.specs.Legal.{MayHappen, IsNoise, frame_answers}
@@ -21,7 +21,7 @@ abbrev IsTold : History → Happening → Event → Type 0
 IsTold before happening seen = MayHappen before happening × Sees before happening seen
 
 -- the number of a query is below their count
-within : (all : List Question) (n : ℕ) (q : Question) → slice_get all n ≡ Some q → n < length all
+within : (all : List Query) (n : ℕ) (q : Query) → slice_get all n ≡ Some q → n < length all
 within [] n q at = absurd (cc)
 within (first ∷ all) zero q at = omega arith
 within (first ∷ all) (suc n) q at = let below = within all n q at in omega arith
@@ -32,11 +32,11 @@ module _ (before : History) (conn : ℕ) (frame : Frame) (bytes : IsBytes frame.
   as_noise quiet = ((bytes, quiet), (refl, refl))
 
   -- a frame that answers the query that it names is seen as its reply
-  as_reply : (n : ℕ) (q : Question) → IsSome (open_line before conn) → numbered frame.transaction (length (asked before conn)) ≡ Some n
+  as_reply : (n : ℕ) (q : Query) → IsSome (open_line before conn) → numbered frame.transaction (length (asked before conn)) ≡ Some n
       → slice_get (asked before conn) n ≡ Some q → frame_answers q frame ≡ true → IsTold before (Reply conn n frame.unit) (event.Arrive conn frame)
   as_reply n q opened number query answers =
       let near = numbered_is frame.transaction (length (asked before conn)) n number in
-      let unit_id : frame.unit_id ≡ q.unit_id = eqb-true frame.unit_id q.unit_id (and_parts _ _ answers).0 in
+      let unit_id : frame.unit_id ≡ unit_id_of q = eqb-true frame.unit_id (unit_id_of q) (and_parts _ _ answers).0 in
       let seen : frame ≡ reply_frame n (Some q) frame.unit = λ i. record { transaction = sym near.2 i; unit_id = unit_id i; unit = frame.unit } in
       ((bytes, (opened, near.0, near.1)), (refl, seen ∙ ap (λ o. reply_frame n o frame.unit) (sym query)))
 
@@ -54,7 +54,7 @@ module _ (before : History) (conn : ℕ) (frame : Frame) (bytes : IsBytes frame.
       absurd (cc))
 
   -- and one that doesn't answer the query that it names
-  unanswering : (n : ℕ) (q : Question) → numbered frame.transaction (length (asked before conn)) ≡ Some n → slice_get (asked before conn) n ≡ Some q
+  unanswering : (n : ℕ) (q : Query) → numbered frame.transaction (length (asked before conn)) ≡ Some n → slice_get (asked before conn) n ≡ Some q
       → frame_answers q frame ≡ false → IsNoise before conn frame
   unanswering n q number query off = inr (λ m p at near same.
       let one : n ≡ m = same_Some n m (sym number ∙ numbered_at frame.transaction (length (asked before conn)) m (within (asked before conn) m p at) near same) in
@@ -62,7 +62,7 @@ module _ (before : History) (conn : ℕ) (frame : Frame) (bytes : IsBytes frame.
       ap (λ x. frame_answers x frame) (sym question) ∙ off)
 
   -- a frame that names a query is told by whether it answers it
-  told_by : (n : ℕ) (q : Question) → IsSome (open_line before conn) → numbered frame.transaction (length (asked before conn)) ≡ Some n
+  told_by : (n : ℕ) (q : Query) → IsSome (open_line before conn) → numbered frame.transaction (length (asked before conn)) ≡ Some n
       → slice_get (asked before conn) n ≡ Some q → (b : Bool) → frame_answers q frame ≡ b
       → IsTold before (cond b (Reply conn n frame.unit) (Noise conn frame)) (event.Arrive conn frame)
   told_by n q opened number query true answers = as_reply n q opened number query answers
@@ -70,7 +70,7 @@ module _ (before : History) (conn : ℕ) (frame : Frame) (bytes : IsBytes frame.
 
   -- a frame that names a number is told by the query there
   answering_told : (n : ℕ) → IsSome (open_line before conn) → numbered frame.transaction (length (asked before conn)) ≡ Some n
-      → (o : Option Question) → slice_get (asked before conn) n ≡ o → IsTold before (answering conn frame n o) (event.Arrive conn frame)
+      → (o : Option Query) → slice_get (asked before conn) n ≡ o → IsTold before (answering conn frame n o) (event.Arrive conn frame)
   answering_told n opened number None none = as_noise (unasked n number none)
   answering_told n opened number (Some q) query = told_by n q opened number query (frame_answers q frame) refl
 
@@ -87,9 +87,11 @@ module _ (before : History) (conn : ℕ) (frame : Frame) (bytes : IsBytes frame.
 
 -- a message may happen as what it is told as, and is seen so
 told_so : (before : History) (seen : Event) → IsMessage seen → IsTold before (happening_of before seen) seen
-told_so before (event.Load list) bytes = (bytes, refl)
+told_so before (event.Load caller key list) good = (good, (refl, refl, refl))
+told_so before (event.Order caller key point value) good = (good, (refl, refl, refl, refl))
 told_so before (event.Open line) bytes = (bytes, refl)
 told_so before (event.Ask conn device slot read) bounds = (bounds, (refl, refl, refl, refl))
+told_so before (event.Send conn number) bounds = (bounds, (refl, refl))
 told_so before (event.Arrive conn frame) bytes = arriving_told before conn frame bytes (open_line before conn) refl
 told_so before event.Restart never = absurd never
 

@@ -17,7 +17,7 @@ use Rattle.office_core.specs.declared.error.OfficeError.TheVariants as error
 use Rattle.office_core.specs.declared.event.EventAnswer.{EventAnswer}
 use Rattle.office_core.specs.declared.event.EventAnswer.TheVariants as answer
 use Rattle.office_core.specs.Errors.{refused_by}
-use Rattle.office_core.specs.Cover.{Question, asked_of, fits}
+use Rattle.office_core.specs.Queries.{Query, asked_of, unit_id_of, fits}
 use Rattle.office_core.specs.History.{History, points, readings, open_line, asked, is_answered}
 use Rattle.office_core.specs.Answers.{unit_answer, query_answer, number_answer, frame_answer, reply_frame}
 use Rattle.office_core.specs.Legal.{IsTimely}
@@ -26,7 +26,7 @@ use Rattle.office_core.proofs.Queries.{length-queries, get_query}
 
 -- ---- the refusal, by the history
 
-abbrev pub named_by : History → ℕ → ℕ → Option Question → Frame → Option MatchError
+abbrev pub named_by : History → ℕ → ℕ → Option Query → Frame → Option MatchError
 named_by before conn n None frame = Some matching.NoQuery
 named_by before conn n (Some q) frame = query_refusal (record { asked = asked_of q; settled = is_answered before conn n }) frame
 
@@ -38,8 +38,8 @@ abbrev pub line_by : History → ℕ → Option ℕ → Frame → Option MatchEr
 line_by before conn None frame = Some matching.NoConnection
 line_by before conn (Some line) frame = number_by before conn (numbered frame.transaction (length (asked before conn))) frame
 
-named_is : (before : History) (conn n : ℕ) (o : Option Question) (frame : Frame)
-    → named_refusal (option_map (λ (q : Question). record { asked = asked_of q; settled = is_answered before conn n }) o) frame ≡ named_by before conn n o frame
+named_is : (before : History) (conn n : ℕ) (o : Option Query) (frame : Frame)
+    → named_refusal (option_map (λ (q : Query). record { asked = asked_of q; settled = is_answered before conn n }) o) frame ≡ named_by before conn n o frame
 named_is before conn n None frame = refl
 named_is before conn n (Some q) frame = refl
 
@@ -79,11 +79,11 @@ pub refused_told : (before : History) (conn : ℕ) (frame : Frame) (e : MatchErr
     → frame_answer before conn frame ≡ answer.Refused (refused_by e)
 refused_told before conn frame e refused = by (open_line before conn) (sym (refusal_is before conn frame) ∙ refused)
   where
-    by_query : (n : ℕ) (o : Option Question) → named_by before conn n o frame ≡ Some e
+    by_query : (n : ℕ) (o : Option Query) → named_by before conn n o frame ≡ Some e
         → query_answer (readings before) (points before) (is_answered before conn n) o frame ≡ answer.Refused (refused_by e)
     by_query n None h = ap (λ x. answer.Refused (refused_by x)) (same_Some matching.NoQuery e h)
     by_query n (Some q) h =
-        refused_named (not (eqb frame.unit_id q.unit_id)) (is_answered before conn n) (not (fits q frame.unit)) (unit_answer (readings before) (points before) q frame.unit) e h
+        refused_named (not (eqb frame.unit_id (unit_id_of q))) (is_answered before conn n) (not (fits q frame.unit)) (unit_answer (readings before) (points before) q frame.unit) e h
 
     by_number : (o : Option ℕ) → number_by before conn o frame ≡ Some e → number_answer before conn o frame ≡ answer.Refused (refused_by e)
     by_number None h = ap (λ x. answer.Refused (refused_by x)) (same_Some matching.NoQuery e h)
@@ -97,12 +97,12 @@ refused_told before conn frame e refused = by (open_line before conn) (sym (refu
 -- ---- a frame that is accepted
 
 -- it names a query of an open connection, which isn't answered, and its unit answers it
-pub record Accepted (before : History) (conn : ℕ) (frame : Frame) (n : ℕ) (q : Question) : Type 0 where
+pub record Accepted (before : History) (conn : ℕ) (frame : Frame) (n : ℕ) (q : Query) : Type 0 where
   pub line : ℕ
   pub is_open : open_line before conn ≡ Some line
   pub number : numbered frame.transaction (length (asked before conn)) ≡ Some n
   pub query : slice_get (asked before conn) n ≡ Some q
-  pub unit_id : eqb frame.unit_id q.unit_id ≡ true
+  pub unit_id : eqb frame.unit_id (unit_id_of q) ≡ true
   pub fresh : is_answered before conn n ≡ false
   pub fit : fits q frame.unit ≡ true
 
@@ -118,22 +118,22 @@ off true e = refl
 off false e = absurd (cc)
 
 -- what the matcher found is so in the history
-pub accepted : (before : History) (conn : ℕ) (frame : Frame) → refusal (open_of before conn) frame ≡ None → (n : ℕ) × ((q : Question) × Accepted before conn frame n q)
+pub accepted : (before : History) (conn : ℕ) (frame : Frame) → refusal (open_of before conn) frame ≡ None → (n : ℕ) × ((q : Query) × Accepted before conn frame n q)
 accepted before conn frame none = by (open_line before conn) refl (sym (refusal_is before conn frame) ∙ none)
   where
     by_query : (line n : ℕ) → open_line before conn ≡ Some line → numbered frame.transaction (length (asked before conn)) ≡ Some n
-        → (o : Option Question) → slice_get (asked before conn) n ≡ o → named_by before conn n o frame ≡ None → (m : ℕ) × ((q : Question) × Accepted before conn frame m q)
+        → (o : Option Query) → slice_get (asked before conn) n ≡ o → named_by before conn n o frame ≡ None → (m : ℕ) × ((q : Query) × Accepted before conn frame m q)
     by_query line n l m None at h = absurd (cc)
     by_query line n l m (Some q) at h =
-        let p = passed (not (eqb frame.unit_id q.unit_id)) (is_answered before conn n) (not (fits q frame.unit)) h in
-        (n, (q, record { line = line; is_open = l; number = m; query = at; unit_id = off (eqb frame.unit_id q.unit_id) p.0; fresh = p.1; fit = off (fits q frame.unit) p.2 }))
+        let p = passed (not (eqb frame.unit_id (unit_id_of q))) (is_answered before conn n) (not (fits q frame.unit)) h in
+        (n, (q, record { line = line; is_open = l; number = m; query = at; unit_id = off (eqb frame.unit_id (unit_id_of q)) p.0; fresh = p.1; fit = off (fits q frame.unit) p.2 }))
 
     by_number : (line : ℕ) → open_line before conn ≡ Some line → (o : Option ℕ) → numbered frame.transaction (length (asked before conn)) ≡ o
-        → number_by before conn o frame ≡ None → (m : ℕ) × ((q : Question) × Accepted before conn frame m q)
+        → number_by before conn o frame ≡ None → (m : ℕ) × ((q : Query) × Accepted before conn frame m q)
     by_number line l None m h = absurd (cc)
     by_number line l (Some n) m h = by_query line n l m (slice_get (asked before conn) n) refl h
 
-    by : (o : Option ℕ) → open_line before conn ≡ o → line_by before conn o frame ≡ None → (m : ℕ) × ((q : Question) × Accepted before conn frame m q)
+    by : (o : Option ℕ) → open_line before conn ≡ o → line_by before conn o frame ≡ None → (m : ℕ) × ((q : Query) × Accepted before conn frame m q)
     by None l h = absurd (cc)
     by (Some line) l h = by_number line l (numbered frame.transaction (length (asked before conn))) refl h
 
@@ -144,17 +144,17 @@ chosen false false true a b c told p q r = absurd (cc)
 chosen false false false a b c told p q r = refl
 
 -- and is answered as its unit
-pub accepted_told : (before : History) (conn : ℕ) (frame : Frame) (n : ℕ) (q : Question) → Accepted before conn frame n q
+pub accepted_told : (before : History) (conn : ℕ) (frame : Frame) (n : ℕ) (q : Query) → Accepted before conn frame n q
     → frame_answer before conn frame ≡ unit_answer (readings before) (points before) q frame.unit
 accepted_told before conn frame n q a =
     ap (λ o. cond (is_none o) (answer.Refused error.NoConnection) (number_answer before conn (numbered frame.transaction (length (asked before conn))) frame)) a.is_open
     ∙ ap (λ o. number_answer before conn o frame) a.number
     ∙ ap (λ o. query_answer (readings before) (points before) (is_answered before conn n) o frame) a.query
-    ∙ chosen (not (eqb frame.unit_id q.unit_id)) (is_answered before conn n) (not (fits q frame.unit)) (answer.Refused error.WrongUnit) (answer.Refused error.Repeat)
+    ∙ chosen (not (eqb frame.unit_id (unit_id_of q))) (is_answered before conn n) (not (fits q frame.unit)) (answer.Refused error.WrongUnit) (answer.Refused error.Repeat)
     (answer.Refused error.WrongReply) (unit_answer (readings before) (points before) q frame.unit) (ap not a.unit_id) a.fresh (ap not a.fit)
 
 -- what is found of it is the query's
-pub found_is : (before : History) (conn : ℕ) (frame : Frame) (n : ℕ) (q : Question) (number : ℕ) (query : Asked) (reply : Reply) → Accepted before conn frame n q
+pub found_is : (before : History) (conn : ℕ) (frame : Frame) (n : ℕ) (q : Query) (number : ℕ) (query : Asked) (reply : Reply) → Accepted before conn frame n q
     → Names (open_of before conn) frame number query reply → (number ≡ n) × (query ≡ asked_of q) × spells_reply (request_of query) reply frame.unit
 found_is before conn frame n q number query reply a names =
     let all = queries before conn in
@@ -165,7 +165,7 @@ found_is before conn frame n q number query reply a names =
     let near = numbered_is frame.transaction (length (asked before conn)) n a.number in
     let le = near.1 in
     let there = query_kept (open_one conn all a.line) all n refl refl (omega (arith, count, le)) ∙ get_query before conn n
-    ∙ ap (option_map (λ (p : Question). record { asked = asked_of p; settled = is_answered before conn n })) a.query in
+    ∙ ap (option_map (λ (p : Query). record { asked = asked_of p; settled = is_answered before conn n })) a.query in
     let found = sym names.query ∙ (λ i. query_at (on i) (sym same i)) ∙ there in
     (sym same, ap (λ (m : Matched). m.asked) (same_Some (record { asked = query; settled = false }) (record { asked = asked_of q; settled = is_answered before conn n }) found), names.spelled)
 

@@ -1,19 +1,29 @@
 -- What is written is new.
 use Rattle.std.proofs.Common.{◌≡◌, ◌⊎◌, inl, inr, ℕ, ◌+◌, ◌≤◌, Bool, true, false, cond, List, [], ◌∷◌, ◌++◌, length, Some, None, Option, Result, Ok, Err, refl, sym, ap, ◌∙◌, arith, subst}
-use Rattle.std.specs.Prelude.{filter, is_none, unwrap_or, OnOk, OnErr, IfOk, MatchResult}
+use Rattle.std.specs.Prelude.{filter, is_none, OnOk, OnErr, IfOk, MatchResult}
 use Rattle.std.specs.Result.{IsErr}
 use Rattle.std.specs.Ordering.{eq_by_cmp}
 use Rattle.std.proofs.lemmas.List.{append-nil}
 use Rattle.std.proofs.lemmas.Map.Views.{tells_apart}
+use Rattle.std.proofs.lemmas.Option.{same_Some}
 use Rattle.point_list.specs.declared.point.Point.{Point}
 use Rattle.poll_book.specs.declared.rows.PointRow.{PointRow}
 use Rattle.poll_book.specs.declared.rows.Reading.{Reading}
+use Rattle.poll_book.specs.declared.rows.ReadingRow.{ReadingRow}
+use Rattle.poll_book.specs.declared.rows.Setting.{Setting}
+use Rattle.poll_book.specs.declared.rows.SettingRow.{SettingRow}
+use Rattle.poll_book.specs.declared.rows.OrderState.{OrderState}
+use Rattle.poll_book.specs.declared.rows.OrderState.TheVariants.{Waiting, Done, Refused}
 use Rattle.poll_book.specs.declared.rows.Change.{Change}
+use Rattle.poll_book.specs.declared.requests.RequestRow.{RequestRow}
+use Rattle.poll_book.specs.Orders.{Settings, is_waiting, last_order, setting_at, with_setting}
+use Rattle.poll_book.specs.Requests.{request_at, with_request}
 use Rattle.poll_book.specs.Tables.{Tables, Within, Key, key_cmp, Readings, reading_at, new_rows, with_rows}
-use Rattle.poll_book.specs.Changes.{applied, as_rows, AreNumbered, AreNew, IsNew}
+use Rattle.poll_book.specs.Changes.{applied, as_rows, with_order, AreNumbered, AreNew, IsNew, IsNextOrSettled, IsNextOrSettledAs}
 use Rattle.poll_book.proofs.Tabled.{exact_keys}
 use Rattle.office_core.specs.Loads.{numbered_on}
-use Rattle.office_core.specs.Keeping.{Endures, IsCounted, Rises, with_given}
+use Rattle.office_core.specs.Orders.{Ordering, Refused as NoOrder, Taken as ATaken, ordering_row, settle, settle_at, waiting_at, with_ordered}
+use Rattle.office_core.specs.Keeping.{Endures, IsCounted, Rises, asked_change, no_change, with_given, with_state}
 
 -- ---- points
 
@@ -68,45 +78,127 @@ rises_new table n (row ∷ rest) r = by (is_none (reading_at table row.0)) refl 
 
 -- ---- changes
 
+still_numbered : (kept : Tables) → IsCounted kept → AreNumbered 0 (kept.points ++ [])
+still_numbered kept counted = subst (AreNumbered 0) (sym (append-nil kept.points)) counted
+
 -- a change that only adds readings
-pub new_readings : (change : Change) (kept : Tables) (given : Readings) → change.points ≡ [] → as_rows change.readings ≡ new_rows kept.readings given
-    → IsCounted kept → Rises 0 given → IsNew change kept
-new_readings change kept given points rows counted rises = (
-  subst (AreNumbered 0) (sym (append-nil kept.points) ∙ ap (λ l. kept.points ++ l) (sym points)) counted,
-  subst (AreNew kept.readings) (sym rows) (rises_new kept.readings 0 given rises),
-)
+pub new_readings : (rows : List ReadingRow) (kept : Tables) (given : Readings) → as_rows rows ≡ new_rows kept.readings given
+    → IsCounted kept → Rises 0 given → IsNew (record no_change { readings = rows }) kept
+new_readings rows kept given are counted rises = record {
+  points = still_numbered kept counted;
+  readings = subst (AreNew kept.readings) (sym are) (rises_new kept.readings 0 given rises);
+  setting = tt;
+  request = tt;
+}
 
-pub applied_readings : (change : Change) (kept : Tables) (given : Readings) → change.points ≡ [] → as_rows change.readings ≡ new_rows kept.readings given
-    → change.connections ≡ None → applied change kept ≡ with_given given kept
-applied_readings change kept given points rows number =
-    (λ i. record { points = kept.points ++ points i; readings = with_rows (rows i) kept.readings; connections = unwrap_or (number i) kept.connections })
-    ∙ ap (λ l. record kept { points = l; readings = with_rows (new_rows kept.readings given) kept.readings }) (append-nil kept.points)
-
--- a change that only adds points
-pub new_points : (change : Change) (kept : Tables) (more : List PointRow) → change.points ≡ more → change.readings ≡ [] → AreNumbered (length kept.points) more
-    → IsCounted kept → IsNew change kept
-new_points change kept more points rows numbered counted = (
-  subst (λ l. AreNumbered 0 (kept.points ++ l)) (sym points) (numbered-append 0 (length kept.points) kept.points more (omega arith) counted numbered),
-  subst (λ l. AreNew kept.readings (as_rows l)) (sym rows) tt,
-)
-
-pub applied_points : (change : Change) (kept : Tables) (more : List PointRow) → change.points ≡ more → change.readings ≡ [] → change.connections ≡ None
-    → applied change kept ≡ record kept { points = kept.points ++ more }
-applied_points change kept more points rows number =
-    λ i. record { points = kept.points ++ points i; readings = with_rows (as_rows (rows i)) kept.readings; connections = unwrap_or (number i) kept.connections }
+pub applied_readings : (rows : List ReadingRow) (kept : Tables) (given : Readings) → as_rows rows ≡ new_rows kept.readings given
+    → applied (record no_change { readings = rows }) kept ≡ with_given given kept
+applied_readings rows kept given are = λ i. record kept { points = append-nil kept.points i; readings = with_rows (are i) kept.readings }
 
 -- a change that only counts a connection
-pub new_connection : (change : Change) (kept : Tables) → change.points ≡ [] → change.readings ≡ [] → IsCounted kept → IsNew change kept
-new_connection change kept points rows counted = (
-  subst (AreNumbered 0) (sym (append-nil kept.points) ∙ ap (λ l. kept.points ++ l) (sym points)) counted,
-  subst (λ l. AreNew kept.readings (as_rows l)) (sym rows) tt,
-)
+pub new_connection : (n : ℕ) (kept : Tables) → IsCounted kept → IsNew (record no_change { connections = Some n }) kept
+new_connection n kept counted = record { points = still_numbered kept counted; readings = tt; setting = tt; request = tt }
 
-pub applied_connection : (change : Change) (kept : Tables) (n : ℕ) → change.points ≡ [] → change.readings ≡ [] → change.connections ≡ Some n
-    → applied change kept ≡ record kept { connections = n }
-applied_connection change kept n points rows number =
-    (λ i. record { points = kept.points ++ points i; readings = with_rows (as_rows (rows i)) kept.readings; connections = unwrap_or (number i) kept.connections })
-    ∙ ap (λ l. record kept { points = l; connections = n }) (append-nil kept.points)
+pub applied_connection : (n : ℕ) (kept : Tables) → applied (record no_change { connections = Some n }) kept ≡ record kept { connections = n }
+applied_connection n kept = λ i. record kept { points = append-nil kept.points i; connections = n }
+
+-- a change that only settles an order which waits
+abbrev pub settling : ℕ → Setting → OrderState → Change
+settling order setting state = record no_change { setting = Some (record { number = order; point = setting.point; words = setting.words; state = state }) }
+
+waits_as : (state : OrderState) → is_waiting state ≡ true → state ≡ Waiting
+waits_as Waiting e = refl
+waits_as Done e = absurd (cc)
+waits_as (Refused code) e = absurd (cc)
+
+pub new_state : (order : ℕ) (setting : Setting) (state : OrderState) (kept : Tables) → setting_at kept.settings order ≡ Some setting → is_waiting setting.state ≡ true
+    → is_waiting state ≡ false → IsCounted kept → IsNew (settling order setting state) kept
+new_state order setting state kept there waits settled counted = record {
+  points = still_numbered kept counted;
+  readings = tt;
+  setting = by (is_waiting state) settled;
+  request = tt;
+}
+  where
+    by : (b : Bool) → b ≡ false → IsNextOrSettledAs b kept.settings (record { number = order; point = setting.point; words = setting.words; state = state })
+    by true e = absurd (cc)
+    by false e = there ∙ ap (λ (s : OrderState). Some (record setting { state = s })) (waits_as setting.state waits)
+
+pub applied_state : (order : ℕ) (setting : Setting) (state : OrderState) (kept : Tables) → setting_at kept.settings order ≡ Some setting → is_waiting setting.state ≡ true
+    → applied (settling order setting state) kept ≡ with_state order (Some state) kept
+applied_state order setting state kept there waits =
+    let put = with_setting order (record setting { state = state }) kept.settings in
+    let settled : settle order (Some state) kept.settings ≡ put =
+    ap (λ o. settle_at order state o kept.settings) there ∙ ap (λ b. cond b put kept.settings) waits in
+    λ i. record kept { points = append-nil kept.points i; settings = sym settled i }
+
+-- an order that doesn't wait, or isn't there, isn't settled
+pub settled_not : (order : ℕ) (state : OrderState) (table : Settings) → waiting_at (setting_at table order) ≡ None → settle order (Some state) table ≡ table
+settled_not order state table none = by (setting_at table order) none
+  where
+    by_wait : (setting : Setting) (b : Bool) → cond b (Some setting) None ≡ None → cond b (with_setting order (record setting { state = state }) table) table ≡ table
+    by_wait setting true e = absurd (cc)
+    by_wait setting false e = refl
+
+    by : (o : Option Setting) → waiting_at o ≡ None → settle_at order state o table ≡ table
+    by None e = refl
+    by (Some setting) e = by_wait setting (is_waiting setting.state) e
+
+-- and one that waits is there
+pub waiting_there : (o : Option Setting) (setting : Setting) → Some setting ≡ waiting_at o → (o ≡ Some setting) × (is_waiting setting.state ≡ true)
+waiting_there None setting e = absurd (cc)
+waiting_there (Some found) setting e = by (is_waiting found.state) refl e
+  where
+    by : (b : Bool) → is_waiting found.state ≡ b → Some setting ≡ cond b (Some found) None → (Some found ≡ Some setting) × (is_waiting setting.state ≡ true)
+    by true waits e = (sym e, ap (λ (s : Setting). is_waiting s.state) (same_Some setting found e) ∙ waits)
+    by false waits e = absurd (cc)
+
+-- a change that keeps a request under a key that wasn't used, with points or a setting
+new_request : (points : List PointRow) (setting : Option SettingRow) (request : RequestRow) (kept : Tables) → IsCounted kept → AreNumbered (length kept.points) points
+    → IsNextOrSettled kept.settings setting → request_at kept.requests (request.caller, request.key) ≡ None → IsNew (asked_change points setting request) kept
+new_request points setting request kept counted numbered next unused = record {
+  points = numbered-append 0 (length kept.points) kept.points points (omega arith) counted numbered;
+  readings = tt;
+  setting = next;
+  request = unused;
+}
+
+-- the row of an order is the next one
+next_order : (table : Settings) (orders : ℕ) (ordering : Ordering) → orders ≡ last_order table → IsNextOrSettled table (ordering_row orders ordering)
+next_order table orders (NoOrder fault) same = tt
+next_order table orders (ATaken point words) same = ap (λ n. n + 1) same
+
+-- the change of a list
+pub new_loaded : (more : List PointRow) (request : RequestRow) (change : Change) (kept : Tables) → change ≡ asked_change more None request → IsCounted kept
+    → AreNumbered (length kept.points) more → request_at kept.requests (request.caller, request.key) ≡ None → IsNew change kept
+new_loaded more request change kept is counted numbered unused = subst (λ x. IsNew x kept) (sym is) (new_request more None request kept counted numbered tt unused)
+
+pub applied_loaded : (more : List PointRow) (request : RequestRow) (change : Change) (kept : Tables) → change ≡ asked_change more None request
+    → applied change kept ≡ record kept { points = kept.points ++ more; requests = with_request (request.caller, request.key) (record { body = request.body; outcome = request.outcome }) kept.requests }
+applied_loaded more request change kept is = ap (λ x. applied x kept) is
+
+ordered_table : (table : Settings) (ordering : Ordering) → with_order (ordering_row (last_order table) ordering) table ≡ with_ordered ordering table
+ordered_table table (NoOrder fault) = refl
+ordered_table table (ATaken point words) = refl
+
+-- the change of an order
+pub new_ordered : (ordering : Ordering) (request : RequestRow) (change : Change) (kept : Tables) → change ≡ asked_change [] (ordering_row (last_order kept.settings) ordering) request
+    → IsCounted kept → request_at kept.requests (request.caller, request.key) ≡ None → IsNew change kept
+new_ordered ordering request change kept is counted unused =
+    subst (λ x. IsNew x kept) (sym is) (new_request [] (ordering_row (last_order kept.settings) ordering) request kept counted tt (next_order kept.settings (last_order kept.settings) ordering refl) unused)
+
+pub applied_ordered : (ordering : Ordering) (request : RequestRow) (change : Change) (kept : Tables) → change ≡ asked_change [] (ordering_row (last_order kept.settings) ordering) request
+    → applied change kept ≡ record kept {
+      settings = with_ordered ordering kept.settings;
+      requests = with_request (request.caller, request.key) (record { body = request.body; outcome = request.outcome }) kept.requests;
+    }
+applied_ordered ordering request change kept is =
+    ap (λ x. applied x kept) is
+    ∙ (λ i. record kept {
+      points = append-nil kept.points i;
+      settings = ordered_table kept.settings ordering i;
+      requests = with_request (request.caller, request.key) (record { body = request.body; outcome = request.outcome }) kept.requests;
+    })
 
 -- ---- what a crash may leave
 

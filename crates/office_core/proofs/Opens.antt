@@ -10,10 +10,12 @@ use Rattle.poll_book.specs.Tables.{Tables}
 use Rattle.office_core.specs.declared.error.OfficeError.{OfficeError}
 use Rattle.office_core.specs.declared.event.EventAnswer.TheVariants as answer
 use Rattle.office_core.specs.Sites.{line_place}
-use Rattle.office_core.specs.History.{Restart, Load, Open, Ask, Reply, Noise, History, tables, points, site_of, connections, open_line, open_fault, same_line, line_after, asked, ask_fault}
+use Rattle.office_core.specs.Orders.{send_fault}
+use Rattle.office_core.specs.History.{Restart, Load, Order, Open, Ask, Send, Reply, Noise, History, tables, points, site_of, connections, open_line, open_fault, same_line, line_after, asked, settings, ask_fault}
 use Rattle.office_core.specs.Answers.{answer_of, refused_or}
 use Rattle.office_core.specs.Standing.{queries_from, queries, open_one, open_of, StandsFor, IsFormer, Closes}
 use Rattle.office_core.proofs.Asks.{ask_made, asked_not}
+use Rattle.office_core.proofs.Sends.{send_made, sent_not}
 use Rattle.office_core.proofs.Queries.{still_open}
 
 -- whether an Open makes a connection
@@ -28,7 +30,8 @@ and_made false n m h = h
 pub opened : (before : History) (conn : ℕ) → IsSome (open_line before conn) → conn ≤ connections before
 opened [] conn some = absurd (cc)
 opened (Restart site ∷ before) conn some = absurd (cc)
-opened (Load list ∷ before) conn some = opened before conn some
+opened (Load caller key list ∷ before) conn some = opened before conn some
+opened (Order caller key point value ∷ before) conn some = opened before conn some
 opened (Open line ∷ before) conn some =
     by (open_made before line) (eqb conn (connections before + 1)) (same_line (line_place (site_of before) line) (open_line before conn)) (opened before conn) refl some
   where
@@ -39,6 +42,7 @@ opened (Open line ∷ before) conn some =
     by true false false earlier is s = let was = earlier s in omega arith
     by false c d earlier is s = earlier s
 opened (Ask c device slot read ∷ before) conn some = opened before conn some
+opened (Send c number ∷ before) conn some = opened before conn some
 opened (Reply c n unit ∷ before) conn some = opened before conn some
 opened (Noise c frame ∷ before) conn some = opened before conn some
 
@@ -46,7 +50,8 @@ opened (Noise c frame ∷ before) conn some = opened before conn some
 pub unopened : (before : History) (conn : ℕ) → connections before < conn → asked before conn ≡ []
 unopened [] conn h = refl
 unopened (Restart site ∷ before) conn h = unopened before conn h
-unopened (Load list ∷ before) conn h = unopened before conn h
+unopened (Load caller key list ∷ before) conn h = unopened before conn h
+unopened (Order caller key point value ∷ before) conn h = unopened before conn h
 unopened (Open line ∷ before) conn h =
     let more = and_made (open_made before line) (connections before) (connections before) (omega arith) in
     unopened before conn (omega arith)
@@ -56,6 +61,13 @@ unopened (Ask c device slot read ∷ before) conn h =
     never : (b : Bool) (o : Option ℕ) → eqb c conn ≡ b → open_line before c ≡ o → (b && ask_made before c device read) ≡ false
     never false o at line = refl
     never true None at line = ap (λ l. is_none (ask_fault l (site_of before) (points before) (length (asked before c)) device read)) line
+    never true (Some l) at line = let same : c ≡ conn = eqb-true c conn at in let was = opened before c (ap is_some line) in absurd (omega arith)
+unopened (Send c number ∷ before) conn h =
+    sent_not before c number conn (never (eqb c conn) (open_line before c) refl refl) ∙ unopened before conn h
+  where
+    never : (b : Bool) (o : Option ℕ) → eqb c conn ≡ b → open_line before c ≡ o → (b && send_made before c number) ≡ false
+    never false o at line = refl
+    never true None at line = ap (λ l. is_none (send_fault l (site_of before) (points before) (settings before) (length (asked before c)) number)) line
     never true (Some l) at line = let same : c ≡ conn = eqb-true c conn at in let was = opened before c (ap is_some line) in absurd (omega arith)
 unopened (Reply c n unit ∷ before) conn h = unopened before conn h
 unopened (Noise c frame ∷ before) conn h = unopened before conn h
@@ -74,7 +86,8 @@ lines_after before name line made place d =
 pub one_a_line : (before : History) (a b line : ℕ) → open_line before a ≡ Some line → open_line before b ≡ Some line → a ≡ b
 one_a_line [] a b line x y = absurd (cc)
 one_a_line (Restart site ∷ before) a b line x y = absurd (cc)
-one_a_line (Load list ∷ before) a b line x y = one_a_line before a b line x y
+one_a_line (Load caller key list ∷ before) a b line x y = one_a_line before a b line x y
+one_a_line (Order caller key point value ∷ before) a b line x y = one_a_line before a b line x y
 one_a_line (Open name ∷ before) a b line x y =
     by (open_made before name) (eqb a (connections before + 1)) (eqb b (connections before + 1)) refl refl (one_a_line before a b line) x y
   where
@@ -100,6 +113,7 @@ one_a_line (Open name ∷ before) a b line x y =
     by true false true p q earlier x y = absurd (not_new y (open_line before a) x)
     by true false false p q earlier x y = earlier (left_open (open_line before a) x).0 (left_open (open_line before b) y).0
 one_a_line (Ask c device slot read ∷ before) a b line x y = one_a_line before a b line x y
+one_a_line (Send c number ∷ before) a b line x y = one_a_line before a b line x y
 one_a_line (Reply c n unit ∷ before) a b line x y = one_a_line before a b line x y
 one_a_line (Noise c frame ∷ before) a b line x y = one_a_line before a b line x y
 

@@ -14,10 +14,13 @@ use Rattle.office_core.specs.declared.error.OfficeError.{OfficeError}
 use Rattle.office_core.specs.declared.site.Target.{Target}
 use Rattle.office_core.specs.Sites.{target, target_in, target_at, device_name, device_place, line_place}
 use Rattle.office_core.specs.Cover.{Question}
-use Rattle.office_core.specs.History.{Restart, Load, Open, Ask, Reply, Noise, History, points, site_of, connections, open_line, same_line, asked, ask_fault, ask_fault_on, question_to}
+use Rattle.office_core.specs.Queries.{Query, Reads, Writes}
+use Rattle.office_core.specs.History.{Restart, Load, Order, Open, Ask, Send, Reply, Noise, History, points, site_of, connections, open_line, same_line, asked, ask_fault, ask_fault_on, question_to}
 use Rattle.office_core.proofs.Finding.{got}
 use Rattle.office_core.proofs.Asks.{asks}
+use Rattle.office_core.proofs.Sends.{send_made, sends}
 use Rattle.office_core.proofs.Opens.{open_made, unopened}
+use Rattle.office_core.proofs.Queries.{same_read}
 
 same_bytes : (a b : List ℕ) → bytes_eq a b ≡ true → a ≡ b
 same_bytes a b e = (bytes_eq-Decides a b).0 e
@@ -51,11 +54,18 @@ question_named site known line made points device slot read fault = by (target s
     by None at e = absurd (cc)
     by (Some to) at e = target_named site device to at
 
--- in the site in force each query of an open connection has its device at its place
-pub placed : (before : History) (c n : ℕ) (q : Question) → IsSome (open_line before c) → slice_get (asked before c) n ≡ Some q → device_name (site_of before) q.place ≡ Some q.device
+old_or_new : (xs : List Query) (new q : Query) (k : ℕ) → slice_get (xs ++ new ∷ []) k ≡ Some q → (slice_get xs k ≡ Some q) ⊎ (new ≡ q)
+old_or_new [] new q zero e = inr (same_Some new q e)
+old_or_new [] new q (suc k) e = absurd (cc)
+old_or_new (x ∷ xs) new q zero e = inl e
+old_or_new (x ∷ xs) new q (suc k) e = old_or_new xs new q k e
+
+-- in the site in force each read of an open connection has its device at its place
+pub placed : (before : History) (c n : ℕ) (q : Question) → IsSome (open_line before c) → slice_get (asked before c) n ≡ Some (Reads q) → device_name (site_of before) q.place ≡ Some q.device
 placed [] c n q some at = absurd (cc)
 placed (Restart site ∷ before) c n q some at = absurd (cc)
-placed (Load list ∷ before) c n q some at = placed before c n q some at
+placed (Load caller key list ∷ before) c n q some at = placed before c n q some at
+placed (Order caller key point value ∷ before) c n q some at = placed before c n q some at
 placed (Open name ∷ before) c n q some at =
     by (open_made before name) (eqb c (connections before + 1)) (same_line (line_place (site_of before) name) (open_line before c)) refl (λ s. placed before c n q s at) some
   where
@@ -65,7 +75,7 @@ placed (Open name ∷ before) c n q some at =
     by true true y is earlier s =
         let new : c ≡ connections before + 1 = eqb-true c (connections before + 1) is in
         let none : asked before c ≡ [] = unopened before c (omega (arith, new)) in
-        let e : None ≡ Some q = ap (λ (l : List Question). slice_get l n) (sym none) ∙ at in
+        let e : None ≡ Some (Reads q) = ap (λ (l : List Query). slice_get l n) (sym none) ∙ at in
         absurd (cc)
     by true false true is earlier s = absurd (cc)
     by true false false is earlier s = earlier s
@@ -82,25 +92,28 @@ placed (Ask conn device slot read ∷ before) c n q some at =
         by_line None e = absurd (cc)
         by_line (Some line) e = question_named (site_of before) (length (points before)) line (length (asked before conn)) (points before) device slot read e
 
-    old_or_new : (xs : List Question) (k : ℕ) → slice_get (xs ++ asking ∷ []) k ≡ Some q → (slice_get xs k ≡ Some q) ⊎ (asking ≡ q)
-    old_or_new [] zero e = inr (same_Some asking q e)
-    old_or_new [] (suc k) e = absurd (cc)
-    old_or_new (x ∷ xs) zero e = inl e
-    old_or_new (x ∷ xs) (suc k) e = old_or_new xs k e
-
     by : (b : Bool) → eqb conn c ≡ b → (o : Option OfficeError) → ask_fault (open_line before conn) (site_of before) (points before) (length (asked before conn)) device read ≡ o
-        → (slice_get (asked before c) n ≡ Some q → device_name (site_of before) q.place ≡ Some q.device)
-        → slice_get (cond (b && is_none o) (asked before c ++ asking ∷ []) (asked before c)) n ≡ Some q → device_name (site_of before) q.place ≡ Some q.device
+        → (slice_get (asked before c) n ≡ Some (Reads q) → device_name (site_of before) q.place ≡ Some q.device)
+        → slice_get (cond (b && is_none o) (asked before c ++ Reads asking ∷ []) (asked before c)) n ≡ Some (Reads q) → device_name (site_of before) q.place ≡ Some q.device
     by false is o fault earlier e = earlier e
     by true is (Some f) fault earlier e = earlier e
     by true is None fault earlier e =
-        elim (old_or_new (asked before c) n e) [
+        elim (old_or_new (asked before c) (Reads asking) (Reads q) n e) [
           | inl old ↦ earlier old
-          | inr same ↦ subst (λ (x : Question). device_name (site_of before) x.place ≡ Some x.device) same (new fault ∙ ap Some (sym (named_so (target (site_of before) device))))
+          | inr same ↦ subst (λ (x : Question). device_name (site_of before) x.place ≡ Some x.device) (same_read asking q same) (new fault ∙ ap Some (sym (named_so (target (site_of before) device))))
         ]
       where
         named_so : (o : Option Target) → (question_to o device slot read (length (points before))).device ≡ device
         named_so None = refl
         named_so (Some to) = refl
+placed (Send conn number ∷ before) c n q some at = by (eqb conn c && send_made before conn number) (placed before c n q some) at
+  where
+    by : (b : Bool) → (slice_get (asked before c) n ≡ Some (Reads q) → device_name (site_of before) q.place ≡ Some q.device)
+        → slice_get (cond b (asked before c ++ Writes (sends before number) ∷ []) (asked before c)) n ≡ Some (Reads q) → device_name (site_of before) q.place ≡ Some q.device
+    by true earlier e = elim (old_or_new (asked before c) (Writes (sends before number)) (Reads q) n e) [
+      | inl old ↦ earlier old
+      | inr same ↦ absurd (cc)
+    ]
+    by false earlier e = earlier e
 placed (Reply m k unit ∷ before) c n q some at = placed before c n q some at
 placed (Noise m frame ∷ before) c n q some at = placed before c n q some at

@@ -1,6 +1,6 @@
 -- Each call of an office, as a step of its history.
-use Rattle.std.proofs.Common.{◌≡◌, ℕ, ◌+◌, true, false, cond, List, [], ◌∷◌, ◌++◌, length, Some, None, Option, refl, sym, ap, ◌∙◌, subst}
-use Rattle.std.specs.Prelude.{is_some, take}
+use Rattle.std.proofs.Common.{◌≡◌, ℕ, ℤ, ◌+◌, true, false, cond, List, [], ◌∷◌, ◌++◌, length, Some, None, Option, refl, sym, ap, ◌∙◌, subst}
+use Rattle.std.specs.Prelude.{is_some, take, slice_get, IsSome, ⊤}
 use Rattle.std.proofs.lemmas.Bool.{false≢true}
 use Rattle.mb_pdu.specs.Replies.{spells_reply}
 use Rattle.mb_pdu.specs.declared.reply.Reply.{Reply as UnitReply}
@@ -24,61 +24,101 @@ use Rattle.office_core.specs.declared.event.EventAnswer.{EventAnswer}
 use Rattle.office_core.specs.declared.event.EventAnswer.TheVariants as answer
 use Rattle.office_core.specs.Errors.{refused_by}
 use Rattle.office_core.specs.Sites.{device_name, line_place}
-use Rattle.office_core.specs.Cover.{Question, asked_of, cells, excepts, exception_code, given_named, given_rows, reply_cells}
-use Rattle.office_core.specs.Loads.{loading, outcome, added}
-use Rattle.office_core.specs.History.{Happening, Restart, Load, Open, Ask, Reply, Noise, History, tables, points, site_of, connections, open_line, open_fault, asked, ask_fault, question}
-use Rattle.office_core.specs.Answers.{answer_of, unit_answer, query_frame}
-use Rattle.office_core.specs.Keeping.{IsCopy, with_given, rows_at, brought, arrival_of}
+use Rattle.poll_book.specs.declared.requests.Body.TheVariants as body
+use Rattle.poll_book.specs.declared.requests.Body.{Body}
+use Rattle.poll_book.specs.declared.requests.Outcome.{Outcome}
+use Rattle.poll_book.specs.declared.requests.Request.{Request}
+use Rattle.poll_book.specs.Orders.{last_order}
+use Rattle.poll_book.specs.Requests.{RequestKey, request_at, with_request}
+use Rattle.office_core.specs.declared.event.RequestAnswer.{RequestAnswer}
+use Rattle.office_core.specs.declared.event.RequestAnswer.TheVariants.{Kept}
+use Rattle.office_core.specs.Cover.{Question, cells, excepts, given_named, given_rows, reply_cells}
+use Rattle.office_core.specs.Queries.{Query, Reads, Writes, Writing, asked_of, exception_code, query_frame}
+use Rattle.office_core.specs.Orders.{ordered, ordering_of, send_fault, with_ordered, writing}
+use Rattle.office_core.specs.Loads.{known_named, loading, outcome, added}
+use Rattle.office_core.specs.History.{Happening, Restart, Load, Order, Open, Ask, Send, Reply, Noise, History, tables, points, site_of, settings, requests, connections, open_line, open_fault, asked, ask_fault, question}
+use Rattle.office_core.specs.Answers.{answer_again, answer_of, unit_answer}
+use Rattle.office_core.specs.Keeping.{IsCopy, asking_of, with_given, with_state, rows_at, brought, arrival_of}
 use Rattle.office_core.specs.Standing.{StandsFor, IsFormer, Closes, Sees, Goes, is_store}
 use Rattle.office_core.proofs.Cells.{cells_spelled, exception_spelled, bits_plain, words_plain, no_echo}
-use Rattle.office_core.proofs.Loaded.{numbered_points, load_done, restarted}
+use Rattle.office_core.proofs.Loaded.{numbered_points, restarted}
+use Rattle.office_core.proofs.Kept.{asked_again, asked_list, asked_order}
+use Rattle.office_core.proofs.Written.{state_is, written_told}
 use Rattle.office_core.proofs.Naming.{accepted, found_is}
 use Rattle.office_core.proofs.Arrivals.{recorded, arrival_refused, arrival_accepted}
 use Rattle.office_core.proofs.Asks.{asks, ask_refused, ask_made_so}
 use Rattle.office_core.proofs.Opens.{open_refused, open_made_so}
+use Rattle.office_core.proofs.Sends.{sends, send_refused, send_made_so}
 use Rattle.office_core.proofs.Placed.{placed}
+
+-- what goes from less goes from more
+pub goes_from : (old mid new : History → Type 0) (seen : Event) (told : EventAnswer) → ((before : History) → old before → mid before) → Goes mid new seen told → Goes old new seen told
+goes_from old mid new seen told within goes = record {
+  refused = λ before o store. goes.refused before (within before o) store;
+  happened = λ before happening o may sees taken. goes.happened before happening (within before o) may sees taken;
+}
 
 -- ---- what a reply brings is what its unit says
 
 rows_are : (site : Site) (known : List PointRow) (q : Question) (unit : List ℕ) (reply : UnitReply) → device_name site q.place ≡ Some q.device → cells q.read unit ≡ reply_cells reply
-    → rows_at site known (asked_of q) reply ≡ given_rows known q unit
+    → rows_at site known (asking_of q.place q.slot q.read q.known) reply ≡ given_rows known q unit
 rows_are site known q unit reply named same =
     (λ i. keyed q.slot (given_named (take q.known known) (named i) q.read (sym same i)))
 
 plain_brought : (known : List PointRow) (q : Question) (unit : List ℕ) (kept : Tables) (rows : Readings) → excepts q.read unit ≡ false → rows ≡ given_rows known q unit
-    → with_given rows kept ≡ recorded known q unit kept
+    → with_given rows kept ≡ recorded known (Reads q) unit kept
 plain_brought known q unit kept rows plain is =
     ap (λ (l : Readings). with_given l kept) is ∙ sym (ap (λ b. cond b kept (with_given (given_rows known q unit) kept)) plain)
 
 plain_told : (known : List PointRow) (q : Question) (unit : List ℕ) (table rows : Readings) → excepts q.read unit ≡ false → rows ≡ given_rows known q unit
-    → answer.Arrived (arrival.Recorded (length (new_rows table rows))) ≡ unit_answer table known q unit
+    → answer.Arrived (arrival.Recorded (length (new_rows table rows))) ≡ unit_answer table known (Reads q) unit
 plain_told known q unit table rows plain is =
     ap (λ (l : Readings). answer.Arrived (arrival.Recorded (length (new_rows table l)))) is
     ∙ sym (ap (λ b. cond b (answer.Arrived (arrival.Excepted (exception_code unit))) (answer.Arrived (arrival.Recorded (length (new_rows table (given_rows known q unit)))))) plain)
 
-module _ (site : Site) (known : List PointRow) (q : Question) (unit : List ℕ) (kept : Tables) (named : device_name site q.place ≡ Some q.device) where
-  pub brought_is : (reply : UnitReply) → spells_reply (request_of (asked_of q)) reply unit → brought site known (asked_of q) reply kept ≡ recorded known q unit kept
-  brought_is (Bits bits) spelled =
-      let plain = bits_plain q.read bits unit spelled in
-      plain_brought known q unit kept (rows_at site known (asked_of q) (Bits bits)) plain (rows_are site known q unit (Bits bits) named (cells_spelled q.read (Bits bits) unit spelled plain).0)
-  brought_is (Registers words) spelled =
-      let plain = words_plain q.read words unit spelled in
-      plain_brought known q unit kept (rows_at site known (asked_of q) (Registers words)) plain (rows_are site known q unit (Registers words) named (cells_spelled q.read (Registers words) unit spelled plain).0)
-  brought_is Written spelled = absurd (no_echo q.read unit spelled)
-  brought_is (Excepted code) spelled = sym (ap (λ b. cond b kept (with_given (given_rows known q unit) kept)) (exception_spelled q.read code unit spelled).0)
+module _ (site : Site) (known : List PointRow) (unit : List ℕ) (kept : Tables) where
+  module _ (q : Question) (named : device_name site q.place ≡ Some q.device) where
+    abbrev rows : UnitReply → Readings
+    rows reply = rows_at site known (asking_of q.place q.slot q.read q.known) reply
 
-  pub told_is : (reply : UnitReply) → spells_reply (request_of (asked_of q)) reply unit → answer.Arrived (arrival_of site known (asked_of q) reply kept) ≡ unit_answer kept.readings known q unit
-  told_is (Bits bits) spelled =
-      let plain = bits_plain q.read bits unit spelled in
-      plain_told known q unit kept.readings (rows_at site known (asked_of q) (Bits bits)) plain (rows_are site known q unit (Bits bits) named (cells_spelled q.read (Bits bits) unit spelled plain).0)
-  told_is (Registers words) spelled =
-      let plain = words_plain q.read words unit spelled in
-      plain_told known q unit kept.readings (rows_at site known (asked_of q) (Registers words)) plain (rows_are site known q unit (Registers words) named (cells_spelled q.read (Registers words) unit spelled plain).0)
-  told_is Written spelled = absurd (no_echo q.read unit spelled)
-  told_is (Excepted code) spelled =
-      let e = exception_spelled q.read code unit spelled in
-      ap (λ c. answer.Arrived (arrival.Excepted c)) (sym e.1)
-      ∙ sym (ap (λ b. cond b (answer.Arrived (arrival.Excepted (exception_code unit))) (answer.Arrived (arrival.Recorded (length (new_rows kept.readings (given_rows known q unit)))))) e.0)
+    read_brought : (reply : UnitReply) → spells_reply (request_of (asked_of (Reads q))) reply unit → brought site known (asked_of (Reads q)) reply kept ≡ recorded known (Reads q) unit kept
+    read_brought (Bits bits) spelled =
+        let plain = bits_plain q.read bits unit spelled in
+        plain_brought known q unit kept (rows (Bits bits)) plain (rows_are site known q unit (Bits bits) named (cells_spelled q.read (Bits bits) unit spelled plain).0)
+    read_brought (Registers words) spelled =
+        let plain = words_plain q.read words unit spelled in
+        plain_brought known q unit kept (rows (Registers words)) plain (rows_are site known q unit (Registers words) named (cells_spelled q.read (Registers words) unit spelled plain).0)
+    read_brought Written spelled = absurd (no_echo q.read unit spelled)
+    read_brought (Excepted code) spelled = sym (ap (λ b. cond b kept (with_given (given_rows known q unit) kept)) (exception_spelled q.read code unit spelled).0)
+
+    read_told : (reply : UnitReply) → spells_reply (request_of (asked_of (Reads q))) reply unit
+        → answer.Arrived (arrival_of site known (asked_of (Reads q)) reply kept) ≡ unit_answer kept.readings known (Reads q) unit
+    read_told (Bits bits) spelled =
+        let plain = bits_plain q.read bits unit spelled in
+        plain_told known q unit kept.readings (rows (Bits bits)) plain (rows_are site known q unit (Bits bits) named (cells_spelled q.read (Bits bits) unit spelled plain).0)
+    read_told (Registers words) spelled =
+        let plain = words_plain q.read words unit spelled in
+        plain_told known q unit kept.readings (rows (Registers words)) plain (rows_are site known q unit (Registers words) named (cells_spelled q.read (Registers words) unit spelled plain).0)
+    read_told Written spelled = absurd (no_echo q.read unit spelled)
+    read_told (Excepted code) spelled =
+        let e = exception_spelled q.read code unit spelled in
+        ap (λ c. answer.Arrived (arrival.Excepted c)) (sym e.1)
+        ∙ sym (ap (λ b. cond b (answer.Arrived (arrival.Excepted (exception_code unit))) (answer.Arrived (arrival.Recorded (length (new_rows kept.readings (given_rows known q unit)))))) e.0)
+
+  -- a read's device stands at its place
+  abbrev pub IsPlaced : Query → Type 0
+  IsPlaced (Reads q) = device_name site q.place ≡ Some q.device
+  IsPlaced (Writes w) = ⊤
+
+  pub brought_is : (query : Query) → IsPlaced query → (reply : UnitReply) → spells_reply (request_of (asked_of query)) reply unit
+      → brought site known (asked_of query) reply kept ≡ recorded known query unit kept
+  brought_is (Reads q) named reply spelled = read_brought q named reply spelled
+  brought_is (Writes w) named reply spelled = ap (λ s. with_state w.order s kept) (state_is w unit reply spelled)
+
+  pub told_is : (query : Query) → IsPlaced query → (reply : UnitReply) → spells_reply (request_of (asked_of query)) reply unit
+      → answer.Arrived (arrival_of site known (asked_of query) reply kept) ≡ unit_answer kept.readings known query unit
+  told_is (Reads q) named reply spelled = read_told q named reply spelled
+  told_is (Writes w) named reply spelled = written_told w unit kept.readings known reply spelled
 
 module _ (holds : Tables → Type 0) (now : Site) (known : List PointRow) (all : List OpenOne) where
   -- the office's copy of the points
@@ -113,6 +153,11 @@ module _ (holds : Tables → Type 0) (now : Site) (known : List PointRow) (all :
     happened = λ before happening stands may sees _. arrival_refused holds now known all before stands happening conn frame e may sees refused;
   }
 
+  at_place : (before : History) → StandsFor holds now known all before → (conn n : ℕ) (q : Query) → IsSome (open_line before conn) → slice_get (asked before conn) n ≡ Some q
+      → IsPlaced now known [] (tables before) q
+  at_place before stands conn n (Reads q) some at = ap (λ s. device_name s q.place) stands.site ∙ placed before conn n q some at
+  at_place before stands conn n (Writes w) some at = tt
+
   pub arrival_goes : (conn : ℕ) (frame : Frame) (number : ℕ) (query : Asked) (reply : UnitReply) → refusal (held conn all) frame ≡ None → Names (held conn all) frame number query reply
       → (holds' : Tables → Type 0) → ((kept : Tables) → holds kept → IsCopy known kept → holds' (brought now known query reply kept))
       → (all' : List OpenOne) → Changes conn (with_answer number) all all'
@@ -127,16 +172,16 @@ module _ (holds : Tables → Type 0) (now : Site) (known : List PointRow) (all :
         let q = found.1.0 in
         let a = found.1.1 in
         let here = found_is before conn frame n q number query reply a (subst (λ o. Names o frame number query reply) (sym was) names) in
-        let named : device_name now q.place ≡ Some q.device = ap (λ s. device_name s q.place) stands.site ∙ placed before conn n q (ap is_some a.is_open) a.query in
+        let named : IsPlaced now known frame.unit (tables before) q = at_place before stands conn n q (ap is_some a.is_open) a.query in
         let spelled : spells_reply (request_of (asked_of q)) reply frame.unit = subst (λ (x : Asked). spells_reply (request_of x) reply frame.unit) here.1 here.2 in
         let kept = tables before in
         let as_unit : brought now known query reply kept ≡ recorded (points before) q frame.unit kept =
-        ap (λ (x : Asked). brought now known x reply kept) here.1 ∙ brought_is now known q frame.unit kept named reply spelled ∙ ap (λ l. recorded l q frame.unit kept) stands.points in
+        ap (λ (x : Asked). brought now known x reply kept) here.1 ∙ brought_is now known frame.unit kept q named reply spelled ∙ ap (λ l. recorded l q frame.unit kept) stands.points in
         let done = arrival_accepted holds now known all before stands happening conn frame n q may sees a holds'
         (subst holds' as_unit (new kept stands.tables (copy_of before stands))) all' (subst (λ m. Changes conn (with_answer m) all all') here.0 settled) in (
           done.0,
           ap answer.Arrived (is kept stands.tables) ∙ ap (λ (x : Asked). answer.Arrived (arrival_of now known x reply kept)) here.1
-              ∙ told_is now known q frame.unit kept named reply spelled ∙ ap (λ l. unit_answer kept.readings l q frame.unit) stands.points ∙ done.1,
+              ∙ told_is now known frame.unit kept q named reply spelled ∙ ap (λ l. unit_answer kept.readings l q frame.unit) stands.points ∙ done.1,
         );
   }
 
@@ -153,7 +198,9 @@ module _ (holds : Tables → Type 0) (now : Site) (known : List PointRow) (all :
       by : (before : History) (h : Happening) → StandsFor holds now known all before → Sees before h (event.Ask conn device slot read)
           → StandsFor holds now known all (h ∷ before) × (answer.Refused e ≡ answer_of before h)
       by before (Restart site) stands sees = absurd sees
-      by before (Load list) stands sees = absurd sees
+      by before (Load caller key list) stands sees = absurd sees
+      by before (Order caller key point value) stands sees = absurd sees
+      by before (Send c number) stands sees = absurd sees
       by before (Open line) stands sees = absurd sees
       by before (Ask c d s r) stands sees =
           ask_refused holds now known all before stands c d s r e
@@ -163,8 +210,8 @@ module _ (holds : Tables → Type 0) (now : Site) (known : List PointRow) (all :
 
   pub asked_goes : (conn : ℕ) (device : List ℕ) (slot : ℕ) (read : Read) (frame : Frame)
       → ((before : History) → StandsFor holds now known all before → ask_fault (open_line before conn) now known (length (asked before conn)) device read ≡ None)
-      → ((before : History) → StandsFor holds now known all before → frame ≡ query_frame (length (asked before conn)) (question now known device slot read))
-      → (all' : List OpenOne) → Changes conn (with_query (asked_of (question now known device slot read))) all all'
+      → ((before : History) → StandsFor holds now known all before → frame ≡ query_frame (length (asked before conn)) (Reads (question now known device slot read)))
+      → (all' : List OpenOne) → Changes conn (with_query (asked_of (Reads (question now known device slot read)))) all all'
       → Goes (StandsFor holds now known all) (StandsFor holds now known all') (event.Ask conn device slot read) (answer.Query frame)
   asked_goes conn device slot read frame fault is all' queried = record {
     refused = λ before stands store. absurd (false≢true store);
@@ -174,14 +221,16 @@ module _ (holds : Tables → Type 0) (now : Site) (known : List PointRow) (all :
       by : (before : History) (h : Happening) → StandsFor holds now known all before → Sees before h (event.Ask conn device slot read)
           → StandsFor holds now known all' (h ∷ before) × (answer.Query frame ≡ answer_of before h)
       by before (Restart site) stands sees = absurd sees
-      by before (Load list) stands sees = absurd sees
+      by before (Load caller key list) stands sees = absurd sees
+      by before (Order caller key point value) stands sees = absurd sees
+      by before (Send c number) stands sees = absurd sees
       by before (Open line) stands sees = absurd sees
       by before (Ask c d s r) stands sees =
           let same : question now known device slot read ≡ asks before d s r = λ i. question (stands.site i) (stands.points i) (sees.1 i) (sees.2 i) (sees.3 i) in
           let done = ask_made_so holds now known all before stands c d s r
           ((λ i. ask_fault (open_line before (sym sees.0 i)) (sym stands.site i) (sym stands.points i) (length (asked before (sym sees.0 i))) (sym sees.1 i) (sym sees.3 i)) ∙ fault before stands)
-          all' (subst (λ (x : ℕ × Question). Changes x.0 (with_query (asked_of x.1)) all all') (λ i. (sees.0 i, same i)) queried) in
-          (done.0, ap answer.Query (is before stands ∙ λ i. query_frame (length (asked before (sees.0 i))) (same i)) ∙ done.1)
+          all' (subst (λ (x : ℕ × Question). Changes x.0 (with_query (asked_of (Reads x.1))) all all') (λ i. (sees.0 i, same i)) queried) in
+          (done.0, ap answer.Query (is before stands ∙ λ i. query_frame (length (asked before (sees.0 i))) (Reads (same i))) ∙ done.1)
       by before (Reply c n unit) stands sees = absurd sees
       by before (Noise c noise) stands sees = absurd sees
 
@@ -199,7 +248,9 @@ module _ (holds : Tables → Type 0) (now : Site) (known : List PointRow) (all :
       by : (before : History) (h : Happening) → StandsFor holds now known all before → Sees before h (event.Open name)
           → StandsFor holds' now known all (h ∷ before) × (answer.Refused e ≡ answer_of before h)
       by before (Restart site) stands sees = absurd sees
-      by before (Load list) stands sees = absurd sees
+      by before (Load caller key list) stands sees = absurd sees
+      by before (Order caller key point value) stands sees = absurd sees
+      by before (Send c number) stands sees = absurd sees
       by before (Open line) stands sees =
           open_refused holds' now known all before (same_stands holds' all (λ conn. refl) before (λ h. keeps (tables before) h (copy_of before stands)) stands) line e
           ((λ i. open_fault (line_place (sym stands.site i) (sym sees i)) (connections before)) ∙ fault before stands)
@@ -220,7 +271,9 @@ module _ (holds : Tables → Type 0) (now : Site) (known : List PointRow) (all :
       by : (before : History) (h : Happening) → StandsFor holds now known all before → Sees before h (event.Open name)
           → StandsFor holds' now known all' (h ∷ before) × (answer.Opened new ≡ answer_of before h)
       by before (Restart site) stands sees = absurd sees
-      by before (Load list) stands sees = absurd sees
+      by before (Load caller key list) stands sees = absurd sees
+      by before (Order caller key point value) stands sees = absurd sees
+      by before (Send c number) stands sees = absurd sees
       by before (Open l) stands sees =
           let m = made before stands in
           let there : line_place (site_of before) l ≡ Some line = (λ i. line_place (sym stands.site i) (sym sees i)) ∙ place in
@@ -233,29 +286,178 @@ module _ (holds : Tables → Type 0) (now : Site) (known : List PointRow) (all :
       by before (Reply c n unit) stands sees = absurd sees
       by before (Noise c frame) stands sees = absurd sees
 
-  -- ---- loads and restarts
+  -- ---- sends
 
-  pub loaded_goes : (list : List ℕ) (holds' : Tables → Type 0)
-      → ((kept : Tables) → holds kept → IsCopy known kept → holds' (record kept { points = kept.points ++ added (length known) (loading now known list) }))
-      → (known' : List PointRow) → known' ≡ known ++ added (length known) (loading now known list)
-      → Goes (StandsFor holds now known all) (StandsFor holds' now known' all) (event.Load list) (answer.Judged (outcome (loading now known list)))
-  loaded_goes list holds' kept known' more = record {
+  pub send_refused_goes : (conn number : ℕ) (e : OfficeError) (holds' : Tables → Type 0) → ((kept : Tables) → holds kept → holds' kept)
+      → ((before : History) → StandsFor holds now known all before → send_fault (open_line before conn) now known (settings before) (length (asked before conn)) number ≡ Some e)
+      → Goes (StandsFor holds now known all) (StandsFor holds' now known all) (event.Send conn number) (answer.Refused e)
+  send_refused_goes conn number e holds' keeps fault = record {
+    refused = λ before stands _. moved before stands;
+    happened = λ before happening stands may sees _. by before happening stands sees;
+  }
+    where
+      moved : (before : History) → StandsFor holds now known all before → StandsFor holds' now known all before
+      moved before stands = same_stands holds' all (λ c. refl) before (keeps (tables before)) stands
+
+      by : (before : History) (h : Happening) → StandsFor holds now known all before → Sees before h (event.Send conn number)
+          → StandsFor holds' now known all (h ∷ before) × (answer.Refused e ≡ answer_of before h)
+      by before (Restart site) stands sees = absurd sees
+      by before (Load caller key list) stands sees = absurd sees
+      by before (Order caller key point value) stands sees = absurd sees
+      by before (Open line) stands sees = absurd sees
+      by before (Ask c d s r) stands sees = absurd sees
+      by before (Send c m) stands sees =
+          send_refused holds' now known all before (moved before stands) c m e
+          ((λ i. send_fault (open_line before (sym sees.0 i)) (sym stands.site i) (sym stands.points i) (settings before) (length (asked before (sym sees.0 i))) (sym sees.1 i)) ∙ fault before stands)
+      by before (Reply c n unit) stands sees = absurd sees
+      by before (Noise c frame) stands sees = absurd sees
+
+  pub sent_goes : (conn number : ℕ) (frame : Frame) (holds' : Tables → Type 0) → ((kept : Tables) → holds kept → holds' kept)
+      → ((before : History) → StandsFor holds now known all before → send_fault (open_line before conn) now known (settings before) (length (asked before conn)) number ≡ None)
+      → ((before : History) → StandsFor holds now known all before → frame ≡ query_frame (length (asked before conn)) (Writes (writing now known (settings before) number)))
+      → (all' : List OpenOne)
+      → ((before : History) → StandsFor holds now known all before → Changes conn (with_query (asked_of (Writes (writing now known (settings before) number)))) all all')
+      → Goes (StandsFor holds now known all) (StandsFor holds' now known all') (event.Send conn number) (answer.Query frame)
+  sent_goes conn number frame holds' keeps fault is all' queried = record {
     refused = λ before stands store. absurd (false≢true store);
     happened = λ before happening stands may sees _. by before happening stands sees;
   }
     where
-      by : (before : History) (h : Happening) → StandsFor holds now known all before → Sees before h (event.Load list)
-          → StandsFor holds' now known' all (h ∷ before) × (answer.Judged (outcome (loading now known list)) ≡ answer_of before h)
+      by : (before : History) (h : Happening) → StandsFor holds now known all before → Sees before h (event.Send conn number)
+          → StandsFor holds' now known all' (h ∷ before) × (answer.Query frame ≡ answer_of before h)
       by before (Restart site) stands sees = absurd sees
-      by before (Load l) stands sees =
-          let new = subst (λ (x : List ℕ). holds' (record (tables before) { points = points before ++ added (length known) (loading now known x) })) sees
-          (kept (tables before) stands.tables (copy_of before stands)) in
-          let done = load_done holds now known all before stands l holds'
-          (subst (λ (x : Site × List PointRow). holds' (record (tables before) { points = points before ++ added (length x.1) (loading x.0 x.1 l) })) (λ i. (stands.site i, stands.points i)) new)
-          known' (more ∙ ap (λ (x : List ℕ). known ++ added (length known) (loading now known x)) sees) in
-          (done.0, ap (λ (x : List ℕ). answer.Judged (outcome (loading now known x))) sees ∙ done.1)
+      by before (Load caller key list) stands sees = absurd sees
+      by before (Order caller key point value) stands sees = absurd sees
       by before (Open line) stands sees = absurd sees
       by before (Ask c d s r) stands sees = absurd sees
+      by before (Send c m) stands sees =
+          let same : writing now known (settings before) number ≡ sends before m = λ i. writing (stands.site i) (stands.points i) (settings before) (sees.1 i) in
+          let done = send_made_so holds' now known all before (same_stands holds' all (λ c. refl) before (keeps (tables before)) stands) c m
+          ((λ i. send_fault (open_line before (sym sees.0 i)) (sym stands.site i) (sym stands.points i) (settings before) (length (asked before (sym sees.0 i))) (sym sees.1 i)) ∙ fault before stands)
+          all' (subst (λ (x : ℕ × Writing). Changes x.0 (with_query (asked_of (Writes x.1))) all all') (λ i. (sees.0 i, same i)) (queried before stands)) in
+          (done.0, ap answer.Query (is before stands ∙ λ i. query_frame (length (asked before (sees.0 i))) (Writes (same i))) ∙ done.1)
+      by before (Reply c n unit) stands sees = absurd sees
+      by before (Noise c noise) stands sees = absurd sees
+
+  -- ---- requests and restarts
+
+  -- what is seen of a request
+  abbrev pub seen_of : RequestKey → Body → Event
+  seen_of key (body.List list) = event.Load key.0 key.1 list
+  seen_of key (body.Order point value) = event.Order key.0 key.1 point value
+
+  abbrev Unused : RequestKey → History → Type 0
+  Unused key before = StandsFor holds now known all before × (request_at (requests before) key ≡ None)
+
+  pub unused_store_goes : (key : RequestKey) (holds' : Tables → Type 0) → ((kept : Tables) → holds kept → IsCopy known kept → request_at kept.requests key ≡ None → holds' kept)
+      → (seen : Event) (told : EventAnswer) → is_store told ≡ true → Goes (Unused key) (StandsFor holds' now known all) seen told
+  unused_store_goes key holds' keeps seen told store = record {
+    refused = λ before stands _. same_stands holds' all (λ conn. refl) before (λ h. keeps (tables before) h (copy_of before stands.0) stands.1) stands.0;
+    happened = λ before happening stands may sees off. absurd (false≢true (sym off ∙ store));
+  }
+
+  pub again_goes : (key : RequestKey) (asked : Body) (first : Request) (holds' : Tables → Type 0) → ((kept : Tables) → holds kept → holds' kept)
+      → ((kept : Tables) → holds kept → request_at kept.requests key ≡ Some first)
+      → (told : RequestAnswer) → ((outcome : Outcome) → told ≡ answer_again (Some first) asked outcome)
+      → Goes (StandsFor holds now known all) (StandsFor holds' now known all) (seen_of key asked) (answer.Request told)
+  again_goes key (body.List list) first holds' keeps there told is = record {
+    refused = λ before stands store. absurd (false≢true store);
+    happened = λ before happening stands may sees _. by before happening stands sees;
+  }
+    where
+      by : (before : History) (h : Happening) → StandsFor holds now known all before → Sees before h (event.Load key.0 key.1 list)
+          → StandsFor holds' now known all (h ∷ before) × (answer.Request told ≡ answer_of before h)
+      by before (Restart site) stands sees = absurd sees
+      by before (Load c k l) stands sees =
+          asked_again holds' now known all before (same_stands holds' all (λ c. refl) before (keeps (tables before)) stands) (c, k) (body.List l) first
+          ((λ i. request_at (requests before) (sym sees.0 i, sym sees.1 i)) ∙ there (tables before) stands.tables) told
+          (λ outcome. is outcome ∙ λ i. answer_again (Some first) (body.List (sees.2 i)) outcome)
+      by before (Order c k p v) stands sees = absurd sees
+      by before (Open line) stands sees = absurd sees
+      by before (Ask c d s r) stands sees = absurd sees
+      by before (Send c m) stands sees = absurd sees
+      by before (Reply c n unit) stands sees = absurd sees
+      by before (Noise c frame) stands sees = absurd sees
+  again_goes key (body.Order point value) first holds' keeps there told is = record {
+    refused = λ before stands store. absurd (false≢true store);
+    happened = λ before happening stands may sees _. by before happening stands sees;
+  }
+    where
+      by : (before : History) (h : Happening) → StandsFor holds now known all before → Sees before h (event.Order key.0 key.1 point value)
+          → StandsFor holds' now known all (h ∷ before) × (answer.Request told ≡ answer_of before h)
+      by before (Restart site) stands sees = absurd sees
+      by before (Load c k l) stands sees = absurd sees
+      by before (Order c k p v) stands sees =
+          asked_again holds' now known all before (same_stands holds' all (λ c. refl) before (keeps (tables before)) stands) (c, k) (body.Order p v) first
+          ((λ i. request_at (requests before) (sym sees.0 i, sym sees.1 i)) ∙ there (tables before) stands.tables) told
+          (λ outcome. is outcome ∙ λ i. answer_again (Some first) (body.Order (sees.2 i) (sees.3 i)) outcome)
+      by before (Open line) stands sees = absurd sees
+      by before (Ask c d s r) stands sees = absurd sees
+      by before (Send c m) stands sees = absurd sees
+      by before (Reply c n unit) stands sees = absurd sees
+      by before (Noise c frame) stands sees = absurd sees
+
+  pub loaded_goes : (caller key list : List ℕ) (holds' : Tables → Type 0)
+      → ((kept : Tables) → holds kept → IsCopy known kept → request_at kept.requests (caller, key) ≡ None
+      → holds' (record kept {
+        points = kept.points ++ added (length known) (loading now known list);
+        requests = with_request (caller, key) (record { body = body.List list; outcome = outcome (loading now known list) }) kept.requests;
+      }))
+      → (known' : List PointRow) → known' ≡ known ++ added (length known) (loading now known list)
+      → Goes (Unused (caller, key)) (StandsFor holds' now known' all) (event.Load caller key list) (answer.Request (Kept true (outcome (loading now known list))))
+  loaded_goes caller key list holds' kept known' more = record {
+    refused = λ before stands store. absurd (false≢true store);
+    happened = λ before happening stands may sees _. by before happening stands sees;
+  }
+    where
+      by : (before : History) (h : Happening) → Unused (caller, key) before → Sees before h (event.Load caller key list)
+          → StandsFor holds' now known' all (h ∷ before) × (answer.Request (Kept true (outcome (loading now known list))) ≡ answer_of before h)
+      by before (Restart site) stands sees = absurd sees
+      by before (Load c k l) (stands, none) sees =
+          let new = subst (λ (x : List ℕ × List ℕ × List ℕ × Site × List PointRow). holds' (record (tables before) {
+            points = points before ++ added (length x.4) (loading x.3 x.4 x.2);
+            requests = with_request (x.0, x.1) (record { body = body.List x.2; outcome = outcome (loading x.3 x.4 x.2) }) (requests before);
+          })) (λ i. (sees.0 i, sees.1 i, sees.2 i, stands.site i, stands.points i)) (kept (tables before) stands.tables (copy_of before stands) none) in
+          let done = asked_list holds now known all before stands (c, k) l ((λ i. request_at (requests before) (sym sees.0 i, sym sees.1 i)) ∙ none) holds' new
+          known' (more ∙ ap (λ (x : List ℕ). known ++ added (length known) (loading now known x)) sees.2) in
+          (done.0, ap (λ (x : List ℕ). answer.Request (Kept true (outcome (loading now known x)))) sees.2 ∙ done.1)
+      by before (Order c k p v) stands sees = absurd sees
+      by before (Open line) stands sees = absurd sees
+      by before (Ask c d s r) stands sees = absurd sees
+      by before (Send c m) stands sees = absurd sees
+      by before (Reply c n unit) stands sees = absurd sees
+      by before (Noise c frame) stands sees = absurd sees
+
+  pub ordered_goes : (caller key point : List ℕ) (value : ℤ) (holds' : Tables → Type 0) (told : Outcome)
+      → ((kept : Tables) → holds kept → told ≡ ordered (last_order kept.settings) (ordering_of (last_order kept.settings) (known_named known point) value))
+      → ((kept : Tables) → holds kept → IsCopy known kept → request_at kept.requests (caller, key) ≡ None
+      → holds' (record kept {
+        settings = with_ordered (ordering_of (last_order kept.settings) (known_named known point) value) kept.settings;
+        requests = with_request (caller, key) (record { body = body.Order point value; outcome = told }) kept.requests;
+      }))
+      → Goes (Unused (caller, key)) (StandsFor holds' now known all) (event.Order caller key point value) (answer.Request (Kept true told))
+  ordered_goes caller key point value holds' told is kept = record {
+    refused = λ before stands store. absurd (false≢true store);
+    happened = λ before happening stands may sees _. by before happening stands sees;
+  }
+    where
+      by : (before : History) (h : Happening) → Unused (caller, key) before → Sees before h (event.Order caller key point value)
+          → StandsFor holds' now known all (h ∷ before) × (answer.Request (Kept true told) ≡ answer_of before h)
+      by before (Restart site) stands sees = absurd sees
+      by before (Load c k l) stands sees = absurd sees
+      by before (Order c k p v) (stands, none) sees =
+          let orders : ℕ = last_order (settings before) in
+          let same : told ≡ ordered orders (ordering_of orders (known_named (points before) p) v) =
+          is (tables before) stands.tables ∙ (λ i. ordered orders (ordering_of orders (known_named (stands.points i) (sees.2 i)) (sees.3 i))) in
+          let new = subst (λ (x : List ℕ × List ℕ × List ℕ × ℤ × List PointRow × Outcome). holds' (record (tables before) {
+            settings = with_ordered (ordering_of orders (known_named x.4 x.2) x.3) (settings before);
+            requests = with_request (x.0, x.1) (record { body = body.Order x.2 x.3; outcome = x.5 }) (requests before);
+          })) (λ i. (sees.0 i, sees.1 i, sees.2 i, sees.3 i, stands.points i, same i)) (kept (tables before) stands.tables (copy_of before stands) none) in
+          let done = asked_order holds now known all before stands (c, k) p v ((λ i. request_at (requests before) (sym sees.0 i, sym sees.1 i)) ∙ none) holds' new in
+          (done.0, ap (λ o. answer.Request (Kept true o)) same ∙ done.1)
+      by before (Open line) stands sees = absurd sees
+      by before (Ask c d s r) stands sees = absurd sees
+      by before (Send c m) stands sees = absurd sees
       by before (Reply c n unit) stands sees = absurd sees
       by before (Noise c frame) stands sees = absurd sees
 
@@ -269,7 +471,9 @@ module _ (holds : Tables → Type 0) (now : Site) (known : List PointRow) (all :
           → StandsFor holds now known [] (h ∷ before) × (answer.Restarted ≡ answer_of before h)
       by before (Restart site) stands sees =
           (subst (λ s. StandsFor holds s known [] (Restart site ∷ before)) (sees ∙ sym stands.site) (restarted holds site known before stands.tables stands.points), refl)
-      by before (Load list) stands sees = absurd sees
+      by before (Load caller key list) stands sees = absurd sees
+      by before (Order caller key point value) stands sees = absurd sees
+      by before (Send c number) stands sees = absurd sees
       by before (Open line) stands sees = absurd sees
       by before (Ask c d s r) stands sees = absurd sees
       by before (Reply c n unit) stands sees = absurd sees

@@ -6,10 +6,10 @@ use Rattle.mb_mbap.specs.declared.frame.Frame.{Frame}
 use Rattle.poll_book.specs.declared.fault.StoreFault.{StoreFault}
 use Rattle.office_core.specs.declared.error.OfficeError.{OfficeError}
 use Rattle.office_core.specs.declared.event.Arrival.{Arrival}
-use Rattle.office_core.specs.declared.event.Outcome.{Outcome}
+use Rattle.office_core.specs.declared.event.RequestAnswer.{RequestAnswer}
 use Rattle.office_core.specs.declared.event.EventAnswer.TheVariants as answer
 use Rattle.office_core.specs.Errors.{IsCaused}
-use Rattle.office_core.specs.Offices.{judged, opened, asked_so, arrived}
+use Rattle.office_core.specs.Offices.{told_so, opened, asked_so, arrived}
 
 pub arrived_err : (told : Result Arrival OfficeError) (e : OfficeError) → IsErrAnd told (λ x. x ≡ e) → arrived told ≡ answer.Refused e
 arrived_err (Ok x) e is = absurd is
@@ -23,9 +23,9 @@ pub opened_err : (told : Result ℕ OfficeError) (e : OfficeError) → IsErrAnd 
 opened_err (Ok x) e is = absurd is
 opened_err (Err x) e is = ap answer.Refused is
 
-pub judged_err : (told : Result Outcome OfficeError) (e : OfficeError) → IsErrAnd told (λ x. x ≡ e) → judged told ≡ answer.Refused e
-judged_err (Ok x) e is = absurd is
-judged_err (Err x) e is = ap answer.Refused is
+pub request_err : (told : Result RequestAnswer OfficeError) (e : OfficeError) → IsErrAnd told (λ x. x ≡ e) → told_so told ≡ answer.Refused e
+request_err (Ok x) e is = absurd is
+request_err (Err x) e is = ap answer.Refused is
 
 -- what causes a refusal that is passed on
 pub caused_err : {X : Type 0} (may_refuse : StoreFault → Type 0) (told : Result X OfficeError) (e : OfficeError) → IsErrAnd told (λ x. x ≡ e) → IsCaused may_refuse e → IfErr told (IsCaused may_refuse)

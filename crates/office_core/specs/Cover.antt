@@ -1,9 +1,9 @@
 -- Which points a read covers, and what a reply gives to them.
-use Rattle.std.specs.Prelude.{ℕ, ◌+◌, ◌-◌, Bool, ◌&&◌, ◌==◌, cond, nat_le, List, [], map, filter, take, drop, slice_index, ⊤, Option, Some, None}
+use Rattle.std.specs.Prelude.{ℕ, ◌+◌, ◌-◌, Bool, ◌&&◌, ◌==◌, cond, nat_le, List, [], map, filter, take, drop, Option, Some, None}
 use Rattle.std.specs.List.{list_any}
 use Rattle.std.specs.Str.{bytes_eq}
 use Rattle.mb_pdu.specs.Packing.{unworded, unpacked}
-use Rattle.mb_pdu.specs.Replies.{answers, is_exception, function_of, normal_of, fits_normal}
+use Rattle.mb_pdu.specs.Replies.{is_exception, function_of, normal_of, fits_normal}
 use Rattle.mb_pdu.specs.declared.reply.Normal.{Normal}
 use Rattle.mb_pdu.specs.declared.reply.Normal.TheVariants.{OfBits, OfWords, Echo}
 use Rattle.mb_pdu.specs.declared.reply.Reply.{Reply}
@@ -14,15 +14,14 @@ use Rattle.sunspec.specs.PointType.{row}
 use Rattle.point_list.specs.declared.point.Point.{Point}
 use Rattle.read_planner.specs.declared.Read.{Read}
 use Rattle.read_planner.specs.Read.{read_request, is_valid_read}
-use Rattle.poll_match.specs.declared.asked.Asked.{Asked}
-use Rattle.poll_match.specs.declared.asked.Asked.TheVariants as asked
 use Rattle.point_list.specs.declared.site.Site.{Site}
+use Rattle.office_core.specs.declared.cover.Asking.{Asking}
 use Rattle.office_core.specs.Sites.{device_name}
 use Rattle.poll_book.specs.declared.rows.PointRow.{PointRow}
 use Rattle.poll_book.specs.Tables.{Readings}
 use Rattle.poll_book.specs.Changes.{keyed}
 
--- what a query asks: of which device, in which slot, and how many points were known
+-- what a read asks: of which device, in which slot, and how many points were known
 pub record Question : Type 0 where
   pub device : List ℕ
   pub place : ℕ
@@ -30,10 +29,6 @@ pub record Question : Type 0 where
   pub slot : ℕ
   pub read : Read
   pub known : ℕ
-
--- what is kept of it
-abbrev pub asked_of : Question → Asked
-asked_of q = asked.Read q.unit_id q.place q.slot q.read q.known
 
 -- the table that a function reads
 abbrev pub reads_table : ℕ → Table → Bool
@@ -108,32 +103,14 @@ given_of known device read words = map (λ (point : PointRow). (point, words_in 
 abbrev pub given_rows : List PointRow → Question → List ℕ → Readings
 given_rows known q unit = keyed q.slot (given_of (take q.known known) q.device q.read (cells q.read unit))
 
--- a reply to a query: an exception, or one that brings what the query's read asks for
-abbrev pub Answers : Asked → Reply → Type 0
-Answers query (Excepted code) = ⊤
-Answers (asked.Read unit_id place slot read known) reply = Brings read reply
-
-abbrev pub read_of : Asked → Read
-read_of (asked.Read unit_id place slot read known) = read
-
-abbrev pub slot_of : Asked → ℕ
-slot_of (asked.Read unit_id place slot read known) = slot
-
 abbrev pub given_named : List PointRow → Option (List ℕ) → Read → List ℕ → List (PointRow × List ℕ)
 given_named known None read words = []
 given_named known (Some device) read words = given_of known device read words
 
--- the same of what is kept of a query, by the place of its device in a site
-abbrev pub given_at : Site → List PointRow → Asked → List ℕ → List (PointRow × List ℕ)
-given_at site known (asked.Read unit_id place slot read before) words = given_named (take before known) (device_name site place) read words
+-- the same of a read whose device stands at its place of a site
+abbrev pub given_at : Site → List PointRow → Asking → List ℕ → List (PointRow × List ℕ)
+given_at site known asking words = given_named (take asking.known known) (device_name site asking.device) asking.read words
 
--- a unit spells a reply to the query
-abbrev pub fits : Question → List ℕ → Bool
-fits q unit = answers (read_request q.read) unit
-
--- and that reply is an exception
+-- a unit spells an exception to a read
 abbrev pub excepts : Read → List ℕ → Bool
 excepts read unit = is_exception (function_of (read_request read)) unit
-
-abbrev pub exception_code : List ℕ → ℕ
-exception_code unit = slice_index unit 1

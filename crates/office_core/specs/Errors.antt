@@ -1,7 +1,7 @@
 -- How refusals are told, and what causes them.
 use Rattle.poll_book.specs.declared.fault.StoreFault.{StoreFault}
 use Rattle.poll_book.specs.declared.fault.StoreFault.TheVariants as fault
-use Rattle.std.specs.Prelude.{⊤}
+use Rattle.std.specs.Prelude.{Bool, true, false, ⊤}
 use Rattle.poll_book.specs.Fault.{HasCause}
 use Rattle.poll_match.specs.declared.error.MatchError.{MatchError}
 use Rattle.poll_match.specs.declared.error.MatchError.TheVariants as matching
@@ -22,6 +22,10 @@ refused_by matching.Repeat = error.Repeat
 refused_by matching.WrongReply = error.WrongReply
 refused_by matching.Exhausted = error.Exhausted
 refused_by matching.Memory = no_memory
+
+abbrev pub is_of_store : OfficeError → Bool
+is_of_store (error.Store f) = true
+is_of_store _ = false
 
 -- a refusal that isn't the store's, or one for want of memory or by a fault that the keeper may answer
 abbrev pub IsCaused : (StoreFault → Type 0) → OfficeError → Type 0

@@ -1,25 +1,35 @@
 -- The history of an office: what callers, the office and devices did, and what follows from it for tables and answers.
 -- A history lists what happened, the newest first, so each definition looks only at what stands before.
-use Rattle.std.specs.Prelude.{ℕ, ◌+◌, Bool, false, not, ◌&&◌, ◌||◌, if◌then◌else◌, ◌==◌, nat_le, List, [], ◌∷◌, ◌++◌, length, Option, Some, None, is_none, slice_get}
+use Rattle.std.specs.Prelude.{ℕ, ℤ, ◌+◌, Bool, false, not, ◌&&◌, ◌||◌, if◌then◌else◌, ◌==◌, nat_le, List, [], ◌∷◌, ◌++◌, length, Option, Some, None, is_none, slice_get}
+use Rattle.std.specs.Str.{bytes_eq}
 use Rattle.mb_mbap.specs.declared.frame.Frame.{Frame}
 use Rattle.point_list.specs.declared.site.Site.{Site}
 use Rattle.read_planner.specs.declared.Read.{Read}
 use Rattle.poll_book.specs.declared.rows.PointRow.{PointRow}
+use Rattle.poll_book.specs.declared.requests.Body.{Body}
+use Rattle.poll_book.specs.declared.requests.Body.TheVariants as body
+use Rattle.poll_book.specs.declared.requests.Outcome.{Outcome}
+use Rattle.poll_book.specs.Orders.{Settings, last_order}
+use Rattle.poll_book.specs.Requests.{RequestKey, Requests, with_request}
 use Rattle.poll_book.specs.Tables.{Tables, Readings, with_rows}
 use Rattle.poll_book.specs.Totals as totals
 use Rattle.office_core.specs.declared.error.OfficeError.{OfficeError}
 use Rattle.office_core.specs.declared.error.OfficeError.TheVariants as error
 use Rattle.office_core.specs.declared.site.Target.{Target}
 use Rattle.office_core.specs.Sites.{no_site, line_place, target}
-use Rattle.office_core.specs.Cover.{Question, is_readable, fits, excepts, given_rows}
-use Rattle.office_core.specs.Loads.{loading, added}
+use Rattle.office_core.specs.Cover.{Question, is_readable, excepts, given_rows}
+use Rattle.office_core.specs.Queries.{Query, Reads, Writes, fits}
+use Rattle.office_core.specs.Loads.{known_named, loading, outcome, added}
+use Rattle.office_core.specs.Orders.{Ordering, ordering_of, ordered, with_ordered, send_fault, writing, settled_by}
 
 -- what may happen. A reply is named by its connection and the true number of its query there
 pub data Happening : Type 0 where
   Restart : (site : Site) → Happening
-  Load : (list : List ℕ) → Happening
+  Load : (caller key list : List ℕ) → Happening
+  Order : (caller key point : List ℕ) (value : ℤ) → Happening
   Open : (line : List ℕ) → Happening
   Ask : (conn : ℕ) (device : List ℕ) (slot : ℕ) (read : Read) → Happening
+  Send : (conn number : ℕ) → Happening
   Reply : (conn number : ℕ) (unit : List ℕ) → Happening
   Noise : (conn : ℕ) (frame : Frame) → Happening
 
@@ -37,10 +47,22 @@ site_of [] = no_site
 site_of (Restart site ∷ before) = site
 site_of (_ ∷ before) = site_of before
 
--- the points that were accepted, in order
+abbrev pub is_same_key : RequestKey → RequestKey → Bool
+is_same_key a b = bytes_eq a.0 b.0 && bytes_eq a.1 b.1
+
+-- a caller asked for something under this key
+abbrev pub is_used : History → RequestKey → Bool
+is_used [] key = false
+is_used (Load caller word list ∷ before) key = is_same_key (caller, word) key || is_used before key
+is_used (Order caller word point value ∷ before) key = is_same_key (caller, word) key || is_used before key
+is_used (_ ∷ before) key = is_used before key
+
+-- the points that were accepted, in order; a list counts where it is the first request under its key
 abbrev pub points : History → List PointRow
 points [] = []
-points (Load list ∷ before) = points before ++ added (length (points before)) (loading (site_of before) (points before) list)
+points (Load caller key list ∷ before) =
+    if is_used before (caller, key) then points before
+    else points before ++ added (length (points before)) (loading (site_of before) (points before) list)
 points (_ ∷ before) = points before
 
 -- ---- connections
@@ -98,33 +120,72 @@ question_to (Some to) device slot read known = record { device = device; place =
 abbrev pub question : Site → List PointRow → List ℕ → ℕ → Read → Question
 question site known device slot read = question_to (target site device) device slot read (length known)
 
--- the queries that a connection made, in order
-abbrev pub asked : History → ℕ → List Question
-asked [] conn = []
-asked (Ask c device slot read ∷ before) conn =
-    if c == conn && is_none (ask_fault (open_line before c) (site_of before) (points before) (length (asked before c)) device read)
-    then asked before conn ++ question (site_of before) (points before) device slot read ∷ []
-    else asked before conn
-asked (_ ∷ before) conn = asked before conn
-
--- ---- replies
-
-abbrev pub fits_query : Option Question → List ℕ → Bool
+abbrev pub fits_query : Option Query → List ℕ → Bool
 fits_query None unit = false
-fits_query (Some q) unit = fits q unit
+fits_query (Some query) unit = fits query unit
 
--- the query was answered
-abbrev pub is_answered : History → ℕ → ℕ → Bool
-is_answered [] conn number = false
-is_answered (Reply c n unit ∷ before) conn number =
-    (c == conn && (n == number && fits_query (slice_get (asked before conn) number) unit)) || is_answered before conn number
-is_answered (_ ∷ before) conn number = is_answered before conn number
+-- An order is sent while it waits, and a reply to what was sent settles it: so queries, which of them are answered, and
+-- settings are told together
+abbrev mutual
+  -- the queries that a connection made, in order
+  pub asked : History → ℕ → List Query
+  asked [] conn = []
+  asked (Ask c device slot read ∷ before) conn =
+      if c == conn && is_none (ask_fault (open_line before c) (site_of before) (points before) (length (asked before c)) device read)
+      then asked before conn ++ Reads (question (site_of before) (points before) device slot read) ∷ []
+      else asked before conn
+  asked (Send c number ∷ before) conn =
+      if c == conn && is_none (send_fault (open_line before c) (site_of before) (points before) (settings before) (length (asked before c)) number)
+      then asked before conn ++ Writes (writing (site_of before) (points before) (settings before) number) ∷ []
+      else asked before conn
+  asked (_ ∷ before) conn = asked before conn
+
+  -- the query was answered
+  pub is_answered : History → ℕ → ℕ → Bool
+  is_answered [] conn number = false
+  is_answered (Reply c n unit ∷ before) conn number =
+      (c == conn && (n == number && fits_query (slice_get (asked before conn) number) unit)) || is_answered before conn number
+  is_answered (_ ∷ before) conn number = is_answered before conn number
+
+  -- what the accepted orders set, and how they stand
+  pub settings : History → Settings
+  settings [] = []
+  settings (Order caller key point value ∷ before) =
+      if is_used before (caller, key) then settings before
+      else with_ordered (ordering_of (last_order (settings before)) (known_named (points before) point) value) (settings before)
+  settings (Reply c n unit ∷ before) =
+      if is_answered before c n then settings before
+      else settled_by (slice_get (asked before c) n) unit (settings before)
+  settings (_ ∷ before) = settings before
+
+-- ---- requests
+
+-- what becomes of an order
+abbrev pub ordering : History → List ℕ → ℤ → Ordering
+ordering before point value = ordering_of (last_order (settings before)) (known_named (points before) point) value
+
+-- what becomes of what a caller asks for
+abbrev pub outcome_of : History → Body → Outcome
+outcome_of before (body.List list) = outcome (loading (site_of before) (points before) list)
+outcome_of before (body.Order point value) = ordered (last_order (settings before)) (ordering before point value)
+
+abbrev pub first_asked : History → RequestKey → Body → Requests → Requests
+first_asked before key asked table =
+    if is_used before key then table else with_request key (record { body = asked; outcome = outcome_of before asked }) table
+
+-- the first request under each key, with what became of it
+abbrev pub requests : History → Requests
+requests [] = []
+requests (Load caller key list ∷ before) = first_asked before (caller, key) (body.List list) (requests before)
+requests (Order caller key point value ∷ before) = first_asked before (caller, key) (body.Order point value) (requests before)
+requests (_ ∷ before) = requests before
 
 -- ---- what first arrivals give
 
-abbrev pub given_by : List PointRow → Option Question → List ℕ → Readings
+abbrev pub given_by : List PointRow → Option Query → List ℕ → Readings
 given_by known None unit = []
-given_by known (Some q) unit = if fits q unit && not (excepts q.read unit) then given_rows known q unit else []
+given_by known (Some (Reads q)) unit = if fits (Reads q) unit && not (excepts q.read unit) then given_rows known q unit else []
+given_by known (Some (Writes w)) unit = []
 
 -- the readings that the first answering reply to each query gives, in order
 abbrev pub given : History → Readings
@@ -140,7 +201,13 @@ readings before = with_rows (given before) []
 -- ---- the tables
 
 abbrev pub tables : History → Tables
-tables before = record { points = points before; readings = readings before; connections = connections before }
+tables before = record {
+  points = points before;
+  readings = readings before;
+  settings = settings before;
+  requests = requests before;
+  connections = connections before;
+}
 
 -- how far a counter went by its counted readings
 abbrev pub total : History → PointRow → ℕ

@@ -1,15 +1,23 @@
 -- What a keeper holds, and what is written to it.
-use Rattle.std.specs.Prelude.{◌≡◌, ◌⊎◌, ℕ, ◌<◌, ⊤, List, [], ◌∷◌, length}
+use Rattle.std.specs.Prelude.{◌≡◌, ◌⊎◌, ℕ, ◌<◌, ⊤, List, [], ◌∷◌, length, Option, Some, None}
 use Rattle.mb_pdu.specs.declared.reply.Reply.{Reply}
 use Rattle.mb_pdu.specs.declared.reply.Reply.TheVariants.{Excepted}
 use Rattle.point_list.specs.declared.site.Site.{Site}
 use Rattle.poll_match.specs.declared.asked.Asked.{Asked}
+use Rattle.poll_match.specs.declared.asked.Asked.TheVariants as asked
 use Rattle.poll_book.specs.declared.rows.Change.{Change}
 use Rattle.poll_book.specs.declared.rows.PointRow.{PointRow}
+use Rattle.poll_book.specs.declared.rows.SettingRow.{SettingRow}
+use Rattle.poll_book.specs.declared.requests.RequestRow.{RequestRow}
+use Rattle.poll_book.specs.declared.rows.OrderState.{OrderState}
+use Rattle.poll_book.specs.declared.rows.OrderState.TheVariants.{Done}
 use Rattle.poll_book.specs.Changes.{AreNumbered, IsNew, applied, keyed}
 use Rattle.office_core.specs.declared.event.Arrival.{Arrival}
 use Rattle.office_core.specs.declared.event.Arrival.TheVariants as arrival
-use Rattle.office_core.specs.Cover.{given_at, reply_cells, slot_of}
+use Rattle.office_core.specs.Cover.{given_at, reply_cells}
+use Rattle.office_core.specs.Orders.{state_after, settle}
+use Rattle.read_planner.specs.declared.Read.{Read}
+use Rattle.office_core.specs.declared.cover.Asking.{Asking}
 use Rattle.poll_book.specs.Tables.{Tables, Readings, new_rows, with_rows}
 
 -- it holds these tables, and a crash leaves them, or them with one change that was refused
@@ -30,19 +38,54 @@ abbrev pub Rises : ℕ → Readings → Type 0
 Rises n [] = ⊤
 Rises n (row ∷ rest) = (n < row.0.0) × Rises row.0.0 rest
 
+-- a change of nothing
+abbrev pub no_change : Change
+no_change = record { points = []; readings = []; setting = None; request = None; connections = None }
+
+-- a change that keeps a request, with points or a setting
+abbrev pub asked_change : List PointRow → Option SettingRow → RequestRow → Change
+asked_change points setting request = record { points = points; readings = []; setting = setting; request = Some request; connections = None }
+
 -- the tables with these readings, where there were none
 abbrev pub with_given : Readings → Tables → Tables
 with_given rows kept = record kept { readings = with_rows (new_rows kept.readings rows) kept.readings }
 
+-- the tables with an order settled so, where it waits
+abbrev pub with_state : ℕ → Option OrderState → Tables → Tables
+with_state order state kept = record kept { settings = settle order state kept.settings }
+
 -- ---- what a reply brings
 
-abbrev pub rows_at : Site → List PointRow → Asked → Reply → Readings
-rows_at site known asked reply = keyed (slot_of asked) (given_at site known asked (reply_cells reply))
+-- the rows of a reply to a read
+abbrev pub rows_at : Site → List PointRow → Asking → Reply → Readings
+rows_at site known asking reply = keyed asking.slot (given_at site known asking (reply_cells reply))
 
+abbrev pub brought_read : Site → List PointRow → Asking → Reply → Tables → Tables
+brought_read site known asking (Excepted code) kept = kept
+brought_read site known asking reply kept = with_given (rows_at site known asking reply) kept
+
+abbrev pub read_arrival : Site → List PointRow → Asking → Reply → Tables → Arrival
+read_arrival site known asking (Excepted code) kept = arrival.Excepted code
+read_arrival site known asking reply kept = arrival.Recorded (length (new_rows kept.readings (rows_at site known asking reply)))
+
+-- how an order stands after a reply to what was sent for it, if the reply settles it
+abbrev pub reply_state : Reply → Option OrderState
+reply_state (Excepted code) = state_after code
+reply_state reply = Some Done
+
+abbrev pub write_arrival : Reply → Arrival
+write_arrival (Excepted code) = arrival.Excepted code
+write_arrival reply = arrival.Settled
+
+-- what is kept of a read, but for its unit identifier
+abbrev pub asking_of : ℕ → ℕ → Read → ℕ → Asking
+asking_of place slot read before = record { device = place; slot = slot; read = read; known = before }
+
+-- the tables after a reply to a query, and what it is told as
 abbrev pub brought : Site → List PointRow → Asked → Reply → Tables → Tables
-brought site known asked (Excepted code) kept = kept
-brought site known asked reply kept = with_given (rows_at site known asked reply) kept
+brought site known (asked.Read unit_id place slot read before) reply kept = brought_read site known (asking_of place slot read before) reply kept
+brought site known (asked.Write unit_id order address payload) reply kept = with_state order (reply_state reply) kept
 
 abbrev pub arrival_of : Site → List PointRow → Asked → Reply → Tables → Arrival
-arrival_of site known asked (Excepted code) kept = arrival.Excepted code
-arrival_of site known asked reply kept = arrival.Recorded (length (new_rows kept.readings (rows_at site known asked reply)))
+arrival_of site known (asked.Read unit_id place slot read before) reply kept = read_arrival site known (asking_of place slot read before) reply kept
+arrival_of site known (asked.Write unit_id order address payload) reply kept = write_arrival reply

@@ -1,7 +1,11 @@
 pub mod Errors
 pub mod Sites
 pub mod Cover
+pub mod Queries
+pub mod Registers
 pub mod Loads
+pub mod Orders
+pub mod Sending
 pub mod History
 pub mod Answers
 pub mod Legal
@@ -9,6 +13,8 @@ pub mod Standing
 pub mod Keeping
 pub mod Offices
 pub mod FirstArrivals
+pub mod KeptRequests
+pub mod SettledOrders
 pub mod Fitting
 pub mod Messages
 pub mod ByName

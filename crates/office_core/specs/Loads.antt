@@ -16,10 +16,10 @@ use Rattle.point_list.specs.Columns.{is_device}
 use Rattle.point_list.specs.Lists.{records_of}
 use Rattle.point_list.specs.ListMeaning.{list_meaning}
 use Rattle.poll_book.specs.declared.rows.PointRow.{PointRow}
-use Rattle.office_core.specs.declared.event.Reason.{Reason}
-use Rattle.office_core.specs.declared.event.LoadFault.TheVariants.{List as OfList, PointDiffers}
-use Rattle.office_core.specs.declared.event.Outcome.{Outcome}
-use Rattle.office_core.specs.declared.event.Outcome.TheVariants.{Loaded, RefusedFor}
+use Rattle.poll_book.specs.declared.requests.Reason.{Reason}
+use Rattle.poll_book.specs.declared.requests.RequestFault.TheVariants.{List as OfList, PointDiffers}
+use Rattle.poll_book.specs.declared.requests.Outcome.{Outcome}
+use Rattle.poll_book.specs.declared.requests.Outcome.TheVariants.{Loaded, RefusedFor}
 
 -- the known point of this name
 abbrev pub known_named : List PointRow → List ℕ → Option PointRow

@@ -5,14 +5,14 @@ use Rattle.mb_mbap.specs.declared.frame.Frame.{Frame}
 use Rattle.poll_match.specs.Window.{numbered}
 use Rattle.office_core.specs.declared.event.Event.{Event}
 use Rattle.office_core.specs.declared.event.Event.TheVariants as event
-use Rattle.office_core.specs.Cover.{Question}
-use Rattle.office_core.specs.History.{Happening, Restart, Load, Open, Ask, Reply, Noise, History, site_of, open_line, asked}
-use Rattle.office_core.specs.Legal.{frame_answers}
+use Rattle.office_core.specs.Queries.{Query}
+use Rattle.office_core.specs.History.{Happening, Restart, Load, Order, Open, Ask, Send, Reply, Noise, History, site_of, open_line, asked}
+use Rattle.office_core.specs.Legal.{AreWords, IsNumber, frame_answers}
 
 -- a frame that answers the query that it names is a reply to it, and any other is noise
-abbrev pub answering : ℕ → Frame → ℕ → Option Question → Happening
+abbrev pub answering : ℕ → Frame → ℕ → Option Query → Happening
 answering conn frame number None = Noise conn frame
-answering conn frame number (Some q) = if frame_answers q frame then Reply conn number frame.unit else Noise conn frame
+answering conn frame number (Some query) = if frame_answers query frame then Reply conn number frame.unit else Noise conn frame
 
 abbrev pub naming : History → ℕ → Frame → Option ℕ → Happening
 naming before conn frame None = Noise conn frame
@@ -28,16 +28,20 @@ arriving before conn frame = arriving_over before conn frame (open_line before c
 
 -- what happened where an office sees this
 abbrev pub happening_of : History → Event → Happening
-happening_of before (event.Load list) = Load list
+happening_of before (event.Load caller key list) = Load caller key list
+happening_of before (event.Order caller key point value) = Order caller key point value
 happening_of before (event.Open line) = Open line
 happening_of before (event.Ask conn device slot read) = Ask conn device slot read
+happening_of before (event.Send conn number) = Send conn number
 happening_of before (event.Arrive conn frame) = arriving before conn frame
 happening_of before event.Restart = Restart (site_of before)
 
 -- a caller's or a device's message: its texts are bytes, and its numbers are of their types
 abbrev pub IsMessage : Event → Type 0
-IsMessage (event.Load list) = IsBytes list
+IsMessage (event.Load caller key list) = IsBytes list × AreWords (caller, key)
+IsMessage (event.Order caller key point value) = IsBytes point × IsNumber value × AreWords (caller, key)
 IsMessage (event.Open line) = IsBytes line
 IsMessage (event.Ask conn device slot read) = IsBytes device × (conn ≤ 4294967295) × (slot ≤ 4294967295)
+IsMessage (event.Send conn number) = (conn ≤ 4294967295) × (number ≤ 4294967295)
 IsMessage (event.Arrive conn frame) = IsBytes frame.unit
 IsMessage event.Restart = ⊥

@@ -1,5 +1,5 @@
 -- What an office stands for.
-use Rattle.std.specs.Prelude.{◌≡◌, ℕ, ⊤, List, Option, Some, None, if◌then◌else◌, Result, Ok, Err, Vec}
+use Rattle.std.specs.Prelude.{◌≡◌, ℕ, ⊤, List, Option, Some, None, option_map, if◌then◌else◌, Result, Ok, Err, Vec}
 use Rattle.std.specs.Global.{Global}
 use Rattle.mb_mbap.specs.declared.frame.Frame.{Frame}
 use Rattle.poll_match.specs.Window.{held}
@@ -13,13 +13,17 @@ use Rattle.poll_book.specs.declared.keeper.Neighbours.{Ghosts}
 use Rattle.office_core.specs.declared.office.Office.{Office}
 use Rattle.office_core.specs.declared.error.OfficeError.{OfficeError}
 use Rattle.office_core.specs.declared.event.Arrival.{Arrival}
-use Rattle.office_core.specs.declared.event.Outcome.{Outcome}
+use Rattle.office_core.specs.declared.event.RequestAnswer.{RequestAnswer}
+use Rattle.poll_book.specs.declared.rows.OrderState.{OrderState}
+use Rattle.poll_book.specs.declared.rows.Setting.{Setting}
+use Rattle.poll_book.specs.Orders.{setting_at}
 use Rattle.office_core.specs.declared.event.EventAnswer.{EventAnswer}
 use Rattle.office_core.specs.declared.event.EventAnswer.TheVariants as answer
 use Rattle.poll_book.specs.declared.fault.StoreFault.{StoreFault}
 use Rattle.office_core.specs.Errors.{IsCaused}
 use Rattle.office_core.specs.Loads.{known_named}
-use Rattle.office_core.specs.History.{History, points, readings, total}
+use Rattle.poll_book.specs.Requests.{RequestKey, request_at}
+use Rattle.office_core.specs.History.{History, points, readings, settings, requests, total}
 use Rattle.office_core.specs.Keeping.{Endures}
 use Rattle.office_core.specs.Standing.{StandsFor}
 
@@ -42,6 +46,13 @@ abbrev pub StandsInCrash : {K : Type 0} {g : Ghosts K} → Office K g → Histor
 StandsInCrash {g = g} office before =
     StandsFor (Endures (g.holds office.keeper) (g.may_leave office.keeper)) office.site office.points.items office.matcher before
 
+-- and the key wasn't used
+abbrev pub StandsUnused : {K : Type 0} {g : Ghosts K} → Office K g → RequestKey → History → Type 0
+StandsUnused office key before = Stands office before × (request_at (requests before) key ≡ None)
+
+abbrev pub StandsInCrashUnused : {K : Type 0} {g : Ghosts K} → Office K g → RequestKey → History → Type 0
+StandsInCrashUnused office key before = StandsInCrash office before × (request_at (requests before) key ≡ None)
+
 -- nothing changed but room: the tables that were held are held still
 abbrev pub IsAlike : {K : Type 0} {g : Ghosts K} → Office K g → Office K g → Type 0
 IsAlike {g = g} old new =
@@ -50,9 +61,9 @@ IsAlike {g = g} old new =
 
 -- ---- how a call's result is told
 
-abbrev pub judged : Result Outcome OfficeError → EventAnswer
-judged (Ok outcome) = answer.Judged outcome
-judged (Err e) = answer.Refused e
+abbrev pub told_so : Result RequestAnswer OfficeError → EventAnswer
+told_so (Ok told) = answer.Request told
+told_so (Err e) = answer.Refused e
 
 abbrev pub opened : Result ℕ OfficeError → EventAnswer
 opened (Ok conn) = answer.Opened conn
@@ -94,3 +105,12 @@ total_at before (Some known) = if is_counter known.point.role then Some (total b
 -- how far a known counter went
 abbrev pub total_of : History → List ℕ → Option ℕ
 total_of before name = total_at before (known_named (points before) name)
+
+-- ---- queries by an order's number
+
+abbrev pub state_of : Option Setting → Option OrderState
+state_of found = option_map (λ (setting : Setting). setting.state) found
+
+-- how the order of this number stands
+abbrev pub order_state_of : History → ℕ → Option OrderState
+order_state_of before number = state_of (setting_at (settings before) number)

@@ -1,25 +1,25 @@
 -- How an office stands for a history, and what it sees of one.
-use Rattle.std.specs.Prelude.{◌≡◌, ℕ, ◌+◌, Bool, true, false, if◌then◌else◌, List, [], ◌∷◌, length, Option, Some, None, option_map, slice_get, ⊤}
+use Rattle.std.specs.Prelude.{◌≡◌, ℕ, ◌+◌, Bool, true, false, not, if◌then◌else◌, List, [], ◌∷◌, length, Option, Some, None, option_map, slice_get, ⊤}
 use Rattle.point_list.specs.declared.site.Site.{Site}
 use Rattle.poll_match.specs.declared.asked.Matched.{Matched}
 use Rattle.poll_match.specs.Window.{Open as OpenOne, Changes, IsLeastOf, closed, held, last_of, line_of}
 use Rattle.poll_book.specs.declared.rows.PointRow.{PointRow}
 use Rattle.poll_book.specs.Tables.{Tables}
-use Rattle.office_core.specs.declared.error.OfficeError.TheVariants as error
+use Rattle.office_core.specs.Errors.{is_of_store}
 use Rattle.office_core.specs.declared.event.Event.{Event}
 use Rattle.office_core.specs.declared.event.Event.TheVariants as event
 use Rattle.office_core.specs.declared.event.EventAnswer.{EventAnswer}
 use Rattle.office_core.specs.declared.event.EventAnswer.TheVariants as answer
-use Rattle.office_core.specs.declared.event.Outcome.TheVariants.{RefusedFor}
-use Rattle.office_core.specs.Cover.{Question, asked_of}
-use Rattle.office_core.specs.History.{Happening, Restart, Load, Open, Ask, Reply, Noise, History, after, tables, site_of, points, open_line, asked, is_answered}
+use Rattle.office_core.specs.declared.event.RequestAnswer.TheVariants.{Kept, KeyReused}
+use Rattle.office_core.specs.Queries.{Query, asked_of}
+use Rattle.office_core.specs.History.{Happening, Restart, Load, Order, Open, Ask, Send, Reply, Noise, History, after, tables, site_of, points, open_line, asked, is_answered}
 use Rattle.office_core.specs.Answers.{answer_of, answers_of, reply_frame}
 use Rattle.office_core.specs.Legal.{MayHappen, Legal}
 
 -- ---- what the matcher knows
 
 -- the queries from this number on, each with whether it was answered
-abbrev pub queries_from : History → ℕ → ℕ → List Question → List Matched
+abbrev pub queries_from : History → ℕ → ℕ → List Query → List Matched
 queries_from before conn n [] = []
 queries_from before conn n (q ∷ qs) =
     record { asked = asked_of q; settled = is_answered before conn n } ∷ queries_from before conn (n + 1) qs
@@ -49,9 +49,11 @@ pub record StandsFor (holds : Tables → Type 0) (now : Site) (known : List Poin
 
 abbrev pub Sees : History → Happening → Event → Type 0
 Sees before (Restart site) event.Restart = site ≡ site_of before
-Sees before (Load list) (event.Load seen) = seen ≡ list
+Sees before (Load caller key list) (event.Load c k seen) = (c ≡ caller) × (k ≡ key) × (seen ≡ list)
+Sees before (Order caller key point value) (event.Order c k p v) = (c ≡ caller) × (k ≡ key) × (p ≡ point) × (v ≡ value)
 Sees before (Open line) (event.Open seen) = seen ≡ line
 Sees before (Ask c device slot read) (event.Ask conn name s r) = (conn ≡ c) × (name ≡ device) × (s ≡ slot) × (r ≡ read)
+Sees before (Send c number) (event.Send conn n) = (conn ≡ c) × (n ≡ number)
 Sees before (Reply c n unit) (event.Arrive conn frame) = (conn ≡ c) × (frame ≡ reply_frame n (slice_get (asked before c) n) unit)
 Sees before (Noise c noise) (event.Arrive conn frame) = (conn ≡ c) × (frame ≡ noise)
 Sees before happening seen = ⊥
@@ -77,12 +79,14 @@ Closes (Some former) old new = Changes former closed old new
 -- ---- one event, which is refused by the store or happens
 
 abbrev pub is_store : EventAnswer → Bool
-is_store (answer.Refused (error.Store fault)) = true
+is_store (answer.Refused e) = is_of_store e
 is_store _ = false
 
+-- an answer after which nothing has changed: a refusal, or that of a request whose key was used
 abbrev pub is_refusal : EventAnswer → Bool
 is_refusal (answer.Refused fault) = true
-is_refusal (answer.Judged (RefusedFor reason)) = true
+is_refusal (answer.Request (Kept first outcome)) = not first
+is_refusal (answer.Request KeyReused) = true
 is_refusal _ = false
 
 -- the events that the store didn't refuse, and their answers

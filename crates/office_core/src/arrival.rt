@@ -2,19 +2,84 @@
 ghost use Rattle.std.specs.Prelude.{◌≡◌, ◌≤◌, IfErr, IfOk, OnErr, MatchResult, length};
 ghost use Rattle.poll_book.specs.Tables.{Tables, Within};
 ghost use Rattle.poll_book.specs.Fault.{HasCause};
-ghost use Rattle.office_core.specs.Cover.{Answers};
-ghost use Rattle.office_core.specs.Keeping.{Endures, IsCopy, arrival_of, brought};
+ghost use Rattle.office_core.specs.Orders as orders;
+ghost use Rattle.office_core.specs.Queries.{Answers, AnswersRead};
+ghost use Rattle.office_core.specs.Keeping as keeping;
+ghost use Rattle.office_core.specs.Keeping.{Endures, IsCopy, arrival_of, brought, brought_read, read_arrival, with_state, write_arrival};
 
-use crate::commit::keep_readings;
-use crate::cover::{covered_by, slot_of};
+use crate::commit::{keep_readings, keep_state};
+use crate::cover::{Asking, covered_by};
 use crate::event::Arrival;
 use mb_pdu::Reply;
 use point_list::Site;
-use poll_book::{Keeper, PointRow, StoreFault};
+use poll_book::{Keeper, OrderState, PointRow, StoreFault};
 use poll_match::Asked;
 use std::alloc::Global;
 
-/// Writes the readings that a reply to a query gives, and tells what it was.
+/// Writes the readings that a reply to a read gives, and tells what it was.
+fn bring_readings<K: Keeper>(
+    alloc: Global,
+    keeper: &mut K,
+    site: &Site,
+    known: &[PointRow],
+    asking: &Asking,
+    reply: &Reply,
+) -> Result<Arrival, StoreFault>
+    requires few { length known.now ≤ 10000 }
+    requires answers { AnswersRead asking.now.read reply.now }
+    ensures told { K.is_clean keeper.new → (kept : Tables) → K.holds keeper.old kept
+        → IfOk result (λ arrival. arrival ≡ read_arrival site.now known.now asking.now reply.now kept) }
+    ensures kept { K.is_clean keeper.new → (kept : Tables) → K.holds keeper.old kept → IsCopy known.now kept
+        → MatchResult result (λ _. K.holds keeper.new (brought_read site.now known.now asking.now reply.now kept)) (λ _. K.holds keeper.new kept) }
+    ensures crash { K.is_clean keeper.new → (kept : Tables) → Endures (K.holds keeper.old) (K.may_leave keeper.old) kept → IsCopy known.now kept
+        → MatchResult result
+        (λ _. Endures (K.holds keeper.new) (K.may_leave keeper.new) (brought_read site.now known.now asking.now reply.now kept))
+        (λ _. Endures (K.holds keeper.new) (K.may_leave keeper.new) kept) }
+    ensures cause { IfErr result (λ fault. HasCause K.may_refuse fault) }
+    ensures err { OnErr result (Within (K.holds keeper.old) (K.holds keeper.new)) }
+    ensures clean { K.is_clean keeper.new → K.is_clean keeper.old }
+{
+    match reply {
+        Reply::Excepted(code) => Ok(Arrival::Excepted(*code)),
+        reply => {
+            let covered = covered_by(alloc, site, known, asking, reply)?;
+            let count = keep_readings(alloc, keeper, &covered, asking.slot)?;
+            Ok(Arrival::Recorded(count))
+        }
+    }
+}
+
+/// How an order stands after an exception, if the exception settles it: acknowledge (5) and server
+/// device busy (6) leave it waiting (Modbus Application Protocol V1.1b3, section 7).
+fn state_after(code: u8) -> Option<OrderState>
+    ensures { result ≡ orders.state_after code }
+{
+    match code {
+        5 | 6 => None,
+        _ => Some(OrderState::Refused(code)),
+    }
+}
+
+fn reply_state(reply: &Reply) -> Option<OrderState>
+    ensures { result ≡ keeping.reply_state reply.now }
+{
+    match reply {
+        Reply::Excepted(code) => state_after(*code),
+        _ => Some(OrderState::Done),
+    }
+}
+
+/// What a reply to a write is told as.
+fn written(reply: &Reply) -> Arrival
+    ensures { result ≡ write_arrival reply.now }
+{
+    match reply {
+        Reply::Excepted(code) => Arrival::Excepted(*code),
+        _ => Arrival::Settled,
+    }
+}
+
+/// Writes what a reply to a query brings: readings, or how an order stands. Tells what it was.
 pub(crate) fn bring<K: Keeper>(
     alloc: Global,
     keeper: &mut K,
@@ -37,12 +102,25 @@ pub(crate) fn bring<K: Keeper>(
     ensures err { OnErr result (Within (K.holds keeper.old) (K.holds keeper.new)) }
     ensures clean { K.is_clean keeper.new → K.is_clean keeper.old }
 {
-    match reply {
-        Reply::Excepted(code) => Ok(Arrival::Excepted(*code)),
-        reply => {
-            let covered = covered_by(alloc, site, known, asked, reply)?;
-            let count = keep_readings(alloc, keeper, &covered, slot_of(asked))?;
-            Ok(Arrival::Recorded(count))
+    match asked {
+        Asked::Read {
+            device,
+            slot,
+            read,
+            known: before,
+            ..
+        } => {
+            let asking = Asking {
+                device: *device,
+                slot: *slot,
+                read: *read,
+                known: *before,
+            };
+            bring_readings(alloc, keeper, site, known, &asking, reply)
+        }
+        Asked::Write { order, .. } => {
+            keep_state(alloc, keeper, *order, reply_state(reply))?;
+            Ok(written(reply))
         }
     }
 }

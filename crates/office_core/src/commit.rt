@@ -1,13 +1,15 @@
 //! What is written to a keeper.
-ghost use Rattle.std.specs.Prelude.{◌≡◌, ◌≤◌, IfErr, IfOk, OnErr, MatchResult, length};
+ghost use Rattle.std.specs.Prelude.{◌≡◌, ◌≤◌, IfErr, IfOk, IfSome, OnErr, MatchResult, false, length};
 ghost use Rattle.poll_book.specs.Tables.{Tables, Within, new_rows};
 ghost use Rattle.poll_book.specs.Changes.{IsNew, applied, keyed};
 ghost use Rattle.poll_book.specs.Fault.{HasCause};
-ghost use Rattle.office_core.specs.Keeping.{Endures, IsCounted, Rises, with_given};
+ghost use Rattle.poll_book.specs.Orders.{is_waiting, setting_at};
+ghost use Rattle.office_core.specs.Orders.{waiting_at};
+ghost use Rattle.office_core.specs.Keeping.{Endures, IsCounted, Rises, with_given, with_state};
 
+use crate::changes::{readings_change, state_change};
 use mb_pdu::Registers;
-use point_list::Items;
-use poll_book::{Change, Keeper, PointRow, StoreFault, record};
+use poll_book::{Change, Keeper, OrderState, PointRow, Setting, StoreFault, record};
 use std::alloc::Global;
 
 /// Writes a change, whole or not at all.
@@ -23,6 +25,22 @@ pub(crate) fn commit<K: Keeper>(keeper: &mut K, change: &Change) -> Result<(), S
     ensures clean { K.is_clean keeper.new → K.is_clean keeper.old }
 {
     keeper.apply(change)
+}
+
+/// Writes a change that nothing needs afterwards.
+// A change is given back here alone: each place that does so is proved for every form of its parts.
+pub(crate) fn write<K: Keeper>(keeper: &mut K, change: Change) -> Result<(), StoreFault>
+    ensures kept { K.is_clean keeper.new → (kept : Tables) → K.holds keeper.old kept → IsNew change kept
+        → MatchResult result (λ _. K.holds keeper.new (applied change kept)) (λ _. K.holds keeper.new kept) }
+    ensures crash { K.is_clean keeper.new → (kept : Tables) → Endures (K.holds keeper.old) (K.may_leave keeper.old) kept → IsNew change kept
+        → MatchResult result
+        (λ _. Endures (K.holds keeper.new) (K.may_leave keeper.new) (applied change kept))
+        (λ _. Endures (K.holds keeper.new) (K.may_leave keeper.new) kept) }
+    ensures cause { IfErr result (λ fault. K.may_refuse fault) }
+    ensures err { OnErr result (Within (K.holds keeper.old) (K.holds keeper.new)) }
+    ensures clean { K.is_clean keeper.new → K.is_clean keeper.old }
+{
+    commit(keeper, &change)
 }
 
 /// Writes the readings that the keeper lacks, and tells how many they are.
@@ -50,13 +68,48 @@ pub(crate) fn keep_readings<K: Keeper>(
     if count == 0 {
         return Ok(0);
     }
-    commit(
-        keeper,
-        &Change {
-            points: Items::from_vec(Vec::new(alloc)),
-            readings: Items::from_vec(rows),
-            connections: None,
-        },
-    )?;
+    write(keeper, readings_change(alloc, rows))?;
     Ok(count)
+}
+
+/// What an order sets, where it waits.
+fn waiting_setting<K: Keeper>(keeper: &mut K, order: u32) -> Result<Option<Setting>, StoreFault>
+    ensures value { K.is_clean keeper.new → (kept : Tables) → K.holds keeper.old kept
+        → IfOk result (λ found. found ≡ waiting_at (setting_at kept.settings order)) }
+    ensures cause { IfErr result (λ fault. K.may_refuse fault) }
+    ensures same { Within (K.holds keeper.old) (K.holds keeper.new) }
+    ensures crash { K.is_clean keeper.new → Within (K.may_leave keeper.new) (K.may_leave keeper.old) }
+    ensures clean { K.is_clean keeper.new → K.is_clean keeper.old }
+{
+    match keeper.setting(order)? {
+        Some(setting) if setting.state == OrderState::Waiting => Ok(Some(setting)),
+        _ => Ok(None),
+    }
+}
+
+/// Settles an order that waits. One that is settled stays as it is.
+pub(crate) fn keep_state<K: Keeper>(
+    alloc: Global,
+    keeper: &mut K,
+    order: u32,
+    state: Option<OrderState>,
+) -> Result<(), StoreFault>
+    requires { IfSome state (λ s. is_waiting s ≡ false) }
+    ensures kept { K.is_clean keeper.new → (kept : Tables) → K.holds keeper.old kept → IsCounted kept
+        → MatchResult result (λ _. K.holds keeper.new (with_state order state kept)) (λ _. K.holds keeper.new kept) }
+    ensures crash { K.is_clean keeper.new → (kept : Tables) → Endures (K.holds keeper.old) (K.may_leave keeper.old) kept → IsCounted kept
+        → MatchResult result
+        (λ _. Endures (K.holds keeper.new) (K.may_leave keeper.new) (with_state order state kept))
+        (λ _. Endures (K.holds keeper.new) (K.may_leave keeper.new) kept) }
+    ensures cause { IfErr result (λ fault. K.may_refuse fault) }
+    ensures err { OnErr result (Within (K.holds keeper.old) (K.holds keeper.new)) }
+    ensures clean { K.is_clean keeper.new → K.is_clean keeper.old }
+{
+    let Some(state) = state else {
+        return Ok(());
+    };
+    let Some(setting) = waiting_setting(keeper, order)? else {
+        return Ok(());
+    };
+    write(keeper, state_change(alloc, order, setting, state))
 }

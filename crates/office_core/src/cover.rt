@@ -6,9 +6,18 @@ ghost use Rattle.office_core.specs.Cover.{Brings};
 use mb_pdu::{Bits, Registers, Reply, Table};
 use point_list::{Point, Site};
 use poll_book::PointRow;
-use poll_match::Asked;
 use read_planner::Read;
 use std::alloc::{AllocError, Global};
+
+/// A read that was asked: of the device at this place of the site, for this slot, when so many points
+/// were known.
+#[derive(Clone, Copy)]
+pub(crate) struct Asking {
+    pub(crate) device: u16,
+    pub(crate) slot: u32,
+    pub(crate) read: Read,
+    pub(crate) known: u32,
+}
 
 fn reads_table(function: u8, table: Table) -> bool
     ensures { result ≡ cover.reads_table function table }
@@ -135,36 +144,24 @@ fn covered(
     Ok(rows)
 }
 
-/// The slot of a query.
-pub(crate) fn slot_of(asked: &Asked) -> u32
-    ensures { result ≡ cover.slot_of asked.now }
-{
-    match asked {
-        Asked::Read { slot, .. } => *slot,
-    }
-}
-
-/// What a reply gives to the points that its query covers.
+/// What a reply gives to the points that a read covers.
 pub(crate) fn covered_by(
     alloc: Global,
     site: &Site,
     known: &[PointRow],
-    asked: &Asked,
+    asking: &Asking,
     reply: &Reply,
 ) -> Result<Vec<(PointRow, Registers)>, AllocError>
-    requires { Brings (cover.read_of asked.now) reply.now }
-    ensures rows { IfOk result (λ rows. rows.items ≡ cover.given_at site.now known.now asked.now (cover.reply_cells reply.now)) }
+    requires { Brings asking.now.read reply.now }
+    ensures rows { IfOk result (λ rows. rows.items ≡ cover.given_at site.now known.now asking.now (cover.reply_cells reply.now)) }
     ensures few { IfOk result (λ rows. length rows.items ≤ length known.now) }
 {
-    let Asked::Read {
-        device,
-        read,
-        known: before,
-        ..
-    } = asked;
-    let count = known.len().min(*before as usize);
-    match site.devices.as_slice().get(*device as usize) {
-        Some(device) => covered(alloc, &known[..count], device.name.as_bytes(), read, reply),
+    let count = known.len().min(asking.known as usize);
+    match site.devices.as_slice().get(asking.device as usize) {
+        Some(device) => {
+            let name = device.name.as_bytes();
+            covered(alloc, &known[..count], name, &asking.read, reply)
+        }
         None => Ok(Vec::new(alloc)),
     }
 }

@@ -15,6 +15,15 @@ pub enum OfficeError {
     /// The read isn't valid, passes address 65,535, or holds no known point whole.
     #[error("no such read")]
     NoRead,
+    /// No order has this number.
+    #[error("no such order")]
+    NoOrder,
+    /// The order was settled before.
+    #[error("the order was settled before")]
+    Settled,
+    /// An older order waits on the same device.
+    #[error("an older order waits")]
+    NotNext,
     /// No connection number or no query number is left.
     #[error("no number is left")]
     Exhausted,

@@ -1,50 +1,36 @@
 use crate::error::OfficeError;
 use mb_mbap::Frame;
-use point_list::{Items, ListFault, Text};
+use point_list::{Items, Text};
+use poll_book::{Caller, Key, Outcome};
 use poll_match::Conn;
 use read_planner::Read;
 
 /// What happens to an office.
 #[derive(Debug, Drop)]
 pub enum Event {
-    /// The bytes of a point list.
-    Load(Items<u8>),
+    /// The bytes of a point list, from a caller under a key of its own.
+    Load(Caller, Key, Items<u8>),
+    /// A value for a setting, by the point's name, from a caller under a key of its own.
+    Order(Caller, Key, Text, i128),
     /// A line by its name.
     Open(Text),
     /// A read of a device, by its name, for a slot.
     Ask(Conn, Text, u32, Read),
+    /// The order of this number, to be sent.
+    Send(Conn, u32),
     /// A frame that came over a connection.
     Arrive(Conn, Frame),
     /// The office begins anew, with the same site.
     Restart,
 }
 
-/// Why a list isn't taken, by its place.
+/// The answer to a request of a caller.
 #[derive(Clone, Copy, Debug, PartialEq, Eq)]
-pub struct Reason {
-    pub fault: LoadFault,
-    /// The number of the record, of which the header is 1, or 0 where no record is at fault.
-    pub row: u32,
-    /// The column, from 1, or 0 where no column is at fault.
-    pub column: u8,
-}
-
-/// What is wrong with a list that is loaded.
-#[derive(Clone, Copy, Debug, PartialEq, Eq)]
-pub enum LoadFault {
-    /// A fault of the list by itself; `TooManyPoints` at row 0 where more than 10,000 would be known.
-    List(ListFault),
-    /// A point of this name is known with another definition.
-    PointDiffers,
-}
-
-/// What became of a list.
-#[derive(Clone, Copy, Debug, PartialEq, Eq)]
-pub enum Outcome {
-    /// All points of the list are known now. It counts the rows, also those that were known before.
-    Loaded(u32),
-    /// No point of the list was taken.
-    RefusedFor(Reason),
+pub enum RequestAnswer {
+    /// What became of the first request under the key, and whether this was it.
+    Kept { first: bool, outcome: Outcome },
+    /// The first request under the key was another one.
+    KeyReused,
 }
 
 /// What a frame brought.
@@ -52,14 +38,17 @@ pub enum Outcome {
 pub enum Arrival {
     /// A normal reply to a read, and how many new readings it gave.
     Recorded(u32),
-    /// An exception with its code. It changes no table.
+    /// A normal reply to what was sent for an order.
+    Settled,
+    /// An exception with its code. One to a read changes no table; one to an order refuses it, but
+    /// for codes 5 (acknowledge) and 6 (server device busy), after which it waits as before.
     Excepted(u8),
 }
 
 /// The answer to an event.
 #[derive(Debug, PartialEq, Eq, Drop)]
 pub enum EventAnswer {
-    Judged(Outcome),
+    Request(RequestAnswer),
     Opened(Conn),
     /// The frame of the query, to be sent.
     Query(Frame),
@@ -68,15 +57,15 @@ pub enum EventAnswer {
     Refused(OfficeError),
 }
 
-impl From<Result<Outcome, OfficeError>> for EventAnswer {
+impl From<Result<RequestAnswer, OfficeError>> for EventAnswer {
     ghost use Rattle.std.specs.Prelude.{◌≡◌};
-    ghost use Rattle.office_core.specs.Offices.{judged};
+    ghost use Rattle.office_core.specs.Offices.{told_so};
 
-    ghost from_gives = { λ told answer. answer ≡ judged told };
+    ghost from_gives = { λ told answer. answer ≡ told_so told };
 
-    fn from(told: Result<Outcome, OfficeError>) -> EventAnswer {
+    fn from(told: Result<RequestAnswer, OfficeError>) -> EventAnswer {
         match told {
-            Ok(outcome) => EventAnswer::Judged(outcome),
+            Ok(told) => EventAnswer::Request(told),
             Err(error) => EventAnswer::Refused(error),
         }
     }

@@ -1,16 +1,25 @@
 //! Laws of the definitions alone.
 
-ghost use Rattle.std.specs.Prelude.{◌≡◌, ◌↔◌, ℕ, List, Some};
+ghost use Rattle.std.specs.Prelude.{◌≡◌, ◌↔◌, ◌≤◌, ℕ, false, List, ◌++◌, Some, IsSome};
+ghost use Rattle.poll_book.specs.declared.requests.Request.{Request};
+ghost use Rattle.poll_book.specs.declared.rows.OrderState.{OrderState};
+ghost use Rattle.poll_book.specs.declared.rows.OrderState.TheVariants.{Waiting};
 ghost use Rattle.poll_book.specs.declared.rows.PointRow.{PointRow};
 ghost use Rattle.poll_book.specs.declared.rows.Reading.{Reading};
+ghost use Rattle.poll_book.specs.declared.rows.Setting.{Setting};
+ghost use Rattle.poll_book.specs.Orders.{is_waiting, setting_at, last_order};
+ghost use Rattle.poll_book.specs.Requests.{RequestKey, request_at};
 ghost use Rattle.poll_book.specs.Tables.{reading_at};
 ghost use Rattle.office_core.specs.declared.event.Event.{Event};
 ghost use Rattle.office_core.specs.Fitting.{IsFitting};
-ghost use Rattle.office_core.specs.History.{History, readings, tables, total};
+ghost use Rattle.office_core.specs.History.{Happening, History, readings, settings, requests, tables, total};
 ghost use Rattle.office_core.specs.Legal.{Legal, MayHappen};
 ghost use Rattle.office_core.specs.Messages.{IsMessage, happening_of};
+ghost use Rattle.office_core.specs.Queries.{Writing};
 ghost use Rattle.office_core.specs.Standing.{Sees};
 ghost use Rattle.office_core.specs.FirstArrivals.{IsReadingOf, AreBySlot, sum_of_steps, numbers_of};
+ghost use Rattle.office_core.specs.KeptRequests.{IsFirstRequest, OrderedUnder};
+ghost use Rattle.office_core.specs.SettledOrders.{IsSend, IsOldest, IsSettledBy};
 
 /// The reading of a point in a slot is what the earliest unit gave to it that was the first reply to
 /// a query of that slot; and a total is the sum of the steps from slot to slot, over the slots whose
@@ -21,6 +30,47 @@ pub fn first_arrivals()
     ensures slots { (before : History) (known : PointRow) → (pairs : List (ℕ × ℕ)) × AreBySlot before known pairs }
     ensures total { (before : History) (known : PointRow) (pairs : List (ℕ × ℕ)) → AreBySlot before known pairs
         → total before known ≡ sum_of_steps known.point.roll (numbers_of pairs) }
+{}
+
+/// What is kept under a caller's key is the first request under it, with what became of it where it
+/// stood, whatever came after.
+pub fn kept_requests()
+    ensures { (before : History) (key : RequestKey) (request : Request)
+        → (request_at (requests before) key ≡ Some request) ↔ IsFirstRequest before key request }
+{}
+
+/// One order a key: an order has one key, and two different orders have different keys. The orders
+/// are those that requests became, and they are numbered from 1 on.
+pub fn one_order_a_key()
+    ensures one_key { (before : History) (a b : RequestKey) (number : ℕ)
+        → OrderedUnder before a number → OrderedUnder before b number → a ≡ b }
+    ensures one_order { (before : History) (key : RequestKey) (m n : ℕ)
+        → OrderedUnder before key m → OrderedUnder before key n → m ≡ n }
+    ensures orders { (before : History) (number : ℕ)
+        → IsSome (setting_at (settings before) number) ↔ ((key : RequestKey) × OrderedUnder before key number) }
+    ensures numbered { (before : History) (number : ℕ)
+        → IsSome (setting_at (settings before) number) ↔ ((1 ≤ number) × (number ≤ last_order (settings before))) }
+{}
+
+/// No order overtakes an older one of its device: an order is sent only while it waits and is the
+/// oldest of its device that does.
+pub fn no_overtaking()
+    ensures { (before : History) (c n : ℕ) (w : Writing) (sending : History)
+        → (send : IsSend before c n w sending) → IsOldest sending send.number }
+{}
+
+/// An order stands as the earliest reply says that is the first to one of its sends and is normal, or
+/// an exception with a code other than 5 (acknowledge) and 6 (server device busy). Where none came it
+/// waits, and how it stands never changes after that.
+pub fn settled_orders()
+    ensures settled { (before : History) (order : ℕ) (state : OrderState) → Legal before → is_waiting state ≡ false
+        → ((setting : Setting) × (setting_at (settings before) order ≡ Some setting) × (setting.state ≡ state)) ↔ IsSettledBy before order state }
+    ensures waits { (before : History) (order : ℕ) (setting : Setting) → Legal before
+        → setting_at (settings before) order ≡ Some setting → setting.state ≡ Waiting
+        → (state : OrderState) → IsSettledBy before order state → ⊥ }
+    ensures never_changes { (before : History) (later : List Happening) (order : ℕ) (setting : Setting)
+        → setting_at (settings before) order ≡ Some setting → is_waiting setting.state ≡ false
+        → setting_at (settings (later ++ before)) order ≡ Some setting }
 {}
 
 /// Whatever comes to an office can be told as what happened: a message may happen after any history,

@@ -3,6 +3,7 @@
 #![tactic(auto)]
 
 mod arrival;
+mod changes;
 mod commit;
 mod cover;
 mod error;
@@ -11,10 +12,12 @@ pub mod laws;
 mod loads;
 mod names;
 mod office;
+mod orders;
+mod requests;
 mod site;
 
 pub use error::OfficeError;
-pub use event::{Arrival, Event, EventAnswer, LoadFault, Outcome, Reason};
+pub use event::{Arrival, Event, EventAnswer, RequestAnswer};
 pub use office::Office;
 
 #[cfg(test)]

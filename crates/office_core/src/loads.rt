@@ -5,10 +5,9 @@ ghost use Rattle.std.specs.Str.{bytes_eq};
 ghost use Rattle.office_core.specs.ByName.{AreNamesOf};
 ghost use Rattle.office_core.specs.Loads as loads;
 
-use crate::event::{LoadFault, Outcome, Reason};
 use crate::names::Names;
 use point_list::{ListError, ListFault, ListRow, Point, Site, read_list, resolve};
-use poll_book::{PointRow, StoreFault};
+use poll_book::{Outcome, PointRow, Reason, RequestFault, StoreFault};
 use std::alloc::{AllocError, Global};
 
 fn place_named(known: &[PointRow], name: &[u8]) -> Option<usize>
@@ -133,7 +132,7 @@ fn new_points(
     Ok(rows)
 }
 
-fn refused(fault: LoadFault, row: u32, column: u8) -> Outcome
+fn refused(fault: RequestFault, row: u32, column: u8) -> Outcome
     ensures { result ≡ loads.outcome (loads.Refused (record { fault = fault; row = row; column = column })) }
 {
     Outcome::RefusedFor(Reason { fault, row, column })
@@ -159,11 +158,11 @@ fn judge_rows(
         return Err(StoreFault::Memory);
     };
     if let Some(row) = differing {
-        return Ok((refused(LoadFault::PointDiffers, row, 1), Vec::new(alloc)));
+        return Ok((refused(RequestFault::PointDiffers, row, 1), Vec::new(alloc)));
     }
     let new = new_points(alloc, known, &names, &points)?;
     if known.len() + new.len() > 10000 {
-        let fault = LoadFault::List(ListFault::TooManyPoints);
+        let fault = RequestFault::List(ListFault::TooManyPoints);
         return Ok((refused(fault, 0, 0), Vec::new(alloc)));
     }
     Ok((Outcome::Loaded(count), new))
@@ -178,7 +177,7 @@ fn judge_fault(alloc: Global, error: ListError) -> Result<(Outcome, Vec<PointRow
     match error.fault {
         ListFault::Memory => Err(StoreFault::Memory),
         fault => {
-            let outcome = refused(LoadFault::List(fault), error.row, error.column);
+            let outcome = refused(RequestFault::List(fault), error.row, error.column);
             Ok((outcome, Vec::new(alloc)))
         }
     }

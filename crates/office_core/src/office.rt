@@ -1,6 +1,7 @@
 //! The office over any keeper.
-ghost use Rattle.std.specs.Prelude.{All, ◌≡◌, ◌<◌, ◌≤◌, ◌⊎◌, ◌∷◌, ◌++◌, ◌+◌, ℕ, IfOk, IfErr, OnOk, OnErr, MatchResult, Some, None, length, false, true, vec_len, vec_capacity};
+ghost use Rattle.std.specs.Prelude.{All, ◌≡◌, ◌<◌, ◌≤◌, ◌⊎◌, ◌∷◌, ◌++◌, ◌+◌, ℕ, IfOk, IfErr, OnOk, OnErr, MatchResult, Some, None, length, false, true, option_map, vec_len, vec_capacity};
 ghost use Rattle.poll_book.specs.Tables.{Tables, Within};
+ghost use Rattle.poll_book.specs.Requests.{request_at};
 ghost use Rattle.point_list.specs.Sites.{IsSound};
 ghost use Rattle.office_core.specs.Sites as sites;
 ghost use Rattle.office_core.specs.Sites.{has_devices};
@@ -10,15 +11,20 @@ ghost use Rattle.office_core.specs.Standing.{Closes, Goes, Runs, is_refusal};
 ghost use Rattle.office_core.specs.Keeping.{Endures};
 
 use crate::arrival::bring;
-use crate::commit::commit;
+use crate::changes::{connection_change, request_change};
+use crate::commit::{commit, write};
 use crate::cover::is_readable;
 use crate::error::OfficeError;
-use crate::event::{Arrival, Event, EventAnswer, Outcome};
+use crate::event::{Arrival, Event, EventAnswer, RequestAnswer};
 use crate::loads::{judge, known_named};
+use crate::orders::{judge_order, judge_send};
+use crate::requests::{list_again, list_row, order_again, order_row};
 use crate::site::{Target, find_target, has_devices, line_place};
 use mb_mbap::Frame;
-use point_list::{Items, Role, Site};
-use poll_book::{Change, Keeper, PointRow, ReadingRow, StoreFault};
+use point_list::{Role, Site};
+use poll_book::{
+    Caller, Keeper, Key, OrderState, PointRow, ReadingRow, Request, SettingRow, StoreFault,
+};
 use poll_match::{Asked, Conn, Matcher};
 use read_planner::Read;
 use std::alloc::{AllocError, Global};
@@ -81,6 +87,24 @@ fn last_made<K: Keeper>(keeper: &mut K, greatest: u32) -> Result<u32, StoreFault
     }
 }
 
+/// The first request of a caller under a key.
+fn former<K: Keeper>(
+    alloc: Global,
+    keeper: &mut K,
+    caller: &Caller,
+    key: &Key,
+) -> Result<Option<Request>, StoreFault>
+    ensures value { K.is_clean keeper.new → (kept : Tables) → K.holds keeper.old kept
+        → IfOk result (λ found. found ≡ request_at kept.requests (caller.now, key.now)) }
+    ensures cause { IfErr result (λ fault. K.may_refuse fault) }
+    ensures same { Within (K.holds keeper.old) (K.holds keeper.new) }
+    ensures crash { K.is_clean keeper.new → (kept : Tables) → Endures (K.holds keeper.old) (K.may_leave keeper.old) kept
+        → Endures (K.holds keeper.new) (K.may_leave keeper.new) kept }
+    ensures clean { K.is_clean keeper.new → K.is_clean keeper.old }
+{
+    keeper.request(alloc, caller, key)
+}
+
 fn close_former(matcher: &mut Matcher, former: Option<Conn>)
     ensures { Closes former matcher.old matcher.new }
 {
@@ -103,9 +127,10 @@ pub struct Office<K: Keeper> {
 }
 
 impl<K: Keeper> Office<K> {
-    ghost use Rattle.office_core.specs.History.{History, Restart, tables, points};
+    ghost use Rattle.office_core.specs.History.{History, Restart, tables, points, settings, requests};
+    ghost use Rattle.poll_book.specs.Orders.{as_setting, last_order, oldest_waiting};
     ghost use Rattle.office_core.specs.Errors.{IsCaused, IsOfStore};
-    ghost use Rattle.office_core.specs.Offices.{AnswerCaused, IsAlike, Shows, Stands, StandsInCrash, arrived, asked_so, judged, keeper_of, opened, points_of, readings_of, site_of, total_of};
+    ghost use Rattle.office_core.specs.Offices.{AnswerCaused, IsAlike, Shows, Stands, StandsInCrash, StandsInCrashUnused, StandsUnused, arrived, asked_so, keeper_of, opened, order_state_of, points_of, readings_of, site_of, told_so, total_of};
 
     /// An office over what a keeper holds, with no connection open. A keeper that can't be read is
     /// given back with `Store`, and one with a point whose device isn't in the site with
@@ -148,30 +173,106 @@ impl<K: Keeper> Office<K> {
         self.keeper
     }
 
-    /// Makes the points of a list known, all or none. A list is refused for its own first fault,
-    /// then at the first row whose name is known with another definition, then where more than
-    /// 10,000 points would be known; a point that is known already changes nothing. The error is
-    /// `Store` alone.
-    pub fn load(&mut self, list: &[u8]) -> Result<Outcome, OfficeError>
-        ensures goes { K.is_clean (keeper_of self.new) → Goes (Stands self.old) (Stands self.new) (Event.Load list.now) (judged result) }
-        ensures crash { K.is_clean (keeper_of self.new) → Goes (StandsInCrash self.old) (StandsInCrash self.new) (Event.Load list.now) (judged result) }
+    /// Makes the points of a list known, all or none, and keeps what became of it under the caller's
+    /// key. A list is refused for its own first fault, then at the first row whose name is known with
+    /// another definition, then where more than 10,000 points would be known; a point that is known
+    /// already changes nothing. The same list under the key again is told what became of the first,
+    /// and another request gets `KeyReused`. The error is `Store` alone: then nothing is kept.
+    pub fn load(
+        &mut self,
+        caller: &Caller,
+        key: &Key,
+        list: &[u8],
+    ) -> Result<RequestAnswer, OfficeError>
+        ensures goes { K.is_clean (keeper_of self.new) → Goes (Stands self.old) (Stands self.new) (Event.Load caller.now key.now list.now) (told_so result) }
+        ensures crash { K.is_clean (keeper_of self.new) → Goes (StandsInCrash self.old) (StandsInCrash self.new) (Event.Load caller.now key.now list.now) (told_so result) }
         ensures cause { IfErr result (λ e. IsOfStore K.may_refuse e) }
-        ensures same { is_refusal (judged result) ≡ true → IsAlike self.old self.new }
+        ensures same { is_refusal (told_so result) ≡ true → IsAlike self.old self.new }
         ensures clean { K.is_clean (keeper_of self.new) → K.is_clean (keeper_of self.old) }
     {
-        let (outcome, rows) = judge(self.alloc, &self.site, &self.points, list)?;
-        if rows.is_empty() {
-            return Ok(outcome);
+        if let Some(first) = former(self.alloc, &mut self.keeper, caller, key)? {
+            return Ok(list_again(&first, list));
         }
-        self.points.reserve(rows.len())?;
-        let change = Change {
-            points: Items::from_vec(rows),
-            readings: Items::from_vec(Vec::new(self.alloc)),
-            connections: None,
-        };
+        self.load_new(caller, key, list)
+    }
+
+    // A list under a key that wasn't used.
+    fn load_new(
+        &mut self,
+        caller: &Caller,
+        key: &Key,
+        list: &[u8],
+    ) -> Result<RequestAnswer, OfficeError>
+        ensures goes { K.is_clean (keeper_of self.new) → Goes (StandsUnused self.old (caller.now, key.now)) (Stands self.new) (Event.Load caller.now key.now list.now) (told_so result) }
+        ensures crash { K.is_clean (keeper_of self.new) → Goes (StandsInCrashUnused self.old (caller.now, key.now)) (StandsInCrash self.new) (Event.Load caller.now key.now list.now) (told_so result) }
+        ensures cause { IfErr result (λ e. IsOfStore K.may_refuse e) }
+        ensures same { is_refusal (told_so result) ≡ true → IsAlike self.old self.new }
+        ensures clean { K.is_clean (keeper_of self.new) → K.is_clean (keeper_of self.old) }
+    {
+        let (outcome, points) = judge(self.alloc, &self.site, &self.points, list)?;
+        let request = list_row(self.alloc, caller, key, list, outcome)?;
+        self.points.reserve(points.len())?;
+        let change = request_change(self.alloc, points, None, request);
         commit(&mut self.keeper, &change)?;
         add_points(&mut self.points, change.points.as_slice());
-        Ok(outcome)
+        Ok(RequestAnswer::Kept {
+            first: true,
+            outcome,
+        })
+    }
+
+    /// Orders that the point of a name is set to a value, which isn't scaled, and keeps what became
+    /// of it under the caller's key. Refusals, in this order: no point of this name is known; its role
+    /// isn't setting; no registers of its type have the value; 1,000,000 orders exist. The same order
+    /// under the key again is told what became of the first, and another request gets `KeyReused`.
+    /// The error is `Store` alone: then nothing is kept.
+    pub fn order(
+        &mut self,
+        caller: &Caller,
+        key: &Key,
+        point: &str,
+        value: i128,
+    ) -> Result<RequestAnswer, OfficeError>
+        ensures goes { K.is_clean (keeper_of self.new) → Goes (Stands self.old) (Stands self.new) (Event.Order caller.now key.now point.now value) (told_so result) }
+        ensures crash { K.is_clean (keeper_of self.new) → Goes (StandsInCrash self.old) (StandsInCrash self.new) (Event.Order caller.now key.now point.now value) (told_so result) }
+        ensures cause { IfErr result (λ e. IsOfStore K.may_refuse e) }
+        ensures same { is_refusal (told_so result) ≡ true → IsAlike self.old self.new }
+        ensures clean { K.is_clean (keeper_of self.new) → K.is_clean (keeper_of self.old) }
+    {
+        if let Some(first) = former(self.alloc, &mut self.keeper, caller, key)? {
+            return Ok(order_again(&first, point, value));
+        }
+        self.order_new(caller, key, point, value)
+    }
+
+    // An order under a key that wasn't used.
+    fn order_new(
+        &mut self,
+        caller: &Caller,
+        key: &Key,
+        point: &str,
+        value: i128,
+    ) -> Result<RequestAnswer, OfficeError>
+        ensures goes { K.is_clean (keeper_of self.new) → Goes (StandsUnused self.old (caller.now, key.now)) (Stands self.new) (Event.Order caller.now key.now point.now value) (told_so result) }
+        ensures crash { K.is_clean (keeper_of self.new) → Goes (StandsInCrashUnused self.old (caller.now, key.now)) (StandsInCrash self.new) (Event.Order caller.now key.now point.now value) (told_so result) }
+        ensures cause { IfErr result (λ e. IsOfStore K.may_refuse e) }
+        ensures same { is_refusal (told_so result) ≡ true → IsAlike self.old self.new }
+        ensures clean { K.is_clean (keeper_of self.new) → K.is_clean (keeper_of self.old) }
+    {
+        let (outcome, setting) = judge_order(
+            self.alloc,
+            &mut self.keeper,
+            &self.points,
+            point,
+            value,
+        )?;
+        let request = order_row(self.alloc, caller, key, point, value, outcome)?;
+        let change = request_change(self.alloc, Vec::new(self.alloc), setting, request);
+        write(&mut self.keeper, change)?;
+        Ok(RequestAnswer::Kept {
+            first: true,
+            outcome,
+        })
     }
 
     /// Opens a line, and closes its former connection. The new one takes the number after the
@@ -194,12 +295,8 @@ impl<K: Keeper> Office<K> {
         let conn = Conn::new(last + 1);
         let former = self.matcher.conn_of(line);
         self.matcher.open(conn, line)?;
-        let change = Change {
-            points: Items::from_vec(Vec::new(self.alloc)),
-            readings: Items::from_vec(Vec::new(self.alloc)),
-            connections: Some(conn.number()),
-        };
-        if let Err(fault) = commit(&mut self.keeper, &change) {
+        let change = connection_change(self.alloc, conn.number());
+        if let Err(fault) = write(&mut self.keeper, change) {
             self.matcher.close(conn);
             return Err(OfficeError::Store(fault));
         }
@@ -236,9 +333,26 @@ impl<K: Keeper> Office<K> {
         Ok(self.matcher.next_query(conn, asked)?)
     }
 
+    /// Sends a waiting order to its device over a connection, and gives the frame to send; an order may
+    /// be sent again while it waits. Refusals, in this order: `NoConnection`; `NoOrder`; `WrongLine`
+    /// where the device of its point isn't one of the connection's line; `Settled`; `NotNext` where an
+    /// older order waits on that device; `Exhausted`; and `Store`.
+    pub fn send_order(&mut self, conn: Conn, number: u32) -> Result<Frame, OfficeError>
+        ensures goes { K.is_clean (keeper_of self.new) → Goes (Stands self.old) (Stands self.new) (Event.Send conn number) (asked_so result) }
+        ensures crash { K.is_clean (keeper_of self.new) → Goes (StandsInCrash self.old) (StandsInCrash self.new) (Event.Send conn number) (asked_so result) }
+        ensures cause { IfErr result (λ e. IsCaused K.may_refuse e) }
+        ensures same { OnErr result (IsAlike self.old self.new) }
+        ensures clean { K.is_clean (keeper_of self.new) → K.is_clean (keeper_of self.old) }
+    {
+        let line = self.matcher.line_of(conn);
+        let asked = judge_send(&mut self.keeper, &self.site, &self.points, line, number)?;
+        Ok(self.matcher.next_query(conn, asked)?)
+    }
+
     /// A frame came over a connection. A normal reply to a read gives a reading of the query's slot
     /// to each point that the read covers and that was known when it was asked; a point that has
-    /// one in the slot keeps it. `NoConnection`, `NoQuery`, `WrongUnit`, `Repeat` and `WrongReply`
+    /// one in the slot keeps it. A reply to an order settles it, where it waits: a normal one as done, an
+    /// exception as refused, but for codes 5 and 6. `NoConnection`, `NoQuery`, `WrongUnit`, `Repeat` and `WrongReply`
     /// are the refusals, in this order, then `Store`: the query stays open then.
     pub fn arrive(&mut self, conn: Conn, frame: &Frame) -> Result<Arrival, OfficeError>
         ensures goes { K.is_clean (keeper_of self.new) → Goes (Stands self.old) (Stands self.new) (Event.Arrive conn frame.now) (arrived result) }
@@ -278,11 +392,17 @@ impl<K: Keeper> Office<K> {
         ensures clean { K.is_clean (keeper_of self.new) → K.is_clean (keeper_of self.old) }
     {
         match event {
-            Event::Load(list) => EventAnswer::from(self.load(list.as_slice())),
+            Event::Load(caller, key, list) => {
+                EventAnswer::from(self.load(caller, key, list.as_slice()))
+            }
+            Event::Order(caller, key, point, value) => {
+                EventAnswer::from(self.order(caller, key, point.as_str(), *value))
+            }
             Event::Open(line) => EventAnswer::from(self.open_line(line.as_str())),
             Event::Ask(conn, device, slot, read) => {
                 EventAnswer::from(self.ask(*conn, device.as_str(), *slot, *read))
             }
+            Event::Send(conn, number) => EventAnswer::from(self.send_order(*conn, *number)),
             Event::Arrive(conn, frame) => EventAnswer::from(self.arrive(*conn, frame)),
             Event::Restart => {
                 self.restart();
@@ -344,6 +464,54 @@ impl<K: Keeper> Office<K> {
             return Ok(None);
         }
         Ok(Some(self.keeper.total(&row)?))
+    }
+
+    /// The first request of a caller under a key, and what became of it; `None` where the key wasn't
+    /// used.
+    pub fn request_of(&mut self, caller: &Caller, key: &Key) -> Result<Option<Request>, OfficeError>
+        ensures value { K.is_clean (keeper_of self.new) → (before : History) → Stands self.old before
+            → IfOk result (λ found. found ≡ request_at (requests before) (caller.now, key.now)) }
+        ensures cause { IfErr result (λ e. IsOfStore K.may_refuse e) }
+        ensures same { IsAlike self.old self.new }
+        ensures clean { K.is_clean (keeper_of self.new) → K.is_clean (keeper_of self.old) }
+    {
+        Ok(former(self.alloc, &mut self.keeper, caller, key)?)
+    }
+
+    /// How an order stands; `None` where there is no order of this number.
+    pub fn order_state(&mut self, number: u32) -> Result<Option<OrderState>, OfficeError>
+        ensures value { K.is_clean (keeper_of self.new) → (before : History) → Stands self.old before
+            → IfOk result (λ state. state ≡ order_state_of before number) }
+        ensures cause { IfErr result (λ e. IsOfStore K.may_refuse e) }
+        ensures same { IsAlike self.old self.new }
+        ensures clean { K.is_clean (keeper_of self.new) → K.is_clean (keeper_of self.old) }
+    {
+        match self.keeper.setting(number)? {
+            Some(setting) => Ok(Some(setting.state)),
+            None => Ok(None),
+        }
+    }
+
+    /// The oldest order that waits on the device of a name; `None` where none does.
+    pub fn waiting(&mut self, device: &str) -> Result<Option<SettingRow>, OfficeError>
+        ensures value { K.is_clean (keeper_of self.new) → (before : History) → Stands self.old before
+            → IfOk result (λ found. option_map as_setting found ≡ oldest_waiting (points before) device.now (settings before)) }
+        ensures cause { IfErr result (λ e. IsOfStore K.may_refuse e) }
+        ensures same { IsAlike self.old self.new }
+        ensures clean { K.is_clean (keeper_of self.new) → K.is_clean (keeper_of self.old) }
+    {
+        Ok(self.keeper.oldest_waiting(device)?)
+    }
+
+    /// The number of the last order, 0 before the first.
+    pub fn orders(&mut self) -> Result<u32, OfficeError>
+        ensures value { K.is_clean (keeper_of self.new) → (before : History) → Stands self.old before
+            → IfOk result (λ orders. orders ≡ last_order (settings before)) }
+        ensures cause { IfErr result (λ e. IsOfStore K.may_refuse e) }
+        ensures same { IsAlike self.old self.new }
+        ensures clean { K.is_clean (keeper_of self.new) → K.is_clean (keeper_of self.old) }
+    {
+        Ok(self.keeper.orders()?)
     }
 
     /// The known points, by their numbers.

@@ -6,7 +6,7 @@ use crate::{Arrival, Office, OfficeError};
 use mb_mbap::Frame;
 use mb_pdu::{Span, Unit};
 use point_list::{Site, read_site};
-use poll_book::{MemKeeper, StoreFault};
+use poll_book::{Caller, Key, MemKeeper, StoreFault};
 use poll_match::Conn;
 use read_planner::Read;
 use std::alloc::Global;
@@ -29,6 +29,12 @@ fn site(alloc: Global) -> Result<Site, OfficeError>
     read_site(alloc, SITE).map_err(|_| MEMORY)
 }
 
+fn named(caller: &str, key: &str) -> Result<(Caller, Key), OfficeError> {
+    let caller = Caller::new(caller).ok_or(OfficeError::WrongReply)?;
+    let key = Key::new(key).ok_or(OfficeError::WrongReply)?;
+    Ok((caller, key))
+}
+
 fn frame(transaction: u16, unit_id: u8, bytes: &[u8]) -> Result<Frame, OfficeError> {
     let unit = Unit::from_bytes(bytes).ok_or(OfficeError::WrongReply)?;
     Ok(Frame {
@@ -44,7 +50,8 @@ fn assert_row(rt: &impl Abort, alloc: Global) -> Result<(), OfficeError> {
     let (function, start, quantity) = (3, 107, 1);
     let span = Span { start, quantity };
     let read = Read { function, span };
-    office.load(LIST)?;
+    let (caller, key) = named("ann", "l1")?;
+    office.load(&caller, &key, LIST)?;
     let conn = office.open_line("roof")?;
     let sent = office.ask(conn, "m1", 5, read)?;
     assert_eq!(rt; sent.encode().as_bytes(), SENT.as_slice());

@@ -1,6 +1,6 @@
 use Rattle.std.proofs.Common.{◌≡◌, ◌≤◌, ◌<◌, ◌+◌, ◌∙◌, sym, ap, length, arith, rules}
 use Rattle.office_core.specs.Loads as loads
-use Rattle.office_core.specs.declared.event.Outcome.TheVariants.{Loaded}
+use Rattle.poll_book.specs.declared.requests.Outcome.TheVariants.{Loaded}
 use Rattle.office_core.proofs.Loading.{taken_so, overfull}
 use Rattle.office_core.proofs.loads.judge_rows.Goals as goal
 

@@ -1,12 +1,11 @@
-use Rattle.std.proofs.Common.{◌≡◌, ◌≤◌, ◌∙◌, [], Some, subst, sym, ap, refl, arith}
-use Rattle.poll_book.specs.declared.rows.Change.{Change}
-use Rattle.poll_book.specs.Changes.{AreNumbered}
+use Rattle.std.proofs.Common.{◌≡◌, ◌≤◌, ◌∙◌, Some, subst, sym, ap, refl, arith}
+use Rattle.poll_book.specs.Changes.{AreNumbered, IsNew, applied}
 use Rattle.office_core.specs.declared.error.OfficeError.TheVariants as error
 use Rattle.office_core.specs.declared.event.Event.TheVariants.{Open}
 use Rattle.office_core.specs.declared.event.EventAnswer.TheVariants as answer
 use Rattle.office_core.specs.Sites.{line_place}
 use Rattle.office_core.specs.History.{connections, tables}
-use Rattle.office_core.specs.Keeping.{Endures}
+use Rattle.office_core.specs.Keeping.{Endures, no_change}
 use Rattle.office_core.proofs.Newness.{applied_connection, new_connection}
 use Rattle.office_core.proofs.Opening.{former_is, not_open, opening_full, opening_goes, reclosed}
 use Rattle.office_core.proofs.Opens.{greatest_made}
@@ -47,7 +46,7 @@ returns-in-Err-clause-goes g c clean =
     let holds = g.K.Neighbours.holds in
     let above = c.in_ok-last.ensures.above in
     let none = not_open office.matcher c.new-conn.result (omega (arith, above, c.greatest.ensures, c.new-conn.ensures)) in
-    store_goes (holds office.keeper) office.site office.points.items office.matcher (holds c.commit.new.keeper)
+    store_goes (holds office.keeper) office.site office.points.items office.matcher (holds c.write.new.keeper)
     (λ kept h copy. c.in-Err.ensures.err kept (c.last_made.ensures.same kept h))
     c.close.new.self (reclosed c.new-conn.result c.in-Some.line office.matcher c.open.new.self c.close.new.self none c.in_ok-open.ensures.ok c.close.ensures)
     (Open c.args.line.now) (answer.Refused (error.Store c.in-Err.fault)) refl
@@ -55,14 +54,14 @@ returns-in-Err-clause-goes g c clean =
 pub returns-in-Err-clause-crash : goal.returns-in-Err-clause-crash
 returns-in-Err-clause-crash g c clean =
     let office = c.args.self.now in
+    let is : c.connection_change-change.result ≡ record no_change { connections = Some c.new-conn.result } = c.connection_change-change.ensures ∙ ap (λ n. record no_change { connections = Some n }) c.number.ensures in
     let holds = g.K.Neighbours.holds in
     let may = g.K.Neighbours.may_leave in
     let above = c.in_ok-last.ensures.above in
     let none = not_open office.matcher c.new-conn.result (omega (arith, above, c.greatest.ensures, c.new-conn.ensures)) in
-    let change : Change = record { points = c.from_vec.result; readings = c.from_vec-2.result; connections = Some c.number.result } in
-    store_goes (Endures (holds office.keeper) (may office.keeper)) office.site office.points.items office.matcher (Endures (holds c.commit.new.keeper) (may c.commit.new.keeper))
-    (λ kept e copy. c.in-Err.ensures.crash clean kept (c.last_made.ensures.crash (c.commit.ensures.clean clean) kept e)
-    (new_connection change kept (c.from_vec.ensures ∙ c.new.ensures.items) (c.from_vec-2.ensures ∙ c.new-2.ensures.items) (subst (AreNumbered 0) copy.0 copy.1)))
+    store_goes (Endures (holds office.keeper) (may office.keeper)) office.site office.points.items office.matcher (Endures (holds c.write.new.keeper) (may c.write.new.keeper))
+    (λ kept e copy. c.in-Err.ensures.crash clean kept (c.last_made.ensures.crash (c.write.ensures.clean clean) kept e)
+    (subst (λ x. IsNew x kept) (sym is) (new_connection c.new-conn.result kept (subst (AreNumbered 0) copy.0 copy.1))))
     c.close.new.self (reclosed c.new-conn.result c.in-Some.line office.matcher c.open.new.self c.close.new.self none c.in_ok-open.ensures.ok c.close.ensures)
     (Open c.args.line.now) (answer.Refused (error.Store c.in-Err.fault)) refl
 
@@ -80,38 +79,34 @@ returns-in-Err-clause-same g c =
 pub returns-clause-goes : goal.returns-clause-goes
 returns-clause-goes g c clean =
     let office = c.args.self.now in
+    let is : c.connection_change-change.result ≡ record no_change { connections = Some c.new-conn.result } = c.connection_change-change.ensures ∙ ap (λ n. record no_change { connections = Some n }) c.number.ensures in
     let holds = g.K.Neighbours.holds in
     let known = office.points.items in
     let place : line_place office.site c.args.line.now ≡ Some c.in-Some.line = sym c.in-Some.ensures in
-    let change : Change = record { points = c.from_vec.result; readings = c.from_vec-2.result; connections = Some c.number.result } in
-    let points : change.points ≡ [] = c.from_vec.ensures ∙ c.new.ensures.items in
-    let rows : change.readings ≡ [] = c.from_vec-2.ensures ∙ c.new-2.ensures.items in
     opening_goes (holds office.keeper) office.site known office.matcher c.args.line.now c.in-Some.line c.in_ok-last.last place
-    (λ before stands. c.in_ok-last.ensures.value (c.commit.ensures.clean clean) (tables before) stands.tables
+    (λ before stands. c.in_ok-last.ensures.value (c.write.ensures.clean clean) (tables before) stands.tables
     (subst (λ n. n ≤ connections before) (sym c.greatest.ensures) (greatest_made (holds office.keeper) office.site known office.matcher before stands)))
-    c.if-last-ge4294967295.false c.new-conn.result c.new-conn.ensures (holds c.commit.new.keeper)
-    (λ kept h copy. subst (holds c.commit.new.keeper) (applied_connection change kept c.new-conn.result points rows (ap Some c.number.ensures))
-    (c.in_default-commit.ensures.kept clean kept (c.last_made.ensures.same kept h) (new_connection change kept points rows (subst (AreNumbered 0) copy.0 copy.1))))
+    c.if-last-ge4294967295.false c.new-conn.result c.new-conn.ensures (holds c.write.new.keeper)
+    (λ kept h copy. subst (holds c.write.new.keeper) (ap (λ x. applied x kept) is ∙ applied_connection c.new-conn.result kept)
+    (c.in_default-write.ensures.kept clean kept (c.last_made.ensures.same kept h) (subst (λ x. IsNew x kept) (sym is) (new_connection c.new-conn.result kept (subst (AreNumbered 0) copy.0 copy.1)))))
     c.conn_of-former.result (former_is c.in-Some.line office.matcher c.conn_of-former.result c.conn_of-former.ensures.found c.conn_of-former.ensures.none)
     c.open.new.self c.close_former.new.matcher c.in_ok-open.ensures.ok c.close_former.ensures
 
 pub returns-clause-crash : goal.returns-clause-crash
 returns-clause-crash g c clean =
     let office = c.args.self.now in
+    let is : c.connection_change-change.result ≡ record no_change { connections = Some c.new-conn.result } = c.connection_change-change.ensures ∙ ap (λ n. record no_change { connections = Some n }) c.number.ensures in
     let holds = g.K.Neighbours.holds in
     let may = g.K.Neighbours.may_leave in
     let known = office.points.items in
     let endures = Endures (holds office.keeper) (may office.keeper) in
-    let endures' = Endures (holds c.commit.new.keeper) (may c.commit.new.keeper) in
+    let endures' = Endures (holds c.write.new.keeper) (may c.write.new.keeper) in
     let place : line_place office.site c.args.line.now ≡ Some c.in-Some.line = sym c.in-Some.ensures in
-    let change : Change = record { points = c.from_vec.result; readings = c.from_vec-2.result; connections = Some c.number.result } in
-    let points : change.points ≡ [] = c.from_vec.ensures ∙ c.new.ensures.items in
-    let rows : change.readings ≡ [] = c.from_vec-2.ensures ∙ c.new-2.ensures.items in
     opening_goes endures office.site known office.matcher c.args.line.now c.in-Some.line c.in_ok-last.last place
-    (λ before stands. c.in_ok-last.ensures.value (c.commit.ensures.clean clean) (tables before) stands.tables.0
+    (λ before stands. c.in_ok-last.ensures.value (c.write.ensures.clean clean) (tables before) stands.tables.0
     (subst (λ n. n ≤ connections before) (sym c.greatest.ensures) (greatest_made endures office.site known office.matcher before stands)))
     c.if-last-ge4294967295.false c.new-conn.result c.new-conn.ensures endures'
-    (λ kept e copy. subst endures' (applied_connection change kept c.new-conn.result points rows (ap Some c.number.ensures))
-    (c.in_default-commit.ensures.crash clean kept (c.last_made.ensures.crash (c.commit.ensures.clean clean) kept e) (new_connection change kept points rows (subst (AreNumbered 0) copy.0 copy.1))))
+    (λ kept e copy. subst endures' (ap (λ x. applied x kept) is ∙ applied_connection c.new-conn.result kept)
+    (c.in_default-write.ensures.crash clean kept (c.last_made.ensures.crash (c.write.ensures.clean clean) kept e) (subst (λ x. IsNew x kept) (sym is) (new_connection c.new-conn.result kept (subst (AreNumbered 0) copy.0 copy.1)))))
     c.conn_of-former.result (former_is c.in-Some.line office.matcher c.conn_of-former.result c.conn_of-former.ensures.found c.conn_of-former.ensures.none)
     c.open.new.self c.close_former.new.matcher c.in_ok-open.ensures.ok c.close_former.ensures

@@ -1,0 +1,112 @@
+-- What stands where in a history: it is legal there, and queries keep their numbers and their answers.
+use Rattle.std.proofs.Common.{◌≡◌, ◌⊎◌, ◌<◌, ◌+◌, ℕ, zero, suc, Bool, true, false, cond, eqb, not, ◌&&◌, ◌||◌, List, [], ◌∷◌, ◌++◌, length, map, take, get_or, Option, Some, None, inl, inr, refl, sym, ap, ◌∙◌, subst, arith, append-nil, append_assoc}
+use Rattle.std.specs.Prelude.{slice_get, is_none, Contains}
+use Rattle.std.specs.Option.{option_or}
+use Rattle.std.specs.Ordering.{is_eq, eq_by_cmp}
+use Rattle.std.specs.Cmp.{tied_itself}
+use Rattle.std.specs.declared.cmp.Ordering.{Ordering}
+use Rattle.std.specs.declared.cmp.Ordering.TheVariants.{Less, Equal, Greater}
+use Rattle.std.specs.FinMap.Entries as rows
+use Rattle.std.proofs.lemmas.Bool.{and_parts, eqb-true, eq-eqb}
+use Rattle.std.proofs.lemmas.List.{take_at}
+use Rattle.std.proofs.lemmas.Option.{none-some, same_Some}
+use Rattle.mb_pdu.specs.declared.reply.Normal.{Normal}
+use Rattle.mb_pdu.specs.declared.reply.Normal.TheVariants.{OfBits, OfWords, Echo}
+use Rattle.mb_pdu.specs.declared.reply.Reply.{Reply as AReply}
+use Rattle.mb_pdu.specs.declared.reply.Reply.TheVariants.{Bits, Registers, Written, Excepted}
+use Rattle.mb_pdu.specs.Replies.{IsBytes, spells_reply, normal_of, fits_normal}
+use Rattle.mb_pdu.proofs.Answered.{answered}
+use Rattle.mb_pdu.proofs.Tells.{told}
+use Rattle.read_planner.specs.declared.Read.{Read}
+use Rattle.read_planner.specs.Read.{read_request}
+use Rattle.poll_book.specs.declared.rows.PointRow.{PointRow}
+use Rattle.poll_book.specs.declared.rows.Reading.{Reading}
+use Rattle.poll_book.specs.Tables.{Key, key_cmp, Readings, reading_at, with_rows}
+use Rattle.poll_book.specs.Changes.{keyed, AreNumbered}
+use Rattle.poll_book.specs.Totals.{is_counted}
+use Rattle.poll_book.proofs.Tabled.{keys_total, exact_keys}
+use Rattle.office_core.specs.declared.error.OfficeError.{OfficeError}
+use Rattle.office_core.specs.declared.site.Target.{Target}
+use Rattle.office_core.specs.Sites.{target}
+use Rattle.office_core.specs.Cover.{Question, Brings, covers, covered, words_in, given_of, given_rows, reply_cells, excepts}
+use Rattle.office_core.specs.Queries.{Writing, Query, Reads, Writes, fits}
+use Rattle.office_core.specs.Loads.{loading, added}
+use Rattle.office_core.specs.History.{Happening, Restart, Load, Order, Open, Ask, Send, Reply, Noise, History, site_of, points, is_used, open_line, ask_fault, question, question_to, asked, fits_query, is_answered, given_by, given, readings}
+use Rattle.office_core.specs.Legal.{Legal}
+use Rattle.office_core.specs.FirstArrivals.{Happened, IsQuery, IsReplyTo, IsFirst, Gives, IsReadingOf}
+use Rattle.office_core.proofs.Cells.{cells_spelled, bits_plain, words_plain, no_echo}
+use Rattle.office_core.proofs.Loaded.{numbered_points}
+use Rattle.office_core.proofs.Queries.{same_read}
+use Rattle.office_core.proofs.Asks.{ask_made, asks}
+use Rattle.office_core.proofs.Sends.{send_made, sends}
+
+pub step_later : (h : Happening) (before : History) (happening : Happening) (earlier : History)
+    → Happened before happening earlier → Happened (h ∷ before) happening earlier
+step_later h before happening earlier p = record { later = h ∷ p.later; stands = ap (λ l. h ∷ l) p.stands }
+
+legal_before : (later : List Happening) (before : History) → Legal (later ++ before) → Legal before
+legal_before [] before legal = legal
+legal_before (h ∷ later) before legal = legal_before later before legal.2
+
+-- what a history stands on is legal where it is
+pub legal_at : (before : History) (happening : Happening) (earlier : History) → Happened before happening earlier → Legal before → Legal (happening ∷ earlier)
+legal_at before happening earlier p legal = legal_before p.later (happening ∷ earlier) (subst Legal p.stands legal)
+
+get_more : (qs more : List Query) (n : ℕ) (q : Query) → slice_get qs n ≡ Some q → slice_get (qs ++ more) n ≡ Some q
+get_more [] more n q e = absurd (none-some q e)
+get_more (x ∷ qs) more zero q e = e
+get_more (x ∷ qs) more (suc n) q e = get_more qs more n q e
+
+pub get_last : (qs : List Query) (q : Query) → slice_get (qs ++ q ∷ []) (length qs) ≡ Some q
+get_last [] q = refl
+get_last (x ∷ qs) q = get_last qs q
+
+-- what stands in a longer list stood there before, or is the last
+pub get_either : (qs : List Query) (last : Query) (n : ℕ) (q : Query) → slice_get (qs ++ last ∷ []) n ≡ Some q
+    → (slice_get qs n ≡ Some q) ⊎ ((length qs ≡ n) × (q ≡ last))
+get_either [] last zero q e = inr (refl, sym (same_Some last q e))
+get_either [] last (suc n) q e = absurd (none-some q e)
+get_either (x ∷ qs) last zero q e = inl e
+get_either (x ∷ qs) last (suc n) q e = elim (get_either qs last n q e) [ inl there ↦ inl there | inr here ↦ inr (ap suc here.0, here.1) ]
+
+-- what stands in a list stands there with one more, if that is there
+pub with_more : (b : Bool) (qs : List Query) (last : Query) (n : ℕ) (q : Query) → slice_get qs n ≡ Some q → slice_get (cond b (qs ++ last ∷ []) qs) n ≡ Some q
+with_more true qs last n q e = get_more qs (last ∷ []) n q e
+with_more false qs last n q e = e
+
+-- a query keeps its number
+pub asked_stays : (later : List Happening) (before : History) (c n : ℕ) (q : Query) → slice_get (asked before c) n ≡ Some q
+    → slice_get (asked (later ++ before) c) n ≡ Some q
+asked_stays [] before c n q e = e
+asked_stays (Restart site ∷ later) before c n q e = asked_stays later before c n q e
+asked_stays (Load caller key list ∷ later) before c n q e = asked_stays later before c n q e
+asked_stays (Order caller key point value ∷ later) before c n q e = asked_stays later before c n q e
+asked_stays (Open line ∷ later) before c n q e = asked_stays later before c n q e
+asked_stays (Reply d m unit ∷ later) before c n q e = asked_stays later before c n q e
+asked_stays (Noise d frame ∷ later) before c n q e = asked_stays later before c n q e
+asked_stays (Ask d device slot read ∷ later) before c n q e =
+    with_more (eqb d c && ask_made (later ++ before) d device read) (asked (later ++ before) c) (Reads (asks (later ++ before) device slot read)) n q
+    (asked_stays later before c n q e)
+asked_stays (Send d number ∷ later) before c n q e =
+    with_more (eqb d c && send_made (later ++ before) d number) (asked (later ++ before) c) (Writes (sends (later ++ before) number)) n q
+    (asked_stays later before c n q e)
+
+pub or_true : (a b : Bool) → b ≡ true → (a || b) ≡ true
+or_true true b e = refl
+or_true false b e = e
+
+-- and a place where a reply stands answers its query
+pub answers_on : (later : List Happening) (older : History) (c n : ℕ) (unit : List ℕ) → fits_query (slice_get (asked older c) n) unit ≡ true
+    → is_answered (later ++ Reply c n unit ∷ older) c n ≡ true
+answers_on [] older c n unit e =
+    ap (λ b. (b && (eqb n n && fits_query (slice_get (asked older c) n) unit)) || is_answered older c n) (eq-eqb c c refl)
+    ∙ ap (λ b. (b && fits_query (slice_get (asked older c) n) unit) || is_answered older c n) (eq-eqb n n refl)
+    ∙ ap (λ b. b || is_answered older c n) e
+answers_on (Restart site ∷ later) older c n unit e = answers_on later older c n unit e
+answers_on (Load caller key list ∷ later) older c n unit e = answers_on later older c n unit e
+answers_on (Order caller key point value ∷ later) older c n unit e = answers_on later older c n unit e
+answers_on (Open line ∷ later) older c n unit e = answers_on later older c n unit e
+answers_on (Ask d device slot read ∷ later) older c n unit e = answers_on later older c n unit e
+answers_on (Send d number ∷ later) older c n unit e = answers_on later older c n unit e
+answers_on (Noise d frame ∷ later) older c n unit e = answers_on later older c n unit e
+answers_on (Reply d m other ∷ later) older c n unit e = or_true _ _ (answers_on later older c n unit e)

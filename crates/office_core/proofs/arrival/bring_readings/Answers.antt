@@ -1,0 +1,53 @@
+use Rattle.std.proofs.Common.{◌≡◌, ◌∙◌, subst, sym, ap, rules}
+use Rattle.std.specs.Prelude.{length}
+use Rattle.poll_book.specs.Tables.{Readings, new_rows}
+use Rattle.poll_book.specs.Changes.{AreNumbered, keyed}
+use Rattle.office_core.specs.declared.event.Arrival.TheVariants.{Recorded}
+use Rattle.office_core.specs.Keeping.{Endures, Rises, rows_at, with_given}
+use Rattle.office_core.proofs.Given.{rises_at, brought_rows, arrival_rows}
+use Rattle.office_core.proofs.Newness.{on_refusal, on_err, unmet}
+use Rattle.office_core.proofs.arrival.bring_readings.Goals as goal
+
+pub returns-in_err-count-in_default : goal.returns-in_err-count-in_default
+returns-in_err-count-in_default g c =
+    let known = c.args.known.now in
+    let given = rows_at c.args.site.now known c.args.asking.now c.args.reply.now in
+    let is : keyed c.args.asking.now.slot c.deref.result.now ≡ given = ap (keyed c.args.asking.now.slot) (c.deref.ensures.value ∙ c.in_ok-covered-in_default.ensures.rows) in
+    let failed = c.from_residual-in_err-count-in_default.ensures.0 in
+    record {
+      told = λ clean kept h. unmet _ c.from_residual-in_err-count-in_default.result failed;
+      kept = λ clean kept h copy. on_refusal _ c.from_residual-in_err-count-in_default.result failed
+          (c.in_err-count-in_default.ensures.kept clean kept h (subst (AreNumbered 0) copy.0 copy.1)
+          (subst (Rises 0) (sym is) (rises_at c.args.site.now known c.args.asking.now c.args.reply.now copy.1)));
+      crash = λ clean kept e copy. on_refusal _ c.from_residual-in_err-count-in_default.result failed
+          (c.in_err-count-in_default.ensures.crash clean kept e (subst (AreNumbered 0) copy.0 copy.1)
+          (subst (Rises 0) (sym is) (rises_at c.args.site.now known c.args.asking.now c.args.reply.now copy.1)));
+      cause = search rules;
+      err = on_err c.from_residual-in_err-count-in_default.result c.in_err-count-in_default.ensures.err;
+      clean = c.keep_readings.ensures.clean;
+    }
+
+pub returns-in_ok-count-in_default : goal.returns-in_ok-count-in_default
+returns-in_ok-count-in_default g c =
+    let site = c.args.site.now in
+    let known = c.args.known.now in
+    let query = c.args.asking.now in
+    let reply = c.args.reply.now in
+    let holds = g.K.Neighbours.holds in
+    let may = g.K.Neighbours.may_leave in
+    let given = rows_at site known query reply in
+    let is : keyed c.args.asking.now.slot c.deref.result.now ≡ given = ap (keyed c.args.asking.now.slot) (c.deref.ensures.value ∙ c.in_ok-covered-in_default.ensures.rows) in
+    record {
+      told = λ clean kept h. ap Recorded (c.in_ok-count-in_default.ensures.count clean kept h ∙ ap (λ (l : Readings). length (new_rows kept.readings l)) is)
+          ∙ sym (arrival_rows site known query reply kept c.in_default.not-Excepted);
+      kept = λ clean kept h copy. subst (holds c.keep_readings.new.keeper) (ap (λ (l : Readings). with_given l kept) is ∙ sym (brought_rows site known query reply kept c.in_default.not-Excepted))
+          (c.in_ok-count-in_default.ensures.kept clean kept h (subst (AreNumbered 0) copy.0 copy.1)
+          (subst (Rises 0) (sym is) (rises_at site known query reply copy.1)));
+      crash = λ clean kept e copy. subst (Endures (holds c.keep_readings.new.keeper) (may c.keep_readings.new.keeper))
+          (ap (λ (l : Readings). with_given l kept) is ∙ sym (brought_rows site known query reply kept c.in_default.not-Excepted))
+          (c.in_ok-count-in_default.ensures.crash clean kept e (subst (AreNumbered 0) copy.0 copy.1)
+          (subst (Rises 0) (sym is) (rises_at site known query reply copy.1)));
+      cause = tt;
+      err = tt;
+      clean = c.keep_readings.ensures.clean;
+    }

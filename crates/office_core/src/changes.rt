@@ -1,0 +1,69 @@
+//! Changes of one kind.
+ghost use Rattle.std.specs.Prelude.{◌≡◌, [], Some, None};
+ghost use Rattle.office_core.specs.Keeping.{asked_change, no_change};
+
+use point_list::Items;
+use poll_book::{Change, OrderState, PointRow, ReadingRow, RequestRow, Setting, SettingRow};
+use std::alloc::Global;
+
+/// The change that adds readings.
+pub(crate) fn readings_change(alloc: Global, readings: Vec<ReadingRow>) -> Change
+    ensures { result ≡ record no_change { readings = readings.items } }
+{
+    Change {
+        points: Items::from_vec(Vec::new(alloc)),
+        readings: Items::from_vec(readings),
+        setting: None,
+        request: None,
+        connections: None,
+    }
+}
+
+/// The change that counts a connection.
+pub(crate) fn connection_change(alloc: Global, connections: u32) -> Change
+    ensures { result ≡ record no_change { connections = Some connections } }
+{
+    Change {
+        points: Items::from_vec(Vec::new(alloc)),
+        readings: Items::from_vec(Vec::new(alloc)),
+        setting: None,
+        request: None,
+        connections: Some(connections),
+    }
+}
+
+/// The change that settles an order.
+pub(crate) fn state_change(alloc: Global, order: u32, setting: Setting, state: OrderState) -> Change
+    ensures { result ≡ record no_change { setting = Some (record { number = order; point = setting.point; words = setting.words; state = state }) } }
+{
+    Change {
+        points: Items::from_vec(Vec::new(alloc)),
+        readings: Items::from_vec(Vec::new(alloc)),
+        setting: Some(SettingRow {
+            number: order,
+            point: setting.point,
+            words: setting.words,
+            state,
+        }),
+        request: None,
+        connections: None,
+    }
+}
+
+/// The change that keeps a new request, with the points or the setting that it adds.
+pub(crate) fn request_change(
+    alloc: Global,
+    points: Vec<PointRow>,
+    setting: Option<SettingRow>,
+    request: RequestRow,
+) -> Change
+    ensures { result ≡ asked_change points.items setting request }
+{
+    Change {
+        points: Items::from_vec(points),
+        readings: Items::from_vec(Vec::new(alloc)),
+        setting,
+        request: Some(request),
+        connections: None,
+    }
+}
