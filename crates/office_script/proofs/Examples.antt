@@ -43,3 +43,20 @@ counter_prints = refl
 pub counter_ends : outcome_of counter ≡ Done
 unfolding histories_on_literals all_differ row digits encode_with
 counter_ends = refl
+
+-- an order that is sent again until it is settled, and the next one
+abbrev ordering : List ℕ
+ordering =
+    codes "device m1 roof 17\npoint lim,m1,holding,40,uint16,,,setting,\norder k1 lim 80\norder k1 lim 80\norder p2 lim 80\norder k2 lim 65535\norder k4 lim 90\nopen roof\n"
+    ++ codes "send 1 1\nreply 1 00 00 00 00 00 03 11 86 06\nsend 1 2\nrestart\nsend 1 1\nopen roof\nsend 2 1\n"
+    ++ codes "reply 2 00 00 00 00 00 06 11 06 00 28 00 50\nsend 2 1\nsend 2 2\n"
+
+abbrev ordering_text : List ℕ
+ordering_text =
+    codes "loaded 1\norder 1\norder 1\nkey reused\nrefused out of range\norder 2\nconnection 1\nquery 00 00 00 00 00 06 11 06 00 28 00 50\nexcepted 6\nrefused NotNext\n"
+    ++ codes "restarted\nrefused NoConnection\nconnection 2\nquery 00 00 00 00 00 06 11 06 00 28 00 50\nsettled\nrefused Settled\n"
+    ++ codes "query 00 01 00 00 00 06 11 06 00 28 00 5A\norder 1 done\norder 2 waiting\n"
+
+pub ordering_prints : output_of ordering ≡ ordering_text
+unfolding histories_on_literals all_differ row digits encode_with
+ordering_prints = refl

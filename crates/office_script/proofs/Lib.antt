@@ -1,14 +1,14 @@
 pub mod Cuts
 pub mod Texts
 pub mod Parts
-pub mod Settings
 pub mod Rows
+pub mod Values
 pub mod Acted
 pub mod Opened
 pub mod Lines
+pub mod Keys
 pub mod Messages
+pub mod Restarts
 pub mod Played
 pub mod Happened
-pub mod Lacking
-pub mod Unset
 pub mod Examples

@@ -1,9 +1,8 @@
 -- The events that lines ask for are messages: their texts are bytes, and their numbers are of their types.
 use Rattle.std.proofs.Common.{◌≡◌, ◌≤◌, ◌<◌, ◌+◌, ◌-◌, ◌*◌, ℕ, zero, suc, Bool, true, false, cond, List, [], ◌∷◌, length, drop, refl, sym, ◌∙◌, subst, arith, Option, Some, None}
-use Rattle.std.specs.Prelude.{codes, ◌==◌, ◌&&◌, nat_le, nat_lt}
-use Rattle.std.specs.Char.{is_ascii, is_ascii_digit}
+use Rattle.std.specs.Prelude.{ℤ, ◌==◌, ◌&&◌, nat_le, nat_lt}
+use Rattle.std.specs.Char.{is_ascii}
 use Rattle.std.specs.List.{list_all}
-use Rattle.std.specs.Str.{bytes_eq}
 use Rattle.std.proofs.lemmas.Bool.{and_parts}
 use Rattle.std.proofs.lemmas.Bool.Decides.{nat_tests}
 use Rattle.std.proofs.lemmas.List.Folds.{list_all-append}
@@ -11,20 +10,19 @@ use Rattle.hex.specs.Hex.{hex_digit_value}
 use Rattle.mb_pdu.specs.Replies.{IsBytes}
 use Rattle.mb_mbap.specs.declared.frame.Frame.{Frame}
 use Rattle.mb_mbap.specs.Whole.{fields_in, is_whole}
-use Rattle.sunspec.specs.Digits.{number_within, is_number_within}
-use Rattle.std.specs.Str.Parse.{digits_value}
+use Rattle.sunspec.specs.Digits.{number_within}
 use Rattle.read_planner.specs.declared.Read.{Read}
 use Rattle.office_core.specs.declared.event.Event.{Event}
-use Rattle.office_core.specs.declared.event.Event.TheVariants.{Load, Open, Ask, Arrive}
-use Rattle.office_core.specs.Messages.{IsMessage}
-use Rattle.office_script.specs.Words.{words_of, word_at, is_text, joined, byte_of, onto_bytes, bytes_of}
+use Rattle.office_core.specs.declared.event.Event.TheVariants.{Load, Order, Open, Ask, Send, Arrive, Restart}
+use Rattle.poll_book.specs.Callers.{is_key}
+use Rattle.office_core.specs.Legal.{IsNumber}
+use Rattle.office_script.specs.Words.{words_of, word_at, is_text, key_of, value_of, joined, byte_of, onto_bytes, bytes_of}
 use Rattle.office_script.specs.declared.command.Verb.{Verb}
 use Rattle.office_script.specs.declared.command.Verb.TheVariants as verb
-use Rattle.office_script.specs.Commands.{verb_of, event_by, number_limit, byte_limit, word_limit, list_header, list_with, point_of, open_of, read_of, asking, ask_of, frame_in, arriving, reply_of, event_of_words, record_in, event_with, event_of}
+use Rattle.office_script.proofs.Keys.{is_name, is_line_key}
+use Rattle.office_script.proofs.Values.{same, within_limit, value_number}
+use Rattle.office_script.specs.Commands.{Comes, caller_name, line_key, verb_of, event_by, number_limit, byte_limit, word_limit, list_header, list_with, point_of, ordering, order_of, open_of, read_of, asking, ask_of, sending, send_of, frame_in, arriving, reply_of, restart_of, event_of_words, record_in, event_with, event_of}
 use Rattle.point_list.proofs.Labels.{all_ascii}
-
-same : {A : Type 0} (x y : A) → Some x ≡ Some y → y ≡ x
-same x y e = cc
 
 -- ---- texts
 
@@ -33,20 +31,6 @@ ascii_bytes text h = λ i. let small = all_ascii text h i in omega (arith, small
 
 text_bytes : (word : List ℕ) → is_text word ≡ true → IsBytes word
 text_bytes word h = ascii_bytes word (and_parts (nat_lt 0 (length word)) (list_all is_ascii word) h).1
-
--- ---- numbers
-
--- a number that digits spell is at most the limit
-within_limit : (limit n : ℕ) (word : List ℕ) → Some n ≡ number_within limit word → n ≤ limit
-within_limit limit n word is = by (is_number_within limit word) refl is
-  where
-    by : (b : Bool) → is_number_within limit word ≡ b → Some n ≡ cond b (Some (digits_value 10 word)) None → n ≤ limit
-    by false h e = absurd (cc)
-    by true h e =
-        let parts = and_parts (list_all is_ascii_digit word) (nat_le (digits_value 10 word) limit) (and_parts (nat_lt 0 (length word)) (list_all is_ascii_digit word && nat_le (digits_value 10 word) limit) h).1 in
-        let value = same n (digits_value 10 word) e in
-        let small : digits_value 10 word ≤ limit = grind (arith, nat_tests, parts) in
-        omega (arith, value, small)
 
 -- ---- bytes
 
@@ -92,39 +76,86 @@ drop_bytes (suc n) (b ∷ bytes) h = drop_bytes n bytes (λ i. h (suc i))
 
 -- ---- events
 
-point_message : (said : List ℕ) (e : Event) → Some e ≡ point_of said → IsMessage e
-point_message said e is = by (list_all is_ascii said) refl is
+point_message : (number : ℕ) (said : List ℕ) (e : Event) → number ≤ number_limit → Some e ≡ point_of number said → Comes e
+point_message number said e small is = by (list_all is_ascii said) refl is
   where
-    by : (b : Bool) → list_all is_ascii said ≡ b → Some e ≡ cond b (Some (Load (list_with said))) None → IsMessage e
-    by false h is = absurd (cc)
-    by true h is = subst IsMessage (same e (Load (list_with said)) is) (ascii_bytes (list_with said) (list_all-append is_ascii list_header said ∙ h))
+    listed : Event
+    listed = Load caller_name (line_key number) (list_with said)
 
-open_message : (words : List (List ℕ)) (e : Event) → Some e ≡ open_of words → IsMessage e
+    by : (b : Bool) → list_all is_ascii said ≡ b → Some e ≡ cond b (Some listed) None → Comes e
+    by false h is = absurd (cc)
+    by true h is = subst Comes (same e listed is) (ascii_bytes (list_with said) (list_all-append is_ascii list_header said ∙ h), (is_name, is_line_key number small))
+
+order_message : (words : List (List ℕ)) (e : Event) → Some e ≡ order_of words → Comes e
+order_message words e is = by (length words == 3) is
+  where
+    keyed : (word key : List ℕ) (b : Bool) → is_key word ≡ b → Some key ≡ cond b (Some word) None → is_key key ≡ true
+    keyed word key false h e = absurd (cc)
+    keyed word key true h e = subst (λ k. is_key k ≡ true) (same key word e) h
+
+    ordered : (o : Option (List ℕ)) (point : List ℕ) (p : Option ℤ) → ((key : List ℕ) → Some key ≡ o → is_key key ≡ true) → ((z : ℤ) → Some z ≡ p → IsNumber z)
+        → Some e ≡ ordering o point p → Comes e
+    ordered None point p ho hp is = absurd (cc)
+    ordered (Some key) point None ho hp is = absurd (cc)
+    ordered (Some key) point (Some value) ho hp is = named (is_text point) refl is
+      where
+        named : (b : Bool) → is_text point ≡ b → Some e ≡ cond b (Some (Order caller_name key point value)) None → Comes e
+        named false h is = absurd (cc)
+        named true h is = subst Comes (same e (Order caller_name key point value) is) (text_bytes point h, hp value refl, (is_name, ho key refl))
+
+    by : (b : Bool) → Some e ≡ cond b (ordering (key_of (word_at words 0)) (word_at words 1) (value_of (word_at words 2))) None → Comes e
+    by false is = absurd (cc)
+    by true is =
+        ordered (key_of (word_at words 0)) (word_at words 1) (value_of (word_at words 2))
+        (λ key h. keyed (word_at words 0) key (is_key (word_at words 0)) refl h) (λ z h. value_number (word_at words 2) z h) is
+
+send_message : (words : List (List ℕ)) (e : Event) → Some e ≡ send_of words → Comes e
+send_message words e is = by (length words == 2) is
+  where
+    sent : (o p : Option ℕ) → ((n : ℕ) → Some n ≡ o → n ≤ number_limit) → ((n : ℕ) → Some n ≡ p → n ≤ number_limit) → Some e ≡ sending o p → Comes e
+    sent None p ho hp is = absurd (cc)
+    sent (Some conn) None ho hp is = absurd (cc)
+    sent (Some conn) (Some number) ho hp is = subst Comes (same e (Send conn number) is) (ho conn refl, hp number refl)
+
+    by : (b : Bool) → Some e ≡ cond b (sending (number_within number_limit (word_at words 0)) (number_within number_limit (word_at words 1))) None → Comes e
+    by false is = absurd (cc)
+    by true is =
+        sent (number_within number_limit (word_at words 0)) (number_within number_limit (word_at words 1))
+        (λ n h. within_limit number_limit n (word_at words 0) h) (λ n h. within_limit number_limit n (word_at words 1) h) is
+
+restart_message : (words : List (List ℕ)) (e : Event) → Some e ≡ restart_of words → Comes e
+restart_message words e is = by (length words == 0) is
+  where
+    by : (b : Bool) → Some e ≡ cond b (Some Restart) None → Comes e
+    by false is = absurd (cc)
+    by true is = subst Comes (same e Restart is) tt
+
+open_message : (words : List (List ℕ)) (e : Event) → Some e ≡ open_of words → Comes e
 open_message words e is = by (length words == 1) (is_text (word_at words 0)) refl is
   where
-    by : (a b : Bool) → is_text (word_at words 0) ≡ b → Some e ≡ cond (a && b) (Some (Open (word_at words 0))) None → IsMessage e
+    by : (a b : Bool) → is_text (word_at words 0) ≡ b → Some e ≡ cond (a && b) (Some (Open (word_at words 0))) None → Comes e
     by false b h is = absurd (cc)
     by true false h is = absurd (cc)
-    by true true h is = subst IsMessage (same e (Open (word_at words 0)) is) (text_bytes (word_at words 0) h)
+    by true true h is = subst Comes (same e (Open (word_at words 0)) is) (text_bytes (word_at words 0) h)
 
-ask_message : (words : List (List ℕ)) (e : Event) → Some e ≡ ask_of words → IsMessage e
+ask_message : (words : List (List ℕ)) (e : Event) → Some e ≡ ask_of words → Comes e
 ask_message words e is = by (length words == 6) is
   where
     asked : (o p : Option ℕ) (device : List ℕ) (r : Option Read) → ((n : ℕ) → Some n ≡ o → n ≤ number_limit) → ((n : ℕ) → Some n ≡ p → n ≤ number_limit)
-        → Some e ≡ asking o device p r → IsMessage e
+        → Some e ≡ asking o device p r → Comes e
     asked None p device r ho hp is = absurd (cc)
     asked (Some conn) None device r ho hp is = absurd (cc)
     asked (Some conn) (Some slot) device None ho hp is = absurd (cc)
     asked (Some conn) (Some slot) device (Some r) ho hp is = named (is_text device) refl is
       where
-        named : (b : Bool) → is_text device ≡ b → Some e ≡ cond b (Some (Ask conn device slot r)) None → IsMessage e
+        named : (b : Bool) → is_text device ≡ b → Some e ≡ cond b (Some (Ask conn device slot r)) None → Comes e
         named false h is = absurd (cc)
-        named true h is = subst IsMessage (same e (Ask conn device slot r) is) (text_bytes device h, ho conn refl, hp slot refl)
+        named true h is = subst Comes (same e (Ask conn device slot r) is) (text_bytes device h, ho conn refl, hp slot refl)
 
     the_read : Option Read
     the_read = read_of (number_within byte_limit (word_at words 3)) (number_within word_limit (word_at words 4)) (number_within word_limit (word_at words 5))
 
-    by : (b : Bool) → Some e ≡ cond b (asking (number_within number_limit (word_at words 0)) (word_at words 1) (number_within number_limit (word_at words 2)) the_read) None → IsMessage e
+    by : (b : Bool) → Some e ≡ cond b (asking (number_within number_limit (word_at words 0)) (word_at words 1) (number_within number_limit (word_at words 2)) the_read) None → Comes e
     by false is = absurd (cc)
     by true is =
         asked (number_within number_limit (word_at words 0)) (number_within number_limit (word_at words 2)) (word_at words 1) the_read
@@ -138,29 +169,32 @@ frame_bytes (Some bytes) frame h is = by (is_whole bytes) is
     by false is = absurd (cc)
     by true is = subst (λ (f : Frame). IsBytes f.unit) (same frame (fields_in bytes) is) (drop_bytes 7 bytes (h bytes refl))
 
-reply_message : (words : List (List ℕ)) (e : Event) → Some e ≡ reply_of words → IsMessage e
+reply_message : (words : List (List ℕ)) (e : Event) → Some e ≡ reply_of words → Comes e
 reply_message [] e is = absurd (cc)
 reply_message (conn ∷ bytes) e is = by (number_within number_limit conn) (frame_in (bytes_of bytes)) (λ frame h. frame_bytes (bytes_of bytes) frame (bytes_below bytes) h) is
   where
-    by : (o : Option ℕ) (p : Option Frame) → ((frame : Frame) → Some frame ≡ p → IsBytes frame.unit) → Some e ≡ arriving o p → IsMessage e
+    by : (o : Option ℕ) (p : Option Frame) → ((frame : Frame) → Some frame ≡ p → IsBytes frame.unit) → Some e ≡ arriving o p → Comes e
     by None p h is = absurd (cc)
     by (Some c) None h is = absurd (cc)
-    by (Some c) (Some frame) h is = subst IsMessage (same e (Arrive c frame) is) (h frame refl)
+    by (Some c) (Some frame) h is = subst Comes (same e (Arrive c frame) is) (h frame refl)
 
-words_message : (words : List (List ℕ)) (e : Event) → Some e ≡ event_of_words words → IsMessage e
+words_message : (words : List (List ℕ)) (e : Event) → Some e ≡ event_of_words words → Comes e
 words_message [] e is = absurd (cc)
 words_message (name ∷ rest) e is = by (verb_of name) is
   where
-    by : (v : Option Verb) → Some e ≡ event_by v rest → IsMessage e
+    by : (v : Option Verb) → Some e ≡ event_by v rest → Comes e
     by None is = absurd (cc)
     by (Some verb.Open) is = open_message rest e is
     by (Some verb.Ask) is = ask_message rest e is
     by (Some verb.Reply) is = reply_message rest e is
+    by (Some verb.Order) is = order_message rest e is
+    by (Some verb.Send) is = send_message rest e is
+    by (Some verb.Restart) is = restart_message rest e is
 
--- what a line asks for is a message
-pub is_message : (line : List ℕ) (e : Event) → Some e ≡ event_of line → IsMessage e
-is_message line e is = by (record_in line) is
+-- what a line asks for can come, where 32 bits hold the line's number
+pub comes_so : (number : ℕ) (line : List ℕ) (e : Event) → number ≤ number_limit → Some e ≡ event_of number line → Comes e
+comes_so number line e small is = by (record_in line) is
   where
-    by : (o : Option (List ℕ)) → Some e ≡ event_with o (words_of line) → IsMessage e
-    by (Some said) is = point_message said e is
+    by : (o : Option (List ℕ)) → Some e ≡ event_with number o (words_of line) → Comes e
+    by (Some said) is = point_message number said e small is
     by None is = words_message (words_of line) e is

@@ -1,5 +1,5 @@
 -- What a line asks of the office.
-use Rattle.std.specs.Prelude.{ℕ, List, [], ◌∷◌, ◌++◌, ◌&&◌, Option, Some, None, if◌then◌else◌, length, ◌==◌, codes, drop, take}
+use Rattle.std.specs.Prelude.{ℕ, ℤ, List, [], ◌∷◌, ◌++◌, ◌&&◌, Option, Some, None, if◌then◌else◌, length, ◌==◌, codes, decimal, drop, take, ⊤}
 use Rattle.std.specs.Char.{is_ascii}
 use Rattle.std.specs.List.{list_all}
 use Rattle.std.specs.Str.{bytes_eq}
@@ -7,10 +7,11 @@ use Rattle.mb_mbap.specs.declared.frame.Frame.{Frame}
 use Rattle.sunspec.specs.Digits.{number_within}
 use Rattle.read_planner.specs.declared.Read.{Read}
 use Rattle.office_core.specs.declared.event.Event.{Event}
-use Rattle.office_core.specs.declared.event.Event.TheVariants.{Load, Open, Ask, Arrive}
+use Rattle.office_core.specs.declared.event.Event.TheVariants.{Load, Order, Open, Ask, Send, Arrive, Restart}
 use Rattle.office_script.specs.declared.command.Verb.{Verb}
 use Rattle.office_script.specs.declared.command.Verb.TheVariants as verb
-use Rattle.office_script.specs.Words.{words_of, word_at, is_text, bytes_of}
+use Rattle.office_core.specs.Messages.{IsMessage}
+use Rattle.office_script.specs.Words.{words_of, word_at, is_text, key_of, value_of, bytes_of}
 use Rattle.mb_mbap.specs.Whole.{frame_of}
 
 abbrev pub byte_limit : ℕ
@@ -22,6 +23,14 @@ word_limit = 65535
 abbrev pub number_limit : ℕ
 number_limit = 4294967295
 
+-- who asks for what a script asks for
+abbrev pub caller_name : List ℕ
+caller_name = codes "replay"
+
+-- the key of the list on the line of this number
+abbrev pub line_key : ℕ → List ℕ
+line_key number = codes "p" ++ decimal number
+
 -- the header of a point list, and its end of line
 abbrev pub list_header : List ℕ
 list_header = codes "name,device,table,address,type,length,scale,role,roll\n"
@@ -31,8 +40,17 @@ abbrev pub list_with : List ℕ → List ℕ
 list_with said = list_header ++ said
 
 -- `point RECORD`: the record is all that follows the space
-abbrev pub point_of : List ℕ → Option Event
-point_of said = if list_all is_ascii said then Some (Load (list_with said)) else None
+abbrev pub point_of : ℕ → List ℕ → Option Event
+point_of number said = if list_all is_ascii said then Some (Load caller_name (line_key number) (list_with said)) else None
+
+-- an order of a point by any word
+abbrev pub ordering : Option (List ℕ) → List ℕ → Option ℤ → Option Event
+ordering (Some key) point (Some value) = if is_text point then Some (Order caller_name key point value) else None
+ordering _ point _ = None
+
+-- `order KEY POINT VALUE`
+abbrev pub order_of : List (List ℕ) → Option Event
+order_of words = if length words == 3 then ordering (key_of (word_at words 0)) (word_at words 1) (value_of (word_at words 2)) else None
 
 -- `open LINE`
 abbrev pub open_of : List (List ℕ) → Option Event
@@ -55,6 +73,15 @@ ask_of words =
     (read_of (number_within byte_limit (word_at words 3)) (number_within word_limit (word_at words 4)) (number_within word_limit (word_at words 5)))
     else None
 
+abbrev pub sending : Option ℕ → Option ℕ → Option Event
+sending (Some conn) (Some number) = Some (Send conn number)
+sending _ _ = None
+
+-- `send CONNECTION ORDER`
+abbrev pub send_of : List (List ℕ) → Option Event
+send_of words =
+    if length words == 2 then sending (number_within number_limit (word_at words 0)) (number_within number_limit (word_at words 1)) else None
+
 abbrev pub frame_in : Option (List ℕ) → Option Frame
 frame_in None = None
 frame_in (Some bytes) = frame_of bytes
@@ -68,17 +95,27 @@ abbrev pub reply_of : List (List ℕ) → Option Event
 reply_of [] = None
 reply_of (conn ∷ bytes) = arriving (number_within number_limit conn) (frame_in (bytes_of bytes))
 
+-- `restart`, alone
+abbrev pub restart_of : List (List ℕ) → Option Event
+restart_of words = if length words == 0 then Some Restart else None
+
 -- the first word is the verb
 abbrev pub verb_of : List ℕ → Option Verb
 verb_of name =
     if bytes_eq name (codes "open") then Some verb.Open else
     if bytes_eq name (codes "ask") then Some verb.Ask else
-    if bytes_eq name (codes "reply") then Some verb.Reply else None
+    if bytes_eq name (codes "reply") then Some verb.Reply else
+    if bytes_eq name (codes "order") then Some verb.Order else
+    if bytes_eq name (codes "send") then Some verb.Send else
+    if bytes_eq name (codes "restart") then Some verb.Restart else None
 
 abbrev pub event_for : Verb → List (List ℕ) → Option Event
 event_for verb.Open words = open_of words
 event_for verb.Ask words = ask_of words
 event_for verb.Reply words = reply_of words
+event_for verb.Order words = order_of words
+event_for verb.Send words = send_of words
+event_for verb.Restart words = restart_of words
 
 abbrev pub event_by : Option Verb → List (List ℕ) → Option Event
 event_by None words = None
@@ -92,10 +129,15 @@ event_of_words (name ∷ rest) = event_by (verb_of name) rest
 abbrev pub record_in : List ℕ → Option (List ℕ)
 record_in line = if bytes_eq (take 6 line) (codes "point ") then Some (drop 6 line) else None
 
-abbrev pub event_with : Option (List ℕ) → List (List ℕ) → Option Event
-event_with (Some said) words = point_of said
-event_with None words = event_of_words words
+abbrev pub event_with : ℕ → Option (List ℕ) → List (List ℕ) → Option Event
+event_with number (Some said) words = point_of number said
+event_with number None words = event_of_words words
 
--- the event that a line asks for
-abbrev pub event_of : List ℕ → Option Event
-event_of line = event_with (record_in line) (words_of line)
+-- the event that the line of this number asks for
+abbrev pub event_of : ℕ → List ℕ → Option Event
+event_of number line = event_with number (record_in line) (words_of line)
+
+-- what a script can make come to an office: a message of a caller or a device, or that the office begins anew
+abbrev pub Comes : Event → Type 0
+Comes Restart = ⊤
+Comes seen = IsMessage seen

@@ -4,8 +4,8 @@ use Rattle.std.specs.Io.KnownBytes.{Appends}
 use Rattle.point_list.specs.Sites.{IsSound}
 use Rattle.poll_book.specs.declared.keeper.Neighbours.{Ghosts}
 use Rattle.office_core.specs.declared.office.Office.{Office}
-use Rattle.office_core.specs.History.{History}
-use Rattle.office_core.specs.Legal.{Legal}
+use Rattle.office_core.specs.History.{History, Restart, site_of}
+use Rattle.office_core.specs.Legal.{Legal, MayHappen}
 use Rattle.office_core.specs.Offices.{Stands}
 use Rattle.office_script.specs.Scripts.{Step, Course, after, broken_at, from_line, begun, steps_of, course_of}
 use Rattle.office_script.specs.declared.player.Replayed.{Replayed}
@@ -15,9 +15,13 @@ use Rattle.office_script.specs.declared.player.Played.TheVariants.{On, Faulty}
 use Rattle.office_script.specs.declared.opening.Opening.{Opening}
 use Rattle.office_script.specs.declared.opening.Opening.TheVariants.{Ready, Broken}
 
--- an office that stands for a history which may be, and which has begun
+-- the office may begin anew with the same site
+abbrev pub MayRestart : History → Type 0
+MayRestart before = MayHappen before (Restart (site_of before))
+
+-- an office that stands for a history which may be, which has begun, and after which it may begin anew
 abbrev pub Follows : {K : Type 0} {g : Ghosts K} → Office K g → History → Type 0
-Follows office before = Stands office before × Legal before × (before ≢ [])
+Follows office before = Stands office before × Legal before × (before ≢ []) × MayRestart before
 
 -- what was printed so far, and then what comes of the steps from line `number` on, is the whole
 abbrev pub Owes : (History → Type 0) → List ℕ → ℕ → List Step → Course → Type 0
@@ -42,5 +46,5 @@ WroteFront old new pending rest = (front : List ℕ) × (front ++ rest ≡ pendi
 
 -- what the lines before the first that declares no device leave of the script
 abbrev pub Opens : List ℕ → Opening → Type 0
-Opens script (Ready site rest number) = IsSound site × (course_of script ≡ begun site number (steps_of rest.now)) × (number + length rest.now ≤ length script + 1)
+Opens script (Ready site rest number) = IsSound site × (course_of script ≡ begun site number (steps_of number rest.now)) × (number + length rest.now ≤ length script + 1)
 Opens script (Broken number) = course_of script ≡ broken_at [] number

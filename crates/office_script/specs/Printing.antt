@@ -1,23 +1,28 @@
 -- What is printed of answers, and of an office's tables at the end.
-use Rattle.std.specs.Prelude.{ℕ, List, [], ◌∷◌, ◌++◌, if◌then◌else◌, flat_map, codes, decimal, pos, unwrap_or}
+use Rattle.std.specs.Prelude.{ℕ, zero, suc, List, [], ◌∷◌, ◌++◌, Option, Some, None, if◌then◌else◌, flat_map, codes, decimal, pos, unwrap_or}
 use Rattle.hex.specs.Hex.{encode_upper}
 use Rattle.sunspec.specs.Text.{shown, scaled}
 use Rattle.point_list.specs.declared.point.Point.{Point}
-use Rattle.point_list.specs.declared.error.ListFault.TheVariants.{BadRole}
 use Rattle.point_list.specs.FaultTexts.{fault_text}
 use Rattle.mb_mbap.specs.Stream.{spelled}
 use Rattle.poll_book.specs.declared.rows.PointRow.{PointRow}
 use Rattle.poll_book.specs.declared.rows.Reading.{Reading}
 use Rattle.poll_book.specs.Tables.{Key, Readings, Tables, readings_between}
 use Rattle.poll_book.specs.Totals.{is_counter, total}
+use Rattle.poll_book.specs.declared.rows.OrderState.{OrderState}
+use Rattle.poll_book.specs.declared.rows.OrderState.TheVariants.{Waiting, Done, Refused}
+use Rattle.poll_book.specs.declared.rows.Setting.{Setting}
+use Rattle.poll_book.specs.Orders.{Settings, last_order, setting_at}
+use Rattle.poll_book.specs.declared.requests.RequestFault.{RequestFault}
+use Rattle.poll_book.specs.declared.requests.RequestFault.TheVariants.{List as OfList, PointDiffers, UnknownPoint, NotASetting, OutOfRange, TooManyOrders}
+use Rattle.poll_book.specs.declared.requests.Outcome.{Outcome}
+use Rattle.poll_book.specs.declared.requests.Outcome.TheVariants.{Loaded, Ordered, RefusedFor}
 use Rattle.office_core.specs.declared.error.OfficeError.{OfficeError}
 use Rattle.office_core.specs.declared.error.OfficeError.TheVariants as error
-use Rattle.office_core.specs.declared.event.LoadFault.{LoadFault}
-use Rattle.office_core.specs.declared.event.LoadFault.TheVariants.{List as OfList, PointDiffers}
-use Rattle.office_core.specs.declared.event.Outcome.{Outcome}
-use Rattle.office_core.specs.declared.event.Outcome.TheVariants.{Loaded, RefusedFor}
+use Rattle.office_core.specs.declared.event.RequestAnswer.{RequestAnswer}
+use Rattle.office_core.specs.declared.event.RequestAnswer.TheVariants.{Kept, KeyReused}
 use Rattle.office_core.specs.declared.event.Arrival.{Arrival}
-use Rattle.office_core.specs.declared.event.Arrival.TheVariants.{Recorded, Excepted}
+use Rattle.office_core.specs.declared.event.Arrival.TheVariants.{Recorded, Settled, Excepted}
 use Rattle.office_core.specs.declared.event.EventAnswer.{EventAnswer}
 use Rattle.office_core.specs.declared.event.EventAnswer.TheVariants as answer
 
@@ -41,6 +46,9 @@ abbrev pub refusal_name : OfficeError → List ℕ
 refusal_name error.NoConnection = codes "NoConnection"
 refusal_name error.WrongLine = codes "WrongLine"
 refusal_name error.NoRead = codes "NoRead"
+refusal_name error.NoOrder = codes "NoOrder"
+refusal_name error.Settled = codes "Settled"
+refusal_name error.NotNext = codes "NotNext"
 refusal_name error.Exhausted = codes "Exhausted"
 refusal_name error.SiteDiffers = codes "SiteDiffers"
 refusal_name error.NoQuery = codes "NoQuery"
@@ -49,33 +57,40 @@ refusal_name error.Repeat = codes "Repeat"
 refusal_name error.WrongReply = codes "WrongReply"
 refusal_name (error.Store fault) = codes "Store"
 
-abbrev pub load_fault_text : LoadFault → List ℕ
-load_fault_text (OfList fault) = fault_text fault
-load_fault_text PointDiffers = codes "point differs"
+abbrev pub request_fault_text : RequestFault → List ℕ
+request_fault_text (OfList fault) = fault_text fault
+request_fault_text PointDiffers = codes "point differs"
+request_fault_text UnknownPoint = codes "unknown point"
+request_fault_text NotASetting = codes "not a setting"
+request_fault_text OutOfRange = codes "out of range"
+request_fault_text TooManyOrders = codes "too many orders"
 
 abbrev pub refusal_line : List ℕ → List ℕ
 refusal_line why = codes "refused " ++ why ++ line_end
 
 abbrev pub outcome_line : Outcome → List ℕ
 outcome_line (Loaded count) = numbered_line (codes "loaded ") count
-outcome_line (RefusedFor reason) = refusal_line (load_fault_text reason.fault)
+outcome_line (Ordered number) = numbered_line (codes "order ") number
+outcome_line (RefusedFor reason) = refusal_line (request_fault_text reason.fault)
+
+-- what became of the first request under a key, or that it was another
+abbrev pub request_line : RequestAnswer → List ℕ
+request_line (Kept first outcome) = outcome_line outcome
+request_line KeyReused = codes "key reused" ++ line_end
 
 abbrev pub arrival_line : Arrival → List ℕ
 arrival_line (Recorded count) = numbered_line (codes "recorded ") count
+arrival_line Settled = codes "settled" ++ line_end
 arrival_line (Excepted code) = numbered_line (codes "excepted ") code
 
 -- the line that an answer prints
 abbrev pub answer_line : EventAnswer → List ℕ
-answer_line (answer.Judged outcome) = outcome_line outcome
+answer_line (answer.Request told) = request_line told
 answer_line (answer.Opened conn) = numbered_line (codes "connection ") conn
 answer_line (answer.Query frame) = codes "query" ++ flat_map spaced_byte (spelled frame) ++ line_end
 answer_line (answer.Arrived arrival) = arrival_line arrival
 answer_line answer.Restarted = codes "restarted" ++ line_end
 answer_line (answer.Refused fault) = refusal_line (refusal_name fault)
-
--- a point that can be set isn't taken yet
-abbrev pub setting_line : List ℕ
-setting_line = refusal_line (fault_text BadRole)
 
 -- where a line is of another form
 abbrev pub fault_line : ℕ → List ℕ
@@ -102,6 +117,30 @@ total_line table known =
     then codes "total " ++ known.point.name ++ 32 ∷ scaled (pos (total known table)) known.point.scale ++ line_end
     else []
 
--- the readings of all points, and then the totals of the counters, by the numbers of the points
+-- how an order stands
+abbrev pub state_text : OrderState → List ℕ
+state_text Waiting = codes "waiting"
+state_text Done = codes "done"
+state_text (Refused code) = codes "refused " ++ decimal code
+
+abbrev pub order_line : ℕ → OrderState → List ℕ
+order_line number state = codes "order " ++ decimal number ++ 32 ∷ state_text state ++ line_end
+
+-- the line of the order of this number, where there is one
+abbrev pub order_line_of : ℕ → Option Setting → List ℕ
+order_line_of number None = []
+order_line_of number (Some setting) = order_line number setting.state
+
+-- the orders from 1 to this number
+abbrev pub orders_to : Settings → ℕ → List ℕ
+orders_to table zero = []
+orders_to table (suc n) = orders_to table n ++ order_line_of (suc n) (setting_at table (suc n))
+
+-- all orders by number
+abbrev pub order_lines : Settings → List ℕ
+order_lines table = orders_to table (last_order table)
+
+-- the readings of all points, and then the totals of the counters, by the numbers of the points, and then the orders
 abbrev pub report_of : Tables → List ℕ
-report_of kept = flat_map (reading_lines kept.readings) kept.points ++ flat_map (total_line kept.readings) kept.points
+report_of kept =
+    flat_map (reading_lines kept.readings) kept.points ++ flat_map (total_line kept.readings) kept.points ++ order_lines kept.settings

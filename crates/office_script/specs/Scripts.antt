@@ -1,19 +1,10 @@
 -- What a script means: what is printed for its lines, how it ends, and what happens in it.
-use Rattle.std.specs.Prelude.{ℕ, ◌+◌, List, [], ◌∷◌, ◌++◌, Bool, false, ◌||◌, Option, Some, None, if◌then◌else◌, length, ◌==◌, slice_index, Result, Ok, Err}
-use Rattle.std.specs.List.{list_any}
+use Rattle.std.specs.Prelude.{ℕ, ◌+◌, List, [], ◌∷◌, ◌++◌, Bool, ◌||◌, Option, Some, None, if◌then◌else◌, length, ◌==◌, slice_index}
 use Rattle.std.specs.Str.Lines.{lines}
-use Rattle.point_list.specs.Columns.{is_device}
-use Rattle.point_list.specs.Lists.{records_of}
-use Rattle.point_list.specs.ListMeaning.{list_meaning}
-use Rattle.point_list.specs.declared.error.ListError.{ListError}
-use Rattle.point_list.specs.declared.point.ListRow.{ListRow}
-use Rattle.point_list.specs.declared.point.Role.TheVariants.{Setting}
 use Rattle.point_list.specs.declared.site.Site.{Site}
 use Rattle.office_core.specs.declared.event.Event.{Event}
-use Rattle.office_core.specs.declared.event.Event.TheVariants as event
 use Rattle.office_core.specs.Sites.{no_site}
-use Rattle.office_core.specs.Loads.{same_role}
-use Rattle.office_core.specs.History.{History, Restart, site_of, tables}
+use Rattle.office_core.specs.History.{History, Restart, tables}
 use Rattle.office_core.specs.Answers.{answer_of}
 use Rattle.office_core.specs.Messages.{happening_of}
 use Rattle.office_script.specs.declared.device.Declared.{Declared}
@@ -21,7 +12,7 @@ use Rattle.office_script.specs.declared.player.Replayed.{Replayed}
 use Rattle.office_script.specs.declared.player.Replayed.TheVariants.{Done, FaultLine}
 use Rattle.office_script.specs.Commands.{event_of}
 use Rattle.office_script.specs.Devices.{device_of, with_device, is_site}
-use Rattle.office_script.specs.Printing.{answer_line, setting_line, fault_line, report_of}
+use Rattle.office_script.specs.Printing.{answer_line, fault_line, report_of}
 
 -- ---- lines
 
@@ -41,8 +32,9 @@ does (Some seen) said = Does seen
 does None (Some said) = Declares said
 does None None = Wrong
 
-abbrev pub step_of : List ℕ → Step
-step_of line = if is_skipped line then Skipped else does (event_of line) (device_of line)
+-- the line of this number
+abbrev pub step_of : ℕ → List ℕ → Step
+step_of number line = if is_skipped line then Skipped else does (event_of number line) (device_of line)
 
 abbrev pub declared_in : Step → Option Declared
 declared_in Skipped = None
@@ -50,36 +42,29 @@ declared_in Wrong = None
 declared_in (Declares said) = Some said
 declared_in (Does seen) = None
 
--- the device that a line declares
-abbrev pub declared_by : List ℕ → Option Declared
-declared_by line = declared_in (step_of line)
+-- the device that the line of this number declares
+abbrev pub declared_by : ℕ → List ℕ → Option Declared
+declared_by number line = declared_in (step_of number line)
 
-abbrev pub steps_in : List (List ℕ) → List Step
-steps_in [] = []
-steps_in (line ∷ more) = step_of line ∷ steps_in more
+-- the lines from this number on
+abbrev pub steps_in : ℕ → List (List ℕ) → List Step
+steps_in number [] = []
+steps_in number (line ∷ more) = step_of number line ∷ steps_in (number + 1) more
 
--- the lines of a text, each ended by a line feed or a carriage return and a line feed, the last perhaps by nothing
-abbrev pub steps_of : List ℕ → List Step
-steps_of text = steps_in (lines text)
+-- the lines of a text, each ended by a line feed or a carriage return and a line feed, the last perhaps by nothing;
+-- the first has this number
+abbrev pub steps_of : ℕ → List ℕ → List Step
+steps_of number text = steps_in number (lines text)
 
 -- ---- what is printed
 
-abbrev pub has_setting : Result (List ListRow) ListError → Bool
-has_setting (Ok rows) = list_any (λ (said : ListRow). same_role said.point.role Setting) rows
-has_setting (Err e) = false
-
--- a list of the site with a point that can be set, which isn't taken yet
-abbrev pub lists_setting : Site → Event → Bool
-lists_setting site (event.Load list) = has_setting (list_meaning (is_device site) (records_of list))
-lists_setting site _ = false
-
 -- what an event prints after what happened before
 abbrev pub printed_for : History → Event → List ℕ
-printed_for before seen = if lists_setting (site_of before) seen then setting_line else answer_line (answer_of before (happening_of before seen))
+printed_for before seen = answer_line (answer_of before (happening_of before seen))
 
 -- what happened by then
 abbrev pub then_before : History → Event → History
-then_before before seen = if lists_setting (site_of before) seen then before else happening_of before seen ∷ before
+then_before before seen = happening_of before seen ∷ before
 
 -- what comes of the lines from one on: what they print, how they end, and what happened by then
 pub record Course : Type 0 where
@@ -120,7 +105,7 @@ from_device site number (Does seen ∷ more) = begun site number (Does seen ∷ 
 -- ---- the whole
 
 abbrev pub course_of : List ℕ → Course
-course_of script = from_device no_site 1 (steps_of script)
+course_of script = from_device no_site 1 (steps_of 1 script)
 
 -- the output of a script
 abbrev pub output_of : List ℕ → List ℕ

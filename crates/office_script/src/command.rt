@@ -3,20 +3,21 @@ ghost use Rattle.std.specs.Prelude.{◌≡◌, IfOk, option_map};
 ghost use Rattle.sunspec.specs.Digits.{number_within};
 ghost use Rattle.office_script.specs.Words.{bytes_of, texts};
 ghost use Rattle.office_script.specs.Commands as commands;
-ghost use Rattle.office_script.specs.Commands.{ask_of, byte_limit, event_for, event_of, event_of_words, frame_in, list_with, open_of, point_of, read_of, reply_of, verb_of, word_limit};
+ghost use Rattle.office_script.specs.Commands.{ask_of, byte_limit, caller_name, event_for, event_of, event_of_words, frame_in, line_key, list_with, open_of, order_of, point_of, read_of, reply_of, restart_of, send_of, verb_of, word_limit};
 
 use crate::cutting::words;
-use crate::word::{bytes, is_text, number, text};
+use crate::word::{bytes, is_text, key, number, text, value};
 use mb_mbap::Frame;
 use mb_pdu::Span;
 use office_core::Event;
 use point_list::{Items, is_ascii};
+use poll_book::{Caller, Key};
 use poll_match::Conn;
 use read_planner::Read;
 use std::alloc::{AllocError, Global};
 
 /// The header of a point list, with the end of its line.
-pub(crate) const HEADER: &[u8] = b"name,device,table,address,type,length,scale,role,roll\n";
+const HEADER: &[u8] = b"name,device,table,address,type,length,scale,role,roll\n";
 
 /// The list of the header and one record.
 fn list_with(alloc: Global, fields: &[u8]) -> Result<Items<u8>, AllocError>
@@ -27,14 +28,69 @@ fn list_with(alloc: Global, fields: &[u8]) -> Result<Items<u8>, AllocError>
     Ok(Items::from_vec(list))
 }
 
-/// `point RECORD`, by what follows the space.
-fn point(alloc: Global, fields: &[u8]) -> Result<Option<Event>, AllocError>
-    ensures { IfOk result (λ event. event ≡ point_of fields.now) }
+/// Who asks for what a script asks for.
+fn caller() -> Caller
+    ensures { result ≡ caller_name }
+{
+    match Caller::new("replay") {
+        Some(caller) => caller,
+        None => unreachable!(),
+    }
+}
+
+/// The key of the list on the line of a number.
+fn line_key(alloc: Global, number: u32) -> Result<Key, AllocError>
+    ensures { IfOk result (λ key. key ≡ line_key number) }
+{
+    let text = format!(in alloc; "p{number}")?;
+    match Key::new(text.as_str()) {
+        Some(key) => Ok(key),
+        None => unreachable!(),
+    }
+}
+
+/// `point RECORD`, by what follows the space, on the line of a number.
+fn point(alloc: Global, fields: &[u8], number: u32) -> Result<Option<Event>, AllocError>
+    ensures { IfOk result (λ event. event ≡ point_of number fields.now) }
 {
     if !is_ascii(fields) {
         return Ok(None);
     }
-    Ok(Some(Event::Load(list_with(alloc, fields)?)))
+    let key = line_key(alloc, number)?;
+    let list = list_with(alloc, fields)?;
+    Ok(Some(Event::Load(caller(), key, list)))
+}
+
+/// The event that orders, where each part could be read.
+fn ordering(
+    alloc: Global,
+    key: Option<Key>,
+    point: &[u8],
+    value: Option<i128>,
+) -> Result<Option<Event>, AllocError>
+    ensures { IfOk result (λ event. event ≡ commands.ordering key point.now value) }
+{
+    let Some(key) = key else {
+        return Ok(None);
+    };
+    let Some(value) = value else {
+        return Ok(None);
+    };
+    if !is_text(point) {
+        return Ok(None);
+    }
+    let point = text(alloc, point)?;
+    Ok(Some(Event::Order(caller(), key, point, value)))
+}
+
+/// `order KEY POINT VALUE`.
+fn order(alloc: Global, words: &[&[u8]]) -> Result<Option<Event>, AllocError>
+    ensures { IfOk result (λ event. event ≡ order_of (texts words.now)) }
+{
+    if words.len() != 3 {
+        return Ok(None);
+    }
+    ordering(alloc, key(words[0]), words[1], value(words[2]))
 }
 
 /// `open LINE`.
@@ -102,6 +158,18 @@ fn ask(alloc: Global, words: &[&[u8]]) -> Result<Option<Event>, AllocError>
     asking(alloc, conn, words[1], slot, read)
 }
 
+/// `send CONNECTION ORDER`.
+fn send(words: &[&[u8]]) -> Option<Event>
+    ensures { result ≡ send_of (texts words.now) }
+{
+    if words.len() != 2 {
+        return None;
+    }
+    let conn = number(words[0], u32::MAX)?;
+    let order = number(words[1], u32::MAX)?;
+    Some(Event::Send(Conn::new(conn), order))
+}
+
 /// The frame that words spell, byte by byte.
 fn frame(alloc: Global, words: &[&[u8]]) -> Result<Option<Frame>, AllocError>
     ensures { IfOk result (λ frame. frame ≡ frame_in (bytes_of (texts words.now))) }
@@ -128,12 +196,26 @@ fn reply(alloc: Global, words: &[&[u8]]) -> Result<Option<Event>, AllocError>
     }
 }
 
+/// `restart`, alone.
+fn restart(words: &[&[u8]]) -> Option<Event>
+    ensures { result ≡ restart_of (texts words.now) }
+{
+    if words.is_empty() {
+        Some(Event::Restart)
+    } else {
+        None
+    }
+}
+
 /// What a line asks for by words.
 #[derive(Clone, Copy)]
 enum Verb {
     Open,
     Ask,
     Reply,
+    Order,
+    Send,
+    Restart,
 }
 
 fn verb_named(name: &[u8]) -> Option<Verb>
@@ -145,6 +227,12 @@ fn verb_named(name: &[u8]) -> Option<Verb>
         Some(Verb::Ask)
     } else if name == b"reply".as_slice() {
         Some(Verb::Reply)
+    } else if name == b"order".as_slice() {
+        Some(Verb::Order)
+    } else if name == b"send".as_slice() {
+        Some(Verb::Send)
+    } else if name == b"restart".as_slice() {
+        Some(Verb::Restart)
     } else {
         None
     }
@@ -158,6 +246,9 @@ fn event_for(alloc: Global, verb: Verb, words: &[&[u8]]) -> Result<Option<Event>
         Verb::Open => open(alloc, words),
         Verb::Ask => ask(alloc, words),
         Verb::Reply => reply(alloc, words),
+        Verb::Order => order(alloc, words),
+        Verb::Send => Ok(send(words)),
+        Verb::Restart => Ok(restart(words)),
     }
 }
 
@@ -185,12 +276,12 @@ fn record_in<'a>(line: &'a [u8]) -> Option<&'a [u8]>
     }
 }
 
-/// The event that a line asks for.
-pub(crate) fn event(alloc: Global, line: &[u8]) -> Result<Option<Event>, AllocError>
-    ensures { IfOk result (λ event. event ≡ event_of line.now) }
+/// The event that the line of a number asks for.
+pub(crate) fn event(alloc: Global, line: &[u8], number: u32) -> Result<Option<Event>, AllocError>
+    ensures { IfOk result (λ event. event ≡ event_of number line.now) }
 {
     if let Some(fields) = record_in(line) {
-        return point(alloc, fields);
+        return point(alloc, fields, number);
     }
     let words = words(alloc, line)?;
     event_of_words(alloc, &words)

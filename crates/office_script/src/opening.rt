@@ -32,11 +32,11 @@ pub(crate) fn skips(line: &[u8]) -> bool
     line.is_empty() || line[0] == b'#'
 }
 
-/// The device that a line declares which asks for nothing.
-fn declared(alloc: Global, line: &[u8]) -> Result<Option<Declared>, AllocError>
-    ensures { IfOk result (λ said. said ≡ declared_by line.now) }
+/// The device that the line of a number declares which asks for nothing.
+fn declared(alloc: Global, line: &[u8], number: u32) -> Result<Option<Declared>, AllocError>
+    ensures { IfOk result (λ said. said ≡ declared_by number line.now) }
 {
-    if event(alloc, line)?.is_some() {
+    if event(alloc, line, number)?.is_some() {
         return Ok(None);
     }
     device(alloc, line)
@@ -60,7 +60,7 @@ pub(crate) fn open_script<'a>(alloc: Global, script: &'a [u8]) -> Result<Opening
             number += 1;
             continue;
         }
-        let Some(said) = declared(alloc, line)? else {
+        let Some(said) = declared(alloc, line, number)? else {
             return Ok(Opening::Ready { site, rest, number });
         };
         site = with_device(alloc, site, said)?;

@@ -104,13 +104,13 @@ fn play_line(
     number: u32,
 ) -> Result<Played, AllocError>
     ensures { IfOk result (λ played. (done : List ℕ) (rest : List Step) (whole : Course)
-        → Owes (Follows office.old) (done ++ out.old.items) number (step_of line.now ∷ rest) whole
+        → Owes (Follows office.old) (done ++ out.old.items) number (step_of number line.now ∷ rest) whole
         → Leaves (Follows office.new) (done ++ out.new.items) number rest whole played) }
 {
     if skips(line) {
         return Ok(Played::On);
     }
-    match event(alloc, line)? {
+    match event(alloc, line, number)? {
         None => {
             push_fault(out, number)?;
             Ok(Played::Faulty)
@@ -193,11 +193,11 @@ fn play<W: Write>(
 ) -> Result<Replayed, ReplayFault>
     requires follows { (before : History) × Follows start before }
     requires short { first + length text.now ≤ SCRIPT_LIMIT + 1 }
-    ensures ending { (before : History) → Follows start before → IfOk result (λ ending. ending ≡ (from_line before first (steps_of text.now)).ending) }
+    ensures ending { (before : History) → Follows start before → IfOk result (λ ending. ending ≡ (from_line before first (steps_of first text.now)).ending) }
     ensures output { (before : History) → Follows start before
-        → OnOk result (Appends (W.contents (inner_of writer.old)) (W.contents (inner_of writer.new)) (from_line before first (steps_of text.now)).text) }
+        → OnOk result (Appends (W.contents (inner_of writer.old)) (W.contents (inner_of writer.new)) (from_line before first (steps_of first text.now)).text) }
     ensures memory { (before : History) → Follows start before → IsErrOf result ReplayFault.Memory
-        → TookFront (W.contents (inner_of writer.old)) (W.contents (inner_of writer.new)) (from_line before first (steps_of text.now)).text }
+        → TookFront (W.contents (inner_of writer.old)) (W.contents (inner_of writer.new)) (from_line before first (steps_of first text.now)).text }
     ensures write { IsErrOf result ReplayFault.Write → HasRisen (failures_of writer.old) (failures_of writer.new) }
     ensures no_read { IfErr result (λ fault. fault ≢ ReplayFault.Read) }
 {

@@ -2,12 +2,13 @@
 ghost use Rattle.std.specs.Prelude.{◌≡◌, ◌++◌, OnOk, codes, decimal, flat_map};
 ghost use Rattle.mb_mbap.specs.Stream.{spelled};
 ghost use Rattle.point_list.specs.FaultTexts.{fault_text};
-ghost use Rattle.office_script.specs.Printing.{answer_line, arrival_line, fault_line, line_end, load_fault_text, numbered_line, outcome_line, refusal_line, refusal_name, setting_line, spaced_byte};
+ghost use Rattle.office_script.specs.Printing.{answer_line, arrival_line, fault_line, line_end, numbered_line, outcome_line, refusal_line, refusal_name, request_fault_text, request_line, spaced_byte};
 
 use itoa::Buffer;
 use mb_mbap::Frame;
-use office_core::{Arrival, EventAnswer, LoadFault, OfficeError, Outcome};
+use office_core::{Arrival, EventAnswer, OfficeError, RequestAnswer};
 use point_list::ListFault;
+use poll_book::{Outcome, RequestFault};
 use std::alloc::{AllocError, Global};
 
 pub(crate) fn push_number(out: &mut Vec<u8>, number: u32) -> Result<(), AllocError>
@@ -60,6 +61,9 @@ fn refusal_name(error: OfficeError) -> &'static [u8]
         OfficeError::NoConnection => b"NoConnection",
         OfficeError::WrongLine => b"WrongLine",
         OfficeError::NoRead => b"NoRead",
+        OfficeError::NoOrder => b"NoOrder",
+        OfficeError::Settled => b"Settled",
+        OfficeError::NotNext => b"NotNext",
         OfficeError::Exhausted => b"Exhausted",
         OfficeError::SiteDiffers => b"SiteDiffers",
         OfficeError::NoQuery => b"NoQuery",
@@ -77,12 +81,20 @@ fn push_list_fault(alloc: Global, out: &mut Vec<u8>, fault: ListFault) -> Result
     push_refusal(out, text.as_bytes())
 }
 
-fn push_load_fault(alloc: Global, out: &mut Vec<u8>, fault: LoadFault) -> Result<(), AllocError>
-    ensures { OnOk result (out.new.items ≡ out.old.items ++ refusal_line (load_fault_text fault)) }
+fn push_request_fault(
+    alloc: Global,
+    out: &mut Vec<u8>,
+    fault: RequestFault,
+) -> Result<(), AllocError>
+    ensures { OnOk result (out.new.items ≡ out.old.items ++ refusal_line (request_fault_text fault)) }
 {
     match fault {
-        LoadFault::List(fault) => push_list_fault(alloc, out, fault),
-        LoadFault::PointDiffers => push_refusal(out, b"point differs"),
+        RequestFault::List(fault) => push_list_fault(alloc, out, fault),
+        RequestFault::PointDiffers => push_refusal(out, b"point differs"),
+        RequestFault::UnknownPoint => push_refusal(out, b"unknown point"),
+        RequestFault::NotASetting => push_refusal(out, b"not a setting"),
+        RequestFault::OutOfRange => push_refusal(out, b"out of range"),
+        RequestFault::TooManyOrders => push_refusal(out, b"too many orders"),
     }
 }
 
@@ -91,7 +103,17 @@ fn push_outcome(alloc: Global, out: &mut Vec<u8>, outcome: Outcome) -> Result<()
 {
     match outcome {
         Outcome::Loaded(count) => push_numbered(out, b"loaded ", count),
-        Outcome::RefusedFor(reason) => push_load_fault(alloc, out, reason.fault),
+        Outcome::Ordered(number) => push_numbered(out, b"order ", number),
+        Outcome::RefusedFor(reason) => push_request_fault(alloc, out, reason.fault),
+    }
+}
+
+fn push_request(alloc: Global, out: &mut Vec<u8>, told: RequestAnswer) -> Result<(), AllocError>
+    ensures { OnOk result (out.new.items ≡ out.old.items ++ request_line told) }
+{
+    match told {
+        RequestAnswer::Kept { outcome, .. } => push_outcome(alloc, out, outcome),
+        RequestAnswer::KeyReused => out.extend_from_slice(b"key reused\n"),
     }
 }
 
@@ -100,6 +122,7 @@ fn push_arrival(out: &mut Vec<u8>, arrival: Arrival) -> Result<(), AllocError>
 {
     match arrival {
         Arrival::Recorded(count) => push_numbered(out, b"recorded ", count),
+        Arrival::Settled => out.extend_from_slice(b"settled\n"),
         Arrival::Excepted(code) => push_numbered(out, b"excepted ", u32::from(code)),
     }
 }
@@ -113,20 +136,13 @@ pub(crate) fn push_answer(
     ensures { OnOk result (out.new.items ≡ out.old.items ++ answer_line answer.now) }
 {
     match answer {
-        EventAnswer::Judged(outcome) => push_outcome(alloc, out, *outcome),
+        EventAnswer::Request(told) => push_request(alloc, out, *told),
         EventAnswer::Opened(conn) => push_numbered(out, b"connection ", conn.number()),
         EventAnswer::Query(frame) => push_query(alloc, out, frame),
         EventAnswer::Arrived(arrival) => push_arrival(out, *arrival),
         EventAnswer::Restarted => out.extend_from_slice(b"restarted\n"),
         EventAnswer::Refused(error) => push_refusal(out, refusal_name(*error)),
     }
-}
-
-/// Writes the line of a list with a point that can be set.
-pub(crate) fn push_setting(alloc: Global, out: &mut Vec<u8>) -> Result<(), AllocError>
-    ensures { OnOk result (out.new.items ≡ out.old.items ++ setting_line) }
-{
-    push_list_fault(alloc, out, ListFault::BadRole)
 }
 
 /// Writes the line that ends a script at a line of another form.

@@ -1,16 +1,17 @@
-//! The report at a script's end: all readings, and the totals of counters.
+//! The report at a script's end: all readings, the totals of counters, and the orders.
 ghost use Rattle.std.specs.Prelude.{All, ◌≡◌, ◌++◌, ◌∷◌, [], OnOk, codes, flat_map, pos, unwrap_or};
 ghost use Rattle.sunspec.specs.PointType.{IsSized};
 ghost use Rattle.sunspec.specs.Value.{AreRegistersOf};
 ghost use Rattle.sunspec.specs.Text.{scaled, shown};
+ghost use Rattle.poll_book.specs.Orders.{setting_at};
 ghost use Rattle.poll_book.specs.Tables.{readings_between};
 ghost use Rattle.poll_book.specs.Changes.{as_row, as_rows};
 ghost use Rattle.office_core.specs.Fitting.{AreOf, HasForm, IsFitting};
-ghost use Rattle.office_script.specs.Printing.{line_end, reading_line, reading_lines, report_of, total_line};
+ghost use Rattle.office_script.specs.Printing.{line_end, order_line, order_line_of, order_lines, reading_line, reading_lines, report_of, state_text, total_line};
 
 use crate::printing::push_number;
 use point_list::{Point, Role};
-use poll_book::{Keeper, MemKeeper, Neighbours, PointRow, ReadingRow};
+use poll_book::{Keeper, MemKeeper, Neighbours, OrderState, PointRow, ReadingRow};
 use std::alloc::{AllocError, Global};
 use sunspec::{scaled_text, shown_text};
 
@@ -153,7 +154,58 @@ fn push_all_totals(
     Ok(())
 }
 
-/// Writes the readings of all points, and then the totals of the counters.
+/// Writes how an order stands.
+fn push_state(out: &mut Vec<u8>, state: OrderState) -> Result<(), AllocError>
+    ensures { OnOk result (out.new.items ≡ out.old.items ++ state_text state) }
+{
+    match state {
+        OrderState::Waiting => out.extend_from_slice(b"waiting"),
+        OrderState::Done => out.extend_from_slice(b"done"),
+        OrderState::Refused(code) => {
+            out.extend_from_slice(b"refused ")?;
+            push_number(out, u32::from(code))
+        }
+    }
+}
+
+fn push_order(out: &mut Vec<u8>, number: u32, state: OrderState) -> Result<(), AllocError>
+    ensures { OnOk result (out.new.items ≡ out.old.items ++ order_line number state) }
+{
+    out.extend_from_slice(b"order ")?;
+    push_number(out, number)?;
+    out.push(b' ')?;
+    push_state(out, state)?;
+    Ok(out.push(b'\n')?)
+}
+
+/// Writes the line of the order of a number; nothing where there is none.
+fn push_order_of(out: &mut Vec<u8>, keeper: &mut MemKeeper, number: u32) -> Result<(), AllocError>
+    ensures text { OnOk result (out.new.items ≡ out.old.items ++ order_line_of number (setting_at keeper.old.settings number)) }
+    ensures same { keeper.new ≡ keeper.old }
+{
+    match keeper.setting(number) {
+        Ok(Some(setting)) => push_order(out, number, setting.state),
+        Ok(None) => Ok(()),
+        Err(_) => Err(AllocError),
+    }
+}
+
+fn push_all_orders(out: &mut Vec<u8>, keeper: &mut MemKeeper) -> Result<(), AllocError>
+    ensures text { OnOk result (out.new.items ≡ out.old.items ++ order_lines keeper.old.settings) }
+    ensures same { keeper.new ≡ keeper.old }
+{
+    let Ok(last) = keeper.orders() else {
+        return Err(AllocError);
+    };
+    let mut number = 0;
+    while number < last {
+        number += 1;
+        push_order_of(out, keeper, number)?;
+    }
+    Ok(())
+}
+
+/// Writes the readings of all points, then the totals of the counters, and then the orders.
 pub(crate) fn push_report(
     alloc: Global,
     out: &mut Vec<u8>,
@@ -166,5 +218,6 @@ pub(crate) fn push_report(
         return Err(AllocError);
     };
     push_all_readings(alloc, out, keeper, &points)?;
-    push_all_totals(alloc, out, keeper, &points)
+    push_all_totals(alloc, out, keeper, &points)?;
+    push_all_orders(out, keeper)
 }

@@ -1,11 +1,12 @@
-//! What a word spells: a number, a text, or a byte in hexadecimal digits.
-ghost use Rattle.std.specs.Prelude.{◌≡◌, IfOk, option_map, true};
+//! What a word spells: a number, a text, a key, or a byte in hexadecimal digits.
+ghost use Rattle.std.specs.Prelude.{◌≡◌, ◌≤◌, IfOk, neg_ℤ, option_map, pos, true};
 ghost use Rattle.sunspec.specs.Digits.{number_within};
 ghost use Rattle.office_script.specs.Words as words;
-ghost use Rattle.office_script.specs.Words.{byte_of, bytes_of, texts};
+ghost use Rattle.office_script.specs.Words.{byte_of, bytes_of, key_of, least_value, texts, value_of};
 
 use hex::FromHex;
 use point_list::{Text, is_ascii};
+use poll_book::Key;
 use std::alloc::{AllocError, Global};
 use std::str;
 use sunspec::digits::within;
@@ -17,6 +18,27 @@ pub(crate) fn number(word: &[u8], limit: u32) -> Option<u32>
     match within(word, u128::from(limit)) {
         Some(number) => Some(number as u32),
         None => None,
+    }
+}
+
+/// A number below 0, by how far it is.
+fn below(size: u128) -> i128
+    requires { size ≤ least_value }
+    ensures { result ≡ neg_ℤ (pos size) }
+{
+    if size == 0 {
+        return 0;
+    }
+    -((size - 1) as i128) - 1
+}
+
+/// The number that digits with or without a minus before them spell, if 128 bits hold it.
+pub(crate) fn value(word: &[u8]) -> Option<i128>
+    ensures { result ≡ value_of word.now }
+{
+    match word {
+        [b'-', rest @ ..] => within(rest, 1 << 127).map(|n| below(n)),
+        _ => within(word, i128::MAX as u128).map(|n| n as i128),
     }
 }
 
@@ -35,6 +57,16 @@ pub(crate) fn text(alloc: Global, word: &[u8]) -> Result<Text, AllocError>
     match str::from_utf8(word) {
         Ok(text) => Ok(Text::from_string(String::from_str(alloc, text)?)),
         Err(_) => unreachable!(),
+    }
+}
+
+/// The key that a word is.
+pub(crate) fn key(word: &[u8]) -> Option<Key>
+    ensures { result ≡ key_of word.now }
+{
+    match str::from_utf8(word) {
+        Ok(text) => Key::new(text),
+        Err(_) => None,
     }
 }
 

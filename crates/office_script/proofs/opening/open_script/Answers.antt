@@ -29,7 +29,7 @@ loop-alloc-preserved c =
     let grown : is_site (with_device c.loop-alloc.site c.in-Some.said) ≡ true = subst (λ s. is_site s ≡ true) c.in_ok-site.ensures sound in
     let same = declared c.loop-alloc.site c.loop-alloc.number c.loop-alloc.rest.now c.first_line.result.0.now c.first_line.result.1.now c.in-Some.said c.first_line.ensures.lines
     (sym c.in-Some.is ∙ c.in_ok-said.ensures) grown in
-    let steps = steps_of c.first_line.result.1.now in
+    let steps = steps_of (c.loop-alloc.number + 1) c.first_line.result.1.now in
     record {
       sound = sound;
       course = c.loop-alloc.invariant.course ∙ same ∙ ap (λ s. from_device s (c.loop-alloc.number + 1) steps) (sym c.in_ok-site.ensures);

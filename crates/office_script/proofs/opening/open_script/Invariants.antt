@@ -6,7 +6,7 @@ use Rattle.office_script.proofs.opening.open_script.Given as goal
 abbrev pub invariant-loop-alloc : goal.invariant-loop-alloc
 invariant-loop-alloc l = record {
   sound : IsSound l.site;
-  course : course_of l.script ≡ from_device l.site l.number (steps_of l.rest);
+  course : course_of l.script ≡ from_device l.site l.number (steps_of l.number l.rest);
   room : l.number + length l.rest ≤ length l.script + 1;
 }
 

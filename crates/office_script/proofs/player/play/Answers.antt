@@ -14,7 +14,7 @@ use Rattle.office_script.proofs.player.play.Goals as goal
 
 pub loop-rest-preserved : goal.loop-rest-preserved
 loop-rest-preserved g c =
-    let steps = steps_of c.args.text.now in
+    let steps = steps_of c.args.first c.args.text.now in
     let start = g.W.Write.contents (inner_of c.args.writer.now) in
     let now = g.W.Write.contents (inner_of c.loop-rest.writer) in
     let new = g.W.Write.contents (inner_of c.write_piece.new.writer) in
@@ -26,7 +26,7 @@ loop-rest-preserved g c =
           (from_line before c.args.first steps) c.in_ok-play_line.field-0 On was.0 c.first_line.ensures.lines c.in-On.is was.2 c.in_ok-play_line.ensures in (
             was.0 ++ wrote.0,
             Appends-trans start now new was.0 wrote.0 was.1 wrote.2,
-            owed_after (Follows c.play_line.new.office) was.0 c.play_line.new.out.items wrote.0 c.write_piece.new.out.items (c.loop-rest.number + 1) (steps_of c.first_line.result.1.now) (from_line before c.args.first steps) wrote.1 left,
+            owed_after (Follows c.play_line.new.office) was.0 c.play_line.new.out.items wrote.0 c.write_piece.new.out.items (c.loop-rest.number + 1) (steps_of (c.loop-rest.number + 1) c.first_line.result.1.now) (from_line before c.args.first steps) wrote.1 left,
           );
       failures = c.in_ok-write_piece.ensures.calm ∙ c.loop-rest.invariant.failures;
       room = omega (arith, c.loop-rest.invariant.room, c.first_line.ensures.shorter);
@@ -34,7 +34,7 @@ loop-rest-preserved g c =
 
 pub returns-in-Faulty-clause-ending : goal.returns-in-Faulty-clause-ending
 returns-in-Faulty-clause-ending g c = λ before stood.
-    let steps = steps_of c.args.text.now in
+    let steps = steps_of c.args.first c.args.text.now in
     let was = c.loop-rest.invariant.owed before stood in
     let left = line_played (Follows c.loop-rest.office) (Follows c.play_line.new.office) c.loop-rest.out.items c.play_line.new.out.items c.loop-rest.number c.loop-rest.rest.now c.first_line.result.0.now c.first_line.result.1.now
     (from_line before c.args.first steps) c.in_ok-play_line.field-0 Faulty was.0 c.first_line.ensures.lines c.in-Faulty.is was.2 c.in_ok-play_line.ensures in
@@ -42,7 +42,7 @@ returns-in-Faulty-clause-ending g c = λ before stood.
 
 pub returns-in-Faulty-clause-output : goal.returns-in-Faulty-clause-output
 returns-in-Faulty-clause-output g c = λ before stood.
-    let steps = steps_of c.args.text.now in
+    let steps = steps_of c.args.first c.args.text.now in
     let was = c.loop-rest.invariant.owed before stood in
     let left = line_played (Follows c.loop-rest.office) (Follows c.play_line.new.office) c.loop-rest.out.items c.play_line.new.out.items c.loop-rest.number c.loop-rest.rest.now c.first_line.result.0.now c.first_line.result.1.now
     (from_line before c.args.first steps) c.in_ok-play_line.field-0 Faulty was.0 c.first_line.ensures.lines c.in-Faulty.is was.2 c.in_ok-play_line.ensures in
@@ -50,7 +50,7 @@ returns-in-Faulty-clause-output g c = λ before stood.
 
 pub returns-clause-ending : goal.returns-clause-ending
 returns-clause-ending g c = λ before stood.
-    let steps = steps_of c.args.text.now in
+    let steps = steps_of c.args.first c.args.text.now in
     let was = c.loop-rest.invariant.owed before stood in
     let empty : length c.loop-rest.rest.now ≡ 0 = search rules in
     let last = report_owed (Follows c.loop-rest.office) (was.0 ++ c.loop-rest.out.items) c.loop-rest.rest.now c.loop-rest.number (from_line before c.args.first steps) empty was.2 in
@@ -58,7 +58,7 @@ returns-clause-ending g c = λ before stood.
 
 pub returns-clause-output : goal.returns-clause-output
 returns-clause-output g c = λ before stood.
-    let steps = steps_of c.args.text.now in
+    let steps = steps_of c.args.first c.args.text.now in
     let out = c.loop-rest.out.items in
     let was = c.loop-rest.invariant.owed before stood in
     let empty : length c.loop-rest.rest.now ≡ 0 = search rules in
@@ -70,7 +70,7 @@ returns-clause-output g c = λ before stood.
 
 pub returns-clause-memory : goal.returns-clause-memory
 returns-clause-memory g c = λ before stood memory.
-    let steps = steps_of c.args.text.now in
+    let steps = steps_of c.args.first c.args.text.now in
     let out = c.loop-rest.out.items in
     let was = c.loop-rest.invariant.owed before stood in
     let empty : length c.loop-rest.rest.now ≡ 0 = search rules in
@@ -86,5 +86,5 @@ returns-in_err-play_line-clause-memory g c = λ before stood memory.
     let out = c.loop-rest.out.items in
     let was = c.loop-rest.invariant.owed before stood in
     let (now, stands, owed) = was.2 in
-    let last = (from_line now c.loop-rest.number (steps_of c.loop-rest.rest.now)).text in
+    let last = (from_line now c.loop-rest.number (steps_of c.loop-rest.number c.loop-rest.rest.now)).text in
     (was.0, out ++ last, sym (append_assoc was.0 out last) ∙ ap (λ (course : Course). course.text) owed, was.1)
