@@ -16,6 +16,8 @@ fn keeper_of(alloc: Global, point: &PointRow) -> Result<MemKeeper, StoreFault> {
     let change = Change {
         points: Items::from_vec(vec![in alloc; *point]?),
         readings: Items::from_vec(Vec::new(alloc)),
+        setting: None,
+        request: None,
         connections: Some(7),
     };
     apply(&mut keeper, &change)?;

@@ -28,7 +28,9 @@ fn ask_once(
     quantity: u16,
 ) -> Option<Result<Frame, MatchError>> {
     let asked = asking(slot, 107, quantity);
-    let Asked::Read { read, .. } = asked;
+    let Asked::Read { read, .. } = asked else {
+        return None;
+    };
     if !read.is_valid() {
         return None;
     }

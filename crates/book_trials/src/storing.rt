@@ -25,11 +25,30 @@ pub(crate) fn counter(number: u32, kind: PointType, roll: u64) -> Option<PointRo
     })
 }
 
+/// A setting of a device.
+pub(crate) fn setting(number: u32, device: &str) -> Option<PointRow> {
+    Some(PointRow {
+        number,
+        point: Point {
+            name: Name::new(b"limit")?,
+            device: Label::new(device.as_bytes())?,
+            table: Table::Holding,
+            address: 40,
+            kind: PointType::Uint16,
+            scale: 0,
+            role: Role::Setting,
+            roll: 0,
+        },
+    })
+}
+
 /// A change of these readings alone.
 fn change_of(alloc: Global, readings: Vec<ReadingRow>) -> Change {
     Change {
         points: Items::from_vec(Vec::new(alloc)),
         readings: Items::from_vec(readings),
+        setting: None,
+        request: None,
         connections: None,
     }
 }

@@ -50,9 +50,8 @@ const RECORDS: &[(&str, &str)] = &[
     ("a,m1,holding,107,uint16,,,counter,0", "bad roll"),
     ("a,m1,holding,107,uint16,,,counter,65536", "bad roll"),
     ("a,m1,holding,107,uint16,,,counter,x", "bad roll"),
-    // A point that can be set isn't taken yet, and an earlier fault is told first.
-    ("a,m1,holding,107,uint16,,,setting,", "bad role"),
-    ("a,m1,coil,107,bit,,,setting,", "bad role"),
+    ("a,m1,discrete,107,bit,,,setting,", "bad role"),
+    ("a,m1,holding,107,string,1,,setting,", "bad role"),
     ("a,m1,wall,107,uint16,,,setting,", "bad table"),
     ("a,m1,holding,107,uint16,,,setting,1", "bad roll"),
 ];
@@ -105,7 +104,7 @@ refused point differs
 refused point differs
 refused point differs
 refused point differs
-refused bad role
+refused point differs
 total e 0
 ";
 
@@ -234,4 +233,113 @@ reading a 1 1
 #[test]
 fn refused_replies(rt: HostRuntime) -> Result<(), Fail> {
     Ok(assert_prints(&rt, rt.alloc(), REPLIES, REPLIES_TEXT)?)
+}
+
+/// Orders of points that can be set and others, each with its value.
+const ORDERS: &str = "device m1 roof 17
+point g,m1,holding,40,uint16,,,gauge,
+point c,m1,holding,41,uint16,,,counter,
+point w,m1,holding,42,uint16,,,setting,
+point b,m1,coil,43,bit,,,setting,
+order a zz 1
+order b W 1
+order c g 1
+order d c 70000
+order e w -1
+order f w 65535
+order g b 2
+order i w 65534
+order j b 1
+order i w 65533
+order i b 65534
+order a zz 1
+order a zz 2
+point w,m1,holding,42,uint16,,,setting,
+";
+
+const ORDERS_TEXT: &str = "loaded 1
+loaded 1
+loaded 1
+loaded 1
+refused unknown point
+refused unknown point
+refused not a setting
+refused not a setting
+refused out of range
+refused out of range
+refused out of range
+order 1
+order 2
+key reused
+key reused
+refused unknown point
+key reused
+loaded 1
+total c 0
+order 1 waiting
+order 2 waiting
+";
+
+/// A key keeps what became of its first request, a refusal too.
+#[test]
+fn refused_orders(rt: HostRuntime) -> Result<(), Fail> {
+    Ok(assert_prints(&rt, rt.alloc(), ORDERS, ORDERS_TEXT)?)
+}
+
+const SENDS: &str = "device m1 roof 17
+device m2 cellar 18
+point w,m1,holding,42,uint16,,,setting,
+point v,m2,holding,42,uint16,,,setting,
+send 1 1
+open roof
+open cellar
+send 1 1
+send 1 0
+order a w 1
+order b w 2
+order c v 3
+send 3 1
+send 2 1
+send 1 2
+send 1 3
+send 2 3
+send 1 1
+reply 1 00 00 00 00 00 06 11 06 00 2A 00 02
+reply 1 00 00 00 00 00 03 11 86 02
+reply 1 00 00 00 00 00 06 11 06 00 2A 00 01
+send 2 1
+send 1 1
+send 01 002
+";
+
+const SENDS_TEXT: &str = "loaded 1
+loaded 1
+refused NoConnection
+connection 1
+connection 2
+refused NoOrder
+refused NoOrder
+order 1
+order 2
+order 3
+refused NoConnection
+refused WrongLine
+refused NotNext
+refused WrongLine
+query 00 00 00 00 00 06 12 06 00 2A 00 03
+query 00 00 00 00 00 06 11 06 00 2A 00 01
+refused WrongReply
+excepted 2
+refused Repeat
+refused WrongLine
+refused Settled
+query 00 01 00 00 00 06 11 06 00 2A 00 02
+order 1 refused 2
+order 2 waiting
+order 3 waiting
+";
+
+#[test]
+fn refused_sends(rt: HostRuntime) -> Result<(), Fail> {
+    Ok(assert_prints(&rt, rt.alloc(), SENDS, SENDS_TEXT)?)
 }

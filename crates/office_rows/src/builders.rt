@@ -2,12 +2,12 @@
 ghost use Rattle.std.specs.Prelude.{IfOk};
 ghost use Rattle.point_list.specs.Sites.{IsSound};
 
-use crate::steps::{Happens, rows, total};
+use crate::steps::{Happens, rows, states, total};
 use mb_mbap::Frame;
 use mb_pdu::{Span, Unit};
 use office_core::{Event, Office, OfficeError};
 use point_list::{Items, ListFault, Site, Text, read_site};
-use poll_book::{Keeper, StoreFault};
+use poll_book::{Caller, Keeper, Key, StoreFault};
 use poll_match::Conn;
 use read_planner::Read;
 use std::alloc::Global;
@@ -51,17 +51,31 @@ pub(crate) fn office_over<K: Keeper + Drop>(
     begun(alloc, keeper, TWO)?.map_err(|(error, _)| error)
 }
 
-fn list(alloc: Global, header: &str, records: &str) -> Result<Event, OfficeError> {
+/// The caller of all requests, and a key of it.
+fn named(key: &str) -> Result<(Caller, Key), OfficeError> {
+    match (Caller::new("ann"), Key::new(key)) {
+        (Some(caller), Some(key)) => Ok((caller, key)),
+        _ => Err(OfficeError::NoRead),
+    }
+}
+
+fn list(alloc: Global, key: &str, header: &str, records: &str) -> Result<Event, OfficeError> {
+    let (caller, key) = named(key)?;
     let mut bytes = Vec::from_slice(alloc, header.as_bytes())?;
     bytes.extend_from_slice(records.as_bytes())?;
-    Ok(Event::Load(Items::from_vec(bytes)))
+    Ok(Event::Load(caller, key, Items::from_vec(bytes)))
+}
+
+fn order(alloc: Global, key: &str, point: &str, value: i128) -> Result<Event, OfficeError> {
+    let (caller, key) = named(key)?;
+    Ok(Event::Order(caller, key, text(alloc, point)?, value))
 }
 
 fn text(alloc: Global, name: &str) -> Result<Text, OfficeError> {
     Ok(Text::from_string(String::from_str(alloc, name)?))
 }
 
-fn frame(transaction: u16, unit_id: u8, bytes: &[u8]) -> Result<Frame, OfficeError> {
+pub(crate) fn frame(transaction: u16, unit_id: u8, bytes: &[u8]) -> Result<Frame, OfficeError> {
     let unit = Unit::from_bytes(bytes).ok_or(OfficeError::WrongReply)?;
     Ok(Frame {
         transaction,
@@ -82,8 +96,10 @@ pub(crate) fn query(happens: &Happens, transaction: u16) -> Result<Frame, Office
 
 pub(crate) fn event_of(alloc: Global, happens: &Happens) -> Result<Event, OfficeError> {
     match *happens {
-        Happens::List(bytes) => list(alloc, bytes, ""),
-        Happens::Load(records) => list(alloc, HEADER, records),
+        Happens::List(key, bytes) => list(alloc, key, bytes, ""),
+        Happens::Load(key, records) => list(alloc, key, HEADER, records),
+        Happens::Order(key, point, value) => order(alloc, key, point, value),
+        Happens::Send(conn, number) => Ok(Event::Send(Conn::new(conn), number)),
         Happens::Open(line) => Ok(Event::Open(text(alloc, line)?)),
         Happens::Ask(conn, device, slot, (function, start, quantity)) => {
             let span = Span { start, quantity };
@@ -107,7 +123,7 @@ pub(crate) fn events_of(alloc: Global, all: &[Happens]) -> Result<Vec<Event>, Of
     Ok(events)
 }
 
-/// An office's points, readings and totals as text.
+/// An office's points, readings, totals and orders as text.
 pub(crate) fn shown<K: Keeper>(
     alloc: Global,
     office: &mut Office<K>,
@@ -119,6 +135,9 @@ pub(crate) fn shown<K: Keeper>(
         let line = format!(in alloc; "{point} {rows:?} {total:?}\n")?;
         text.push_str(line.as_str())?;
     }
+    let states = states(alloc, office)?;
+    let line = format!(in alloc; "{states:?}\n")?;
+    text.push_str(line.as_str())?;
     let count = office.points().len();
     let line = format!(in alloc; "{count} points")?;
     text.push_str(line.as_str())?;

@@ -3,11 +3,13 @@ use crate::asserting::assert_told;
 use crate::builders::{BARE, MEMORY, TWO, begun, events_of, office_over, shown};
 use crate::refusing::Refusing;
 use crate::scripts::{OTHERS, THREE};
-use crate::steps::Happens::{self, Arrive, Ask, Load, Open};
-use crate::steps::{answered, has_words, is_refused, opened, rows, take, take_happening, total};
+use crate::steps::Happens::{self, Arrive, Ask, Load, Open, Order, Send};
+use crate::steps::{
+    answered, has_words, is_refused, opened, rows, state, take, take_happening, total,
+};
 use office_core::{Event, EventAnswer, Office, OfficeError};
-use poll_book::MemKeeper;
 use poll_book::StoreFault::{self, Disk, Full, Memory, Other};
+use poll_book::{MemKeeper, OrderState};
 use std::alloc::Global;
 use std::process::Abort;
 use std::test::Fail;
@@ -15,19 +17,26 @@ use std::test::Fail;
 const PAIR: &str = "a,m1,holding,107,uint16,,,gauge,\ne,m1,holding,108,uint16,,,counter,\n";
 
 const HAPPENINGS: &[Happens] = &[
-    Load(PAIR),
+    Load("l1", PAIR),
     Open("roof"),
     Ask(1, "m1", 5, (3, 107, 3)),
     Ask(1, "m1", 4, (3, 107, 3)),
     Arrive(1, 0, 17, THREE),
     Arrive(1, 0, 17, THREE),
-    Load("c,m1,holding,109,uint16,,,gauge,\n"),
+    Load("l2", "c,m1,holding,109,uint16,,,gauge,\n"),
     Arrive(1, 1, 17, OTHERS),
     Ask(1, "m1", 5, (3, 107, 3)),
     Arrive(1, 2, 17, &[0x83, 2]),
     Ask(1, "m1", 5, (3, 107, 3)),
     Arrive(1, 3, 17, OTHERS),
     Open("roof"),
+    Load("l3", "lim,m1,holding,40,uint16,,,setting,\n"),
+    Order("k1", "lim", 80),
+    Order("k1", "lim", 80),
+    Order("k2", "lim", 65535),
+    Send(2, 1),
+    Arrive(2, 0, 17, &[6, 0, 40, 0, 80]),
+    Send(2, 1),
 ];
 
 /// The office and what it answers to a keeper's first refusal.
@@ -251,13 +260,15 @@ fn assert_begun(
     alloc: Global,
     office: &mut Office<MemKeeper>,
 ) -> Result<(), OfficeError> {
-    assert_told(rt, &"points", &office.points().len(), &3);
+    assert_told(rt, &"points", &office.points().len(), &4);
     assert_told(rt, &"devices", &office.site().devices.len(), &2);
     let is_kept = has_words(office, "a", 5, &[555])?;
     assert_told(rt, &"reading", &is_kept, &true);
     let late = take_happening(alloc, office, &Arrive(2, 0, 17, THREE))?;
     let refused = EventAnswer::Refused(OfficeError::NoConnection);
     assert_told(rt, &"late", &late, &refused);
+    let is_done = state(office, 1)? == Some(OrderState::Done);
+    assert_told(rt, &"order", &is_done, &true);
     assert_told(rt, &"number", &opened(office, "roof")?, &3);
     Ok(())
 }

@@ -11,6 +11,8 @@ mod faults;
 #[cfg(test)]
 mod memory;
 #[cfg(test)]
+mod orders;
+#[cfg(test)]
 mod refusing;
 #[cfg(test)]
 mod scripts;

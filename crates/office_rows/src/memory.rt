@@ -2,8 +2,10 @@
 use crate::asserting::assert_told;
 use crate::builders::{MEMORY, event_of, office_over, shown};
 use crate::scripts::{GAUGES, THREE};
-use crate::steps::Happens::{self, Arrive, Ask, Load, Open};
-use crate::steps::Told::{self, Loaded, Opened, Recorded, Sent};
+use crate::steps::Happens::{self, Arrive, Ask, Load, Open, Order, Send};
+use crate::steps::Told::{
+    self, Loaded, Opened, Ordered, OrderedBefore, Recorded, Sent, Settled, Wrote,
+};
 use crate::steps::{answered, expected, is_refused};
 use office_core::{Event, EventAnswer, Office, OfficeError};
 use poll_book::{MemKeeper, StoreFault};
@@ -12,7 +14,7 @@ use std::process::Abort;
 use std::test::Fail;
 
 const ROUNDS: &[(Happens, Told)] = &[
-    (Load(GAUGES), Loaded(3)),
+    (Load("l1", GAUGES), Loaded(3)),
     (Open("roof"), Opened(1)),
     (Ask(1, "m1", 0, (3, 107, 3)), Sent(0)),
     (Arrive(1, 0, 17, THREE), Recorded(3)),
@@ -26,8 +28,19 @@ const ROUNDS: &[(Happens, Told)] = &[
     (Arrive(1, 4, 17, THREE), Recorded(3)),
     (Ask(1, "m1", 5, (3, 107, 3)), Sent(5)),
     (Arrive(1, 5, 17, THREE), Recorded(3)),
-    (Load("d,m1,holding,110,uint16,,,counter,\n"), Loaded(1)),
+    (
+        Load("l2", "d,m1,holding,110,uint16,,,counter,\n"),
+        Loaded(1),
+    ),
     (Open("roof"), Opened(2)),
+    (
+        Load("l3", "lim,m1,holding,40,uint16,,,setting,\n"),
+        Loaded(1),
+    ),
+    (Order("k1", "lim", 80), Ordered(1)),
+    (Order("k1", "lim", 80), OrderedBefore(1)),
+    (Send(2, 1), Wrote(0, &[6, 0, 40, 0, 80])),
+    (Arrive(2, 0, 17, &[6, 0, 40, 0, 80]), Settled),
 ];
 
 /// What is answered to an event, once more where memory was refused to it and nothing changed.

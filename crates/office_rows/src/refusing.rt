@@ -2,7 +2,10 @@
 ghost use Rattle.std.specs.Prelude.{◌≡◌};
 ghost use Rattle.poll_book.specs.Tables.{Tables};
 
-use poll_book::{Change, Keeper, MemKeeper, Neighbours, PointRow, Reading, ReadingRow, StoreFault};
+use poll_book::{
+    Caller, Change, Keeper, Key, MemKeeper, Neighbours, PointRow, Reading, ReadingRow, Request,
+    Setting, SettingRow, StoreFault,
+};
 use std::alloc::Global;
 
 /// Refuses the call of this number, counted from 0, and keeps all else.
@@ -72,6 +75,31 @@ impl Keeper for Refusing {
     ) -> Result<Vec<ReadingRow>, StoreFault> {
         self.count()?;
         self.kept.readings(alloc, point, from, to)
+    }
+
+    fn request(
+        &mut self,
+        alloc: Global,
+        caller: &Caller,
+        key: &Key,
+    ) -> Result<Option<Request>, StoreFault> {
+        self.count()?;
+        self.kept.request(alloc, caller, key)
+    }
+
+    fn setting(&mut self, number: u32) -> Result<Option<Setting>, StoreFault> {
+        self.count()?;
+        self.kept.setting(number)
+    }
+
+    fn oldest_waiting(&mut self, device: &str) -> Result<Option<SettingRow>, StoreFault> {
+        self.count()?;
+        self.kept.oldest_waiting(device)
+    }
+
+    fn orders(&mut self) -> Result<u32, StoreFault> {
+        self.count()?;
+        self.kept.orders()
     }
 
     fn connections(&mut self) -> Result<u32, StoreFault> {

@@ -5,11 +5,11 @@ use crate::steps::Told::{
     Excepted, Loaded, Opened, Recorded, Refused, RefusedFor, Restarted, Sent,
 };
 use crate::steps::{Step, assert_script};
-use office_core::LoadFault::{List as OfList, PointDiffers};
 use office_core::OfficeError::{
     NoConnection, NoQuery, NoRead, Repeat, WrongLine, WrongReply, WrongUnit,
 };
 use point_list::ListFault::{BadHeader, BadTable, UnknownDevice};
+use poll_book::RequestFault::{List as OfList, PointDiffers};
 use std::test::Fail;
 
 pub(crate) const GAUGES: &str =
@@ -23,7 +23,7 @@ pub(crate) const OTHERS: &[u8] = &[3, 6, 0, 1, 0, 2, 0, 3];
 const FOUR: &[u8] = &[3, 4, 0, 1, 0, 2];
 
 const REPLY_RECORDS_ONCE: &[Step] = &[
-    Is(Load(GAUGES), Loaded(3)),
+    Is(Load("l1", GAUGES), Loaded(3)),
     Is(Open("roof"), Opened(1)),
     Is(Ask(1, "m1", 5, (3, 107, 3)), Sent(0)),
     Is(Arrive(1, 0, 17, THREE), Recorded(3)),
@@ -39,7 +39,7 @@ const REPLY_RECORDS_ONCE: &[Step] = &[
 ];
 
 const EXCEPTION_RECORDS_NOTHING: &[Step] = &[
-    Is(Load(GAUGES), Loaded(3)),
+    Is(Load("l1", GAUGES), Loaded(3)),
     Is(Open("roof"), Opened(1)),
     Is(Ask(1, "m1", 5, (3, 107, 3)), Sent(0)),
     Is(Arrive(1, 0, 17, &[0x83, 2]), Excepted(2)),
@@ -51,10 +51,10 @@ const EXCEPTION_RECORDS_NOTHING: &[Step] = &[
 ];
 
 const POINTS_OF_LATER_LISTS_WAIT: &[Step] = &[
-    Is(Load("a,m1,holding,107,uint16,,,gauge,\n"), Loaded(1)),
+    Is(Load("l1", "a,m1,holding,107,uint16,,,gauge,\n"), Loaded(1)),
     Is(Open("roof"), Opened(1)),
     Is(Ask(1, "m1", 5, (3, 107, 3)), Sent(0)),
-    Is(Load(GAUGES), Loaded(3)),
+    Is(Load("l2", GAUGES), Loaded(3)),
     Is(Arrive(1, 0, 17, THREE), Recorded(1)),
     Words("a", 5, &[555]),
     Words("b", 5, &[]),
@@ -67,7 +67,7 @@ const BITS: &str =
     "on,m1,coil,3,bit,,,gauge,\noff,m1,coil,5,bit,,,gauge,\nfar,m1,coil,13,bit,,,gauge,\nin,m1,discrete,12,bit,,,gauge,\n";
 
 const BITS_ARE_ONES_AND_ZEROS: &[Step] = &[
-    Is(Load(BITS), Loaded(4)),
+    Is(Load("l1", BITS), Loaded(4)),
     Is(Open("roof"), Opened(1)),
     Is(Ask(1, "m1", 1, (1, 2, 10)), Sent(0)),
     Is(Arrive(1, 0, 17, &[1, 2, 0b0000_0010, 0b10]), Recorded(2)),
@@ -90,7 +90,7 @@ const THIRTEEN: &[u8] = &[
 ];
 
 const WORDS_AT_THEIR_PLACE: &[Step] = &[
-    Is(Load(LONG), Loaded(3)),
+    Is(Load("l1", LONG), Loaded(3)),
     Is(Open("roof"), Opened(1)),
     Is(Ask(1, "m1", 9, (4, 10, 13)), Sent(0)),
     Is(Arrive(1, 0, 17, THIRTEEN), Recorded(2)),
@@ -100,8 +100,11 @@ const WORDS_AT_THEIR_PLACE: &[Step] = &[
 ];
 
 const REFUSED_ASKS: &[Step] = &[
-    Is(Load(GAUGES), Loaded(3)),
-    Is(Load("z,m1,holding,65535,uint16,,,gauge,\n"), Loaded(1)),
+    Is(Load("l1", GAUGES), Loaded(3)),
+    Is(
+        Load("l2", "z,m1,holding,65535,uint16,,,gauge,\n"),
+        Loaded(1),
+    ),
     Is(Open("roof"), Opened(1)),
     Is(Ask(2, "m1", 1, (3, 107, 3)), Refused(NoConnection)),
     Is(Ask(1, "m2", 1, (3, 107, 3)), Refused(WrongLine)),
@@ -118,7 +121,7 @@ const REFUSED_ASKS: &[Step] = &[
 ];
 
 const REFUSED_ARRIVALS: &[Step] = &[
-    Is(Load(GAUGES), Loaded(3)),
+    Is(Load("l1", GAUGES), Loaded(3)),
     Is(Open("roof"), Opened(1)),
     Is(Ask(1, "m1", 5, (3, 107, 3)), Sent(0)),
     Is(Arrive(2, 0, 17, THREE), Refused(NoConnection)),
@@ -134,37 +137,49 @@ const REFUSED_ARRIVALS: &[Step] = &[
 ];
 
 const REFUSED_LISTS: &[Step] = &[
-    Is(Load(GAUGES), Loaded(3)),
+    Is(Load("l1", GAUGES), Loaded(3)),
     Unknown("d"),
     Words("a", 0, &[]),
     Total("a", None),
-    Is(Load(GAUGES), Loaded(3)),
+    Is(Load("l2", GAUGES), Loaded(3)),
     Points(3),
     Is(
-        Load("d,m1,holding,1,uint16,,,gauge,\nf,m9,holding,2,uint16,,,gauge,\n"),
+        Load(
+            "l3",
+            "d,m1,holding,1,uint16,,,gauge,\nf,m9,holding,2,uint16,,,gauge,\n",
+        ),
         RefusedFor(OfList(UnknownDevice), 3, 2),
     ),
     Points(3),
     Is(
-        Load("d,m1,holding,1,uint16,,,gauge,\nb,m1,holding,107,uint16,,,gauge,\n"),
+        Load(
+            "l4",
+            "d,m1,holding,1,uint16,,,gauge,\nb,m1,holding,107,uint16,,,gauge,\n",
+        ),
         RefusedFor(PointDiffers, 3, 1),
     ),
     Points(3),
     Is(
-        Load("b,m1,holding,107,uint16,,,gauge,\nd,m1,wall,1,uint16,,,gauge,\n"),
+        Load(
+            "l5",
+            "b,m1,holding,107,uint16,,,gauge,\nd,m1,wall,1,uint16,,,gauge,\n",
+        ),
         RefusedFor(OfList(BadTable), 3, 3),
     ),
     Points(3),
-    Is(List("name\n"), RefusedFor(OfList(BadHeader), 1, 0)),
+    Is(List("l6", "name\n"), RefusedFor(OfList(BadHeader), 1, 0)),
     Is(
-        Load("d,m1,holding,1,uint16,,,gauge,\nb,m1,holding,108,uint16,,,gauge,\n"),
+        Load(
+            "l7",
+            "d,m1,holding,1,uint16,,,gauge,\nb,m1,holding,108,uint16,,,gauge,\n",
+        ),
         Loaded(2),
     ),
     Points(4),
 ];
 
 const CONNECTIONS_OF_LINES: &[Step] = &[
-    Is(Load(GAUGES), Loaded(3)),
+    Is(Load("l1", GAUGES), Loaded(3)),
     Is(Open("attic"), Refused(WrongLine)),
     Is(Open(""), Refused(WrongLine)),
     Is(Open("roof"), Opened(1)),

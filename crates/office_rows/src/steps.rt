@@ -1,8 +1,10 @@
 //! Steps of a script, and their play.
 use crate::asserting::assert_told;
-use crate::builders::{MEMORY, event_of, office_over, query};
-use office_core::{Arrival, Event, EventAnswer, LoadFault, Office, OfficeError, Outcome, Reason};
-use poll_book::{Keeper, MemKeeper, PointRow, ReadingRow, StoreFault};
+use crate::builders::{MEMORY, event_of, frame, office_over, query};
+use office_core::{Arrival, Event, EventAnswer, Office, OfficeError, RequestAnswer};
+use poll_book::{
+    Keeper, MemKeeper, OrderState, Outcome, PointRow, ReadingRow, Reason, RequestFault, StoreFault,
+};
 use poll_match::Conn;
 use std::alloc::Global;
 use std::process::Abort;
@@ -10,10 +12,14 @@ use std::process::Abort;
 /// What happens to an office, as a constant can say it.
 #[derive(Drop)]
 pub(crate) enum Happens {
-    /// A list by its bytes.
-    List(&'static str),
-    /// Records of a list, below its header.
-    Load(&'static str),
+    /// A list by its key and its bytes.
+    List(&'static str, &'static str),
+    /// Records of a list, below its header, and before them its key.
+    Load(&'static str, &'static str),
+    /// A value for a point, under a key.
+    Order(&'static str, &'static str, i128),
+    /// Over a connection, the order of this number.
+    Send(u32, u32),
     Open(&'static str),
     /// Over a connection, a device is asked in a slot, by a read's function, start and quantity.
     Ask(u32, &'static str, u32, (u8, u16, u16)),
@@ -27,17 +33,30 @@ pub(crate) enum Happens {
 pub(crate) enum Told {
     /// A list of so many rows is taken.
     Loaded(u32),
-    /// A list is refused, at a row and a column.
-    RefusedFor(LoadFault, u32, u8),
+    /// So many rows were loaded by the first request under the key.
+    LoadedBefore(u32),
+    /// An order of this number is taken.
+    Ordered(u32),
+    /// This was ordered by the first request under the key.
+    OrderedBefore(u32),
+    KeyReused,
+    /// A list is refused, at a row and a column, or an order.
+    RefusedFor(RequestFault, u32, u8),
+    /// So was the first request under the key.
+    RefusedBefore(RequestFault, u32, u8),
     Opened(u32),
     /// A query with this transaction identifier.
     Sent(u16),
+    /// A query of the unit identifier 17 with this transaction identifier and this unit.
+    Wrote(u16, &'static [u8]),
     Recorded(u32),
+    Settled,
     Excepted(u8),
     Restarted,
     Refused(OfficeError),
 }
 
+#[derive(Drop)]
 pub(crate) enum Step {
     Is(Happens, Told),
     /// The words of a point in a slot, which are none where it has no reading.
@@ -47,17 +66,33 @@ pub(crate) enum Step {
     Points(u32),
     /// No point has this name.
     Unknown(&'static str),
+    /// An order stands so, or there is none of this number.
+    Order(u32, Option<OrderState>),
+    /// The number of the oldest order that waits on a device.
+    Waiting(&'static str, Option<u32>),
+}
+
+fn kept(first: bool, outcome: Outcome) -> EventAnswer {
+    EventAnswer::Request(RequestAnswer::Kept { first, outcome })
+}
+
+fn refused(first: bool, fault: RequestFault, row: u32, column: u8) -> EventAnswer {
+    kept(first, Outcome::RefusedFor(Reason { fault, row, column }))
 }
 
 /// The answer that a step expects to what happens.
 #[tactic(none)]
 pub(crate) fn expected(happens: &Happens, told: &Told) -> Result<EventAnswer, OfficeError> {
     match *told {
-        Told::Loaded(count) => Ok(EventAnswer::Judged(Outcome::Loaded(count))),
-        Told::RefusedFor(fault, row, column) => {
-            let reason = Reason { fault, row, column };
-            Ok(EventAnswer::Judged(Outcome::RefusedFor(reason)))
-        }
+        Told::Loaded(count) => Ok(kept(true, Outcome::Loaded(count))),
+        Told::LoadedBefore(count) => Ok(kept(false, Outcome::Loaded(count))),
+        Told::Ordered(number) => Ok(kept(true, Outcome::Ordered(number))),
+        Told::OrderedBefore(number) => Ok(kept(false, Outcome::Ordered(number))),
+        Told::KeyReused => Ok(EventAnswer::Request(RequestAnswer::KeyReused)),
+        Told::RefusedFor(fault, row, column) => Ok(refused(true, fault, row, column)),
+        Told::RefusedBefore(fault, row, column) => Ok(refused(false, fault, row, column)),
+        Told::Wrote(transaction, unit) => Ok(EventAnswer::Query(frame(transaction, 17, unit)?)),
+        Told::Settled => Ok(EventAnswer::Arrived(Arrival::Settled)),
         Told::Opened(number) => Ok(EventAnswer::Opened(Conn::new(number))),
         Told::Sent(transaction) => Ok(EventAnswer::Query(query(happens, transaction)?)),
         Told::Recorded(count) => Ok(EventAnswer::Arrived(Arrival::Recorded(count))),
@@ -95,6 +130,33 @@ pub(crate) fn rows<K: Keeper>(
     to: u32,
 ) -> Result<Option<Vec<ReadingRow>>, OfficeError> {
     office.readings(point, from, to)
+}
+
+pub(crate) fn state<K: Keeper>(
+    office: &mut Office<K>,
+    number: u32,
+) -> Result<Option<OrderState>, OfficeError> {
+    office.order_state(number)
+}
+
+fn waiting<K: Keeper>(office: &mut Office<K>, device: &str) -> Result<Option<u32>, OfficeError> {
+    Ok(office.waiting(device)?.map(|row| row.number))
+}
+
+/// How the orders stand, by their numbers.
+pub(crate) fn states<K: Keeper>(
+    alloc: Global,
+    office: &mut Office<K>,
+) -> Result<Vec<OrderState>, OfficeError> {
+    let mut states = Vec::new(alloc);
+    for before in 0..office.orders()? {
+        if let Some(state) = state(office, before.saturating_add(1))? {
+            if states.push(state).is_err() {
+                return Err(MEMORY);
+            }
+        }
+    }
+    Ok(states)
 }
 
 /// The number of a line's new connection.
@@ -148,6 +210,8 @@ fn holds(office: &mut Office<MemKeeper>, step: &Step) -> Result<bool, OfficeErro
         Step::Words(point, slot, words) => has_words(office, point, slot, words),
         Step::Total(point, wanted) => Ok(total(office, point)? == wanted),
         Step::Points(count) => Ok(are_numbered_on(office.points(), count)),
+        Step::Order(number, wanted) => Ok(state(office, number)? == wanted),
+        Step::Waiting(device, wanted) => Ok(waiting(office, device)? == wanted),
         Step::Unknown(point) => {
             Ok(rows(office, point, 0, u32::MAX)?.is_none() && total(office, point)?.is_none())
         }

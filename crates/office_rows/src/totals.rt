@@ -80,7 +80,7 @@ fn take_replies(
     replies: &[Reply],
 ) -> Result<(), OfficeError> {
     let (record, quantity) = counter;
-    take_happening(alloc, office, &Load(record))?;
+    take_happening(alloc, office, &Load("l1", record))?;
     take_happening(alloc, office, &Open("roof"))?;
     for slot in 0..3 {
         take_happening(alloc, office, &Ask(1, "m1", slot, (3, 107, quantity)))?;

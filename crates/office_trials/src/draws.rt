@@ -1,5 +1,5 @@
 //! Events drawn by chance, of which most come to something.
-use crate::model::{Brought, Happened, Query, made, queries};
+use crate::model::{Asked, Book, Brought, Happened, Query, Wanted};
 use office_core::OfficeError;
 use std::alloc::Global;
 
@@ -25,8 +25,8 @@ impl Chance {
 }
 
 /// Mostly the newest connection.
-fn draw_conn(chance: &mut Chance, past: &[Happened]) -> u32 {
-    let made = made(past);
+fn draw_conn(chance: &mut Chance, book: &Book) -> u32 {
+    let made = book.made();
     match chance.below(8) {
         0 => made.saturating_sub(1),
         1 => made.saturating_add(1),
@@ -43,26 +43,35 @@ fn draw_number(chance: &mut Chance) -> u16 {
     }
 }
 
-fn draw_brought(chance: &mut Chance, queries: &[Query], transaction: u16) -> Brought {
-    let quantity = match queries.get(transaction as usize) {
-        Some(query) => query.quantity,
-        None => 1,
-    };
-    match chance.below(10) {
-        0 => Brought::Exception(2),
-        1 => Brought::Other,
-        2 => Brought::Words(draw_number(chance), quantity.saturating_add(1)),
-        _ => Brought::Words(draw_number(chance), quantity),
+fn draw_code(chance: &mut Chance) -> u8 {
+    match chance.below(4) {
+        0 => 6,
+        1 => 3,
+        _ => 2,
     }
 }
 
-fn draw_arrival(
-    alloc: Global,
-    chance: &mut Chance,
-    past: &[Happened],
-) -> Result<Happened, OfficeError> {
-    let conn = draw_conn(chance, past);
-    let queries = queries(alloc, past, conn)?;
+/// Mostly a reply to the query.
+fn draw_brought(chance: &mut Chance, query: Option<&Query>) -> Brought {
+    let Some(query) = query else {
+        return Brought::Words(0, 1);
+    };
+    match (query.asked, chance.below(10)) {
+        (Asked::Read { .. }, 0) => Brought::Exception(3, 2),
+        (Asked::Write { .. }, 0 | 1 | 2) => Brought::Exception(6, draw_code(chance)),
+        (_, 1) => Brought::Other,
+        (Asked::Read { quantity, .. }, 2) => {
+            Brought::Words(draw_number(chance), quantity.saturating_add(1))
+        }
+        (Asked::Read { quantity, .. }, _) => Brought::Words(draw_number(chance), quantity),
+        (Asked::Write { address, value, .. }, 3) => Brought::Echo(address, value ^ 1),
+        (Asked::Write { address, value, .. }, _) => Brought::Echo(address, value),
+    }
+}
+
+fn draw_arrival(alloc: Global, chance: &mut Chance, book: &Book) -> Result<Happened, OfficeError> {
+    let conn = draw_conn(chance, book);
+    let queries = book.queries(alloc, conn)?;
     let count = (queries.len() % 1000) as u16;
     // Mostly a query that was made, and the newest more often than the others.
     let transaction = match chance.below(8) {
@@ -71,7 +80,7 @@ fn draw_arrival(
         _ => chance.below(count),
     };
     let unit_id = if chance.below(10) == 0 { 18 } else { 17 };
-    let brought = draw_brought(chance, &queries, transaction);
+    let brought = draw_brought(chance, queries.get(transaction as usize));
     Ok(Happened::Arrive {
         conn,
         transaction,
@@ -80,27 +89,68 @@ fn draw_arrival(
     })
 }
 
+fn draw_wanted(chance: &mut Chance) -> Wanted {
+    let name = match chance.below(6) {
+        0 => "a",
+        1 => "z",
+        2 => "t",
+        _ => "s",
+    };
+    match chance.below(3) {
+        0 => Wanted::List(chance.below(4) as u32),
+        1 if chance.below(8) == 0 => Wanted::Value(name, 65535),
+        _ => Wanted::Value(name, chance.below(3) as u32),
+    }
+}
+
+/// Mostly under a new key, and else under one that may have been used.
+fn draw_request(chance: &mut Chance) -> Happened {
+    Happened::Request {
+        key: chance.below(24) as u32,
+        wanted: draw_wanted(chance),
+    }
+}
+
+/// Mostly the oldest order that waits.
+fn draw_send(chance: &mut Chance, book: &Book) -> Happened {
+    let oldest = book.oldest().unwrap_or(0);
+    let order = match chance.below(4) {
+        0 => chance.below(6) as u32,
+        _ => (oldest % 65536) as u32 + 1,
+    };
+    Happened::Send {
+        conn: draw_conn(chance, book),
+        order,
+    }
+}
+
+/// The first two make a point known and open a line.
 pub(crate) fn draw(
     alloc: Global,
     chance: &mut Chance,
-    past: &[Happened],
+    book: &Book,
+    place: u32,
 ) -> Result<Happened, OfficeError> {
-    match past.len() {
-        0 => return Ok(Happened::Load(chance.below(3) as u32)),
+    match place {
+        0 => {
+            let wanted = Wanted::List(chance.below(3) as u32);
+            return Ok(Happened::Request { key: 30, wanted });
+        }
         1 => return Ok(Happened::Open(0)),
         _ => {}
     }
     match chance.below(40) {
-        0..4 => Ok(Happened::Load(chance.below(4) as u32)),
-        4 => Ok(Happened::Open(chance.below(3) as u32)),
-        5 | 6 => Ok(Happened::Open(0)),
-        7 => Ok(Happened::Restart),
-        8..20 => Ok(Happened::Ask {
-            conn: draw_conn(chance, past),
+        0..7 => Ok(draw_request(chance)),
+        7 => Ok(Happened::Open(chance.below(3) as u32)),
+        8 => Ok(Happened::Open(0)),
+        9 => Ok(Happened::Restart),
+        10..18 => Ok(Happened::Ask {
+            conn: draw_conn(chance, book),
             slot: chance.below(SLOTS as u16) as u32,
             start: 105u16.wrapping_add(chance.below(5)),
             quantity: 1u16.wrapping_add(chance.below(8)),
         }),
-        _ => draw_arrival(alloc, chance, past),
+        18..23 => Ok(draw_send(chance, book)),
+        _ => draw_arrival(alloc, chance, book),
     }
 }

@@ -1,16 +1,17 @@
 //! What happened, as events of an office.
 use crate::builders::{frame, text};
-use crate::model::{Brought, Happened, is_faulty, rows_of};
+use crate::model::{Brought, Happened, Wanted, is_faulty, rows_of};
 use mb_pdu::Span;
 use office_core::{Event, OfficeError};
-use point_list::Items;
+use point_list::{Items, Role};
+use poll_book::{Caller, Key};
 use poll_match::Conn;
 use read_planner::Read;
 use std::alloc::Global;
 
 const HEADER: &str = "name,device,table,address,type,length,scale,role,roll\n";
 
-fn list_event(alloc: Global, list: u32) -> Result<Event, OfficeError> {
+fn list_bytes(alloc: Global, list: u32) -> Result<Items<u8>, OfficeError> {
     let mut text = String::from_str(alloc, HEADER)?;
     for row in rows_of(list) {
         let name = row.name;
@@ -20,10 +21,10 @@ fn list_event(alloc: Global, list: u32) -> Result<Event, OfficeError> {
         } else {
             "uint32"
         };
-        let role = if row.is_counter {
-            "counter,999"
-        } else {
-            "gauge,"
+        let role = match row.role {
+            Role::Counter => "counter,999",
+            Role::Gauge => "gauge,",
+            Role::Setting => "setting,",
         };
         let record = format!(in alloc; "{name},m1,holding,{address},{kind},,,{role}\n")?;
         text.push_str(record.as_str())?;
@@ -32,7 +33,20 @@ fn list_event(alloc: Global, list: u32) -> Result<Event, OfficeError> {
         text.push_str("g,m9,holding,1,uint16,,,gauge,\n")?;
     }
     let bytes = Vec::from_slice(alloc, text.as_bytes())?;
-    Ok(Event::Load(Items::from_vec(bytes)))
+    Ok(Items::from_vec(bytes))
+}
+
+fn request_event(alloc: Global, key: u32, wanted: Wanted) -> Result<Event, OfficeError> {
+    let name = format!(in alloc; "k{key}")?;
+    let (Some(caller), Some(key)) = (Caller::new("ann"), Key::new(name.as_str())) else {
+        return Err(OfficeError::NoRead);
+    };
+    match wanted {
+        Wanted::List(list) => Ok(Event::Load(caller, key, list_bytes(alloc, list)?)),
+        Wanted::Value(point, value) => {
+            Ok(Event::Order(caller, key, text(alloc, point)?, value as i128))
+        }
+    }
 }
 
 fn open_event(alloc: Global, line: u32) -> Result<Event, OfficeError> {
@@ -56,14 +70,21 @@ fn words_of(alloc: Global, first: u16, count: u16) -> Result<Vec<u8>, OfficeErro
 fn unit_of(alloc: Global, brought: Brought) -> Result<Vec<u8>, OfficeError> {
     match brought {
         Brought::Words(first, count) => words_of(alloc, first, count),
-        Brought::Exception(code) => Ok(Vec::from_slice(alloc, &[0x83, code])?),
+        Brought::Echo(address, value) => {
+            let [high, low] = address.to_be_bytes();
+            let [above, below] = value.to_be_bytes();
+            Ok(Vec::from_slice(alloc, &[6, high, low, above, below])?)
+        }
+        Brought::Exception(function, code) => {
+            Ok(Vec::from_slice(alloc, &[function | 0x80, code])?)
+        }
         Brought::Other => Ok(Vec::from_slice(alloc, &[4, 2])?),
     }
 }
 
 pub(crate) fn event_of(alloc: Global, happened: Happened) -> Result<Event, OfficeError> {
     match happened {
-        Happened::Load(list) => list_event(alloc, list),
+        Happened::Request { key, wanted } => request_event(alloc, key, wanted),
         Happened::Open(line) => open_event(alloc, line),
         Happened::Ask {
             conn,
@@ -75,6 +96,7 @@ pub(crate) fn event_of(alloc: Global, happened: Happened) -> Result<Event, Offic
             let read = Read { function: 3, span };
             Ok(Event::Ask(Conn::new(conn), text(alloc, "m1")?, slot, read))
         }
+        Happened::Send { conn, order } => Ok(Event::Send(Conn::new(conn), order)),
         Happened::Arrive {
             conn,
             transaction,

@@ -1,11 +1,12 @@
 //! An office beside the slow model.
 use crate::asserting::assert_told;
-use crate::builders::{MEMORY, office_over, push};
+use crate::builders::{MEMORY, office_over};
 use crate::draws::{Chance, SLOTS, draw};
 use crate::events::event_of;
-use crate::model::{Given, Happened, Row, all_given, answer, known, total};
-use office_core::{EventAnswer, Office, OfficeError};
-use poll_book::{Keeper, MemKeeper, PointRow, ReadingRow};
+use crate::model::{Book, Given, Happened, Placed, Row, total};
+use office_core::{Arrival, EventAnswer, Office, OfficeError};
+use point_list::Role;
+use poll_book::{Keeper, MemKeeper, OrderState, PointRow, ReadingRow};
 use std::alloc::Global;
 use std::process::Abort;
 use std::test::Fail;
@@ -66,7 +67,7 @@ fn assert_point<K: Keeper>(
     row: &Row,
 ) -> Result<(), OfficeError> {
     assert_readings(rt, given, point, row, &rows_of(office, row.name)?);
-    let sum = if row.is_counter {
+    let sum = if row.role == Role::Counter {
         Some(total(given, point, SLOTS))
     } else {
         None
@@ -82,19 +83,39 @@ fn assert_names(rt: &impl Abort, points: &[PointRow], known: &[Row]) {
     }
 }
 
+fn state_of<K: Keeper>(
+    office: &mut Office<K>,
+    number: u32,
+) -> Result<Option<OrderState>, OfficeError> {
+    office.order_state(number)
+}
+
+/// Asserts how the orders stand, and that there is no order more.
+fn assert_orders<K: Keeper>(
+    rt: &impl Abort,
+    office: &mut Office<K>,
+    orders: &[Placed],
+) -> Result<(), OfficeError> {
+    let mut number = 0u32;
+    for placed in orders {
+        number = number.saturating_add(1);
+        assert_told(rt, &number, &state_of(office, number)?, &Some(placed.state));
+    }
+    let next = number.saturating_add(1);
+    assert_told(rt, &next, &state_of(office, next)?, &None);
+    Ok(())
+}
+
 fn assert_tables<K: Keeper>(
     rt: &impl Abort,
-    alloc: Global,
     office: &mut Office<K>,
-    past: &[Happened],
+    book: &Book,
 ) -> Result<(), OfficeError> {
-    let known = known(alloc, past)?;
-    let given = all_given(alloc, past)?;
-    assert_names(rt, office.points(), &known);
-    for (point, row) in known.iter().enumerate() {
-        assert_point(rt, office, &given, point, row)?;
+    assert_names(rt, office.points(), &book.known);
+    for (point, row) in book.known.iter().enumerate() {
+        assert_point(rt, office, &book.given, point, row)?;
     }
-    Ok(())
+    assert_orders(rt, office, &book.orders)
 }
 
 /// What is answered to an event. Refused memory ends the attempt.
@@ -109,42 +130,70 @@ fn told_to<K: Keeper>(
     }
 }
 
-/// Asserts the answer to the last of these happenings, and tells whether a frame was taken.
+/// How many frames were taken, and how many of them were normal replies to orders.
+#[derive(Clone, Copy)]
+struct Taken {
+    arrived: u32,
+    settled: u32,
+}
+
+impl Taken {
+    fn none() -> Taken {
+        Taken {
+            arrived: 0,
+            settled: 0,
+        }
+    }
+
+    fn and(self, other: Taken) -> Taken {
+        Taken {
+            arrived: self.arrived.saturating_add(other.arrived),
+            settled: self.settled.saturating_add(other.settled),
+        }
+    }
+
+    fn by(told: &EventAnswer) -> Taken {
+        let arrived = matches!(told, EventAnswer::Arrived(_));
+        let settled = matches!(told, EventAnswer::Arrived(Arrival::Settled));
+        Taken {
+            arrived: u32::from(arrived),
+            settled: u32::from(settled),
+        }
+    }
+}
+
+/// Asserts the answer to what happens, and tells whether a frame was taken.
 fn assert_answer<K: Keeper>(
     rt: &impl Abort,
     alloc: Global,
     office: &mut Office<K>,
+    book: &mut Book,
     happened: Happened,
-    past: &[Happened],
-) -> Result<bool, OfficeError> {
+) -> Result<Taken, OfficeError> {
     let told = told_to(alloc, office, happened)?;
-    assert_told(rt, &happened, &told, &answer(alloc, past)?);
-    Ok(matches!(told, EventAnswer::Arrived(_)))
+    assert_told(rt, &happened, &told, &book.happen(happened)?);
+    Ok(Taken::by(&told))
 }
 
-// The office and the past are made in one function and used in another, by reference: each early
+// The office and the book are made in one function and used in another, by reference: each early
 // exit of a function that owns them has to be proved to give back all that they hold.
 
-/// Asserts each answer of an office, and its tables after each, and tells how many arrivals were
-/// taken.
+/// Asserts each answer of an office, and its tables after each, and tells how many frames were taken.
 fn assert_answers<K: Keeper>(
     rt: &impl Abort,
     alloc: Global,
     office: &mut Office<K>,
-    past: &mut Vec<Happened>,
+    book: &mut Book,
     seed: u64,
-) -> Result<u32, OfficeError> {
+) -> Result<Taken, OfficeError> {
     let mut chance = Chance { state: seed };
-    let mut arrived = 0u32;
-    for _ in 0..EVENTS {
-        let happened = draw(alloc, &mut chance, past)?;
-        push(past, happened)?;
-        if assert_answer(rt, alloc, office, happened, past)? {
-            arrived = arrived.saturating_add(1);
-        }
-        assert_tables(rt, alloc, office, past)?;
+    let mut taken = Taken::none();
+    for place in 0..EVENTS {
+        let happened = draw(alloc, &mut chance, book, place)?;
+        taken = taken.and(assert_answer(rt, alloc, office, book, happened)?);
+        assert_tables(rt, office, book)?;
     }
-    Ok(arrived)
+    Ok(taken)
 }
 
 /// The same of an office over an empty keeper.
@@ -153,22 +202,27 @@ fn assert_history<K: Keeper + Drop>(
     alloc: Global,
     keeper: K,
     seed: u64,
-) -> Result<u32, OfficeError> {
+) -> Result<Taken, OfficeError> {
     let mut office = office_over(alloc, keeper)?;
-    assert_answers(rt, alloc, &mut office, &mut Vec::new(alloc), seed)
+    let mut book = Book::new(alloc);
+    assert_answers(rt, alloc, &mut office, &mut book, seed)
 }
 
 #[test]
 fn answers_and_tables_of_histories(rt: HostRuntime) -> Result<(), Fail> {
     let alloc = rt.alloc();
-    let mut arrived = 0u32;
+    let mut taken = Taken::none();
     for seed in 0..HISTORIES {
-        let count = match assert_history(&rt, alloc, MemKeeper::new(alloc), seed) {
-            Ok(count) => count,
+        let more = match assert_history(&rt, alloc, MemKeeper::new(alloc), seed) {
+            Ok(more) => more,
             Err(_) => assert_history(&rt, alloc, MemKeeper::new(alloc), seed)?,
         };
-        arrived = arrived.saturating_add(count);
+        taken = taken.and(more);
     }
-    assert!(&rt; arrived > 300, "{arrived} arrivals were taken");
+    let Taken { arrived, settled } = taken;
+    assert!(&rt;
+        arrived > 250 && settled > 25,
+        "{arrived} and {settled} were taken"
+    );
     Ok(())
 }

@@ -1,4 +1,4 @@
-//! What whole scripts print of readings.
+//! What whole scripts print of readings and orders.
 use crate::playing::{COUNTER, COUNTER_TEXT, otherwise};
 use std::test::Fail;
 
@@ -202,6 +202,162 @@ reading held 1 65536
 reading fed 1 4294967294
 ";
 
+/// An order is sent again until its device settles it, and the next one after it.
+const ORDERS: &str = "device m1 roof 17
+point lim,m1,holding,40,uint16,,,setting,
+order k1 lim 80
+order k1 lim 80
+order k1 lim 81
+order k2 lim 65535
+order k3 zz 1
+order k4 lim 90
+open roof
+send 1 1
+reply 1 00 00 00 00 00 03 11 86 06
+send 1 2
+send 1 1
+reply 1 00 01 00 00 00 06 11 06 00 28 00 50
+send 1 1
+send 1 2
+";
+
+const ORDERS_TEXT: &str = "loaded 1
+order 1
+order 1
+key reused
+refused out of range
+refused unknown point
+order 2
+connection 1
+query 00 00 00 00 00 06 11 06 00 28 00 50
+excepted 6
+refused NotNext
+query 00 01 00 00 00 06 11 06 00 28 00 50
+settled
+refused Settled
+query 00 02 00 00 00 06 11 06 00 28 00 5A
+order 1 done
+order 2 waiting
+";
+
+/// The least value of an int16 says that it isn't implemented, so it can't be ordered.
+const VALUES: &str = "device m1 roof 17
+point n,m1,holding,40,int16,,-1,setting,
+point on,m1,coil,3,bit,,,setting,
+order a n -5
+order a n -0005
+order a n 5
+order b n -32768
+order c n -32767
+order d n -0
+order e on 1
+order f on -1
+open roof
+send 1 1
+reply 1 00 00 00 00 00 06 11 06 00 28 FF FB
+send 1 2
+reply 1 00 01 00 00 00 06 11 06 00 28 80 01
+send 1 3
+reply 1 00 02 00 00 00 03 11 86 04
+send 1 4
+reply 1 00 03 00 00 00 06 11 05 00 03 FF 00
+";
+
+const VALUES_TEXT: &str = "loaded 1
+loaded 1
+order 1
+order 1
+key reused
+refused out of range
+order 2
+order 3
+order 4
+refused out of range
+connection 1
+query 00 00 00 00 00 06 11 06 00 28 FF FB
+settled
+query 00 01 00 00 00 06 11 06 00 28 80 01
+settled
+query 00 02 00 00 00 06 11 06 00 28 00 00
+excepted 4
+query 00 03 00 00 00 06 11 05 00 03 FF 00
+settled
+order 1 done
+order 2 done
+order 3 refused 4
+order 4 done
+";
+
+/// A new start closes connections, and keeps points, orders and the numbers of connections.
+const RESTARTED: &str = "device m1 roof 17
+point a,m1,holding,107,uint16,,,gauge,
+point lim,m1,holding,40,uint16,,,setting,
+order k lim 80
+open roof
+ask 1 m1 1 3 107 1
+send 1 1
+restart
+ask 1 m1 2 3 107 1
+send 1 1
+reply 1 00 00 00 00 00 05 11 03 02 00 01
+open roof
+reply 2 00 01 00 00 00 06 11 06 00 28 00 50
+order k lim 80
+send 2 1
+reply 2 00 00 00 00 00 06 11 06 00 28 00 50
+restart
+restart
+";
+
+const RESTARTED_TEXT: &str = "loaded 1
+loaded 1
+order 1
+connection 1
+query 00 00 00 00 00 06 11 03 00 6B 00 01
+query 00 01 00 00 00 06 11 06 00 28 00 50
+restarted
+refused NoConnection
+refused NoConnection
+refused NoConnection
+connection 2
+refused NoQuery
+order 1
+query 00 00 00 00 00 06 11 06 00 28 00 50
+settled
+restarted
+restarted
+order 1 done
+";
+
+/// The list of a line has a key of its own, and orders share the keys.
+const KEYS: &str = "device m1 roof 17
+
+point lim,m1,holding,40,uint16,,,setting,
+order p3 lim 80
+order p6 lim 80
+point a,m1,holding,41,uint16,,,gauge,
+point a,m1,holding,41,uint16,,,gauge,
+order p7 lim 80
+order p8 lim 80
+order P3 lim 80
+order p03 lim 80
+";
+
+const KEYS_TEXT: &str = "loaded 1
+key reused
+order 1
+key reused
+loaded 1
+key reused
+order 2
+order 3
+order 4
+order 1 waiting
+order 2 waiting
+order 3 waiting
+order 4 waiting
+";
+
 /// Scripts by what they show, and what they print.
 const ROWS: &[(&str, &str, &str)] = &[
     ("a counter rolls over", COUNTER, COUNTER_TEXT),
@@ -212,6 +368,10 @@ const ROWS: &[(&str, &str, &str)] = &[
     ("two lines", ORDERED, ORDERED_TEXT),
     ("texts of readings", SHOWN, SHOWN_TEXT),
     ("all four functions", FUNCTIONS, FUNCTIONS_TEXT),
+    ("orders one by one", ORDERS, ORDERS_TEXT),
+    ("values with a sign", VALUES, VALUES_TEXT),
+    ("a new start", RESTARTED, RESTARTED_TEXT),
+    ("keys of lists and orders", KEYS, KEYS_TEXT),
 ];
 
 #[test]
