@@ -2,9 +2,9 @@
 ghost use Rattle.point_list.specs.Sites.{IsSound};
 
 use crate::pace::print_each;
-use office_core::{Office, OfficeError, Outcome};
+use office_core::{Office, OfficeError, RequestAnswer};
 use point_list::{Site, read_list, read_site};
-use poll_book::MemKeeper;
+use poll_book::{Caller, Key, MemKeeper};
 use std::alloc::{AllocError, Global};
 use std::io;
 use std::rt::Clock;
@@ -72,8 +72,14 @@ fn begun(alloc: Global, site: Site) -> Result<Office<MemKeeper>, OfficeError>
     Office::new(alloc, MemKeeper::new(alloc), site).map_err(|(error, _)| error)
 }
 
-fn load(office: &mut Office<MemKeeper>, text: &str) -> Result<Outcome, OfficeError> {
-    office.load(text.as_bytes())
+fn load(
+    office: &mut Office<MemKeeper>,
+    key: &str,
+    text: &str,
+) -> Option<Result<RequestAnswer, OfficeError>> {
+    let caller = Caller::new("bench")?;
+    let key = Key::new(key)?;
+    Some(office.load(&caller, &key, text.as_bytes()))
 }
 
 /// Loads the list into an office that knows none of its points, and once more where it knows them all.
@@ -82,9 +88,9 @@ fn measure_loads<R: Print + Clock>(
     office: &mut Office<MemKeeper>,
     text: &str,
 ) -> io::Result<()> {
-    for known in [0, POINTS] {
+    for (known, key) in [(0, "first"), (POINTS, "second")] {
         let start = Instant::now(rt)?;
-        let outcome = load(office, text);
+        let outcome = load(office, key, text);
         let took = start.elapsed(rt)?;
         println!(rt;
             "loaded over {known} known points in {} us: {outcome:?}",

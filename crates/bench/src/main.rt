@@ -10,12 +10,13 @@ mod frames;
 mod lists;
 mod map;
 mod office;
+mod orders;
 mod pace;
 mod plans;
 mod script;
 mod units;
 
-const WORDS: &str = "units frames map lists plans office script script-1000";
+const WORDS: &str = "units frames map lists plans office orders script script-1000";
 
 fn main(rt: HostRuntime) -> Result<()> {
     for word in env::args(&rt)?.skip(1) {
@@ -26,6 +27,7 @@ fn main(rt: HostRuntime) -> Result<()> {
             "lists" => lists::measure(&rt)?,
             "plans" => plans::measure(&rt)?,
             "office" => office::measure(&rt)?,
+            "orders" => orders::measure(&rt)?,
             "script" => script::write(&rt, 100)?,
             "script-1000" => script::write(&rt, 1_000)?,
             other => bail!("no measure '{other}'; there are: {WORDS}"),

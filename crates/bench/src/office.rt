@@ -7,7 +7,7 @@ use mb_mbap::Frame;
 use mb_pdu::{Span, Unit};
 use office_core::{Office, OfficeError};
 use point_list::{Site, read_site};
-use poll_book::{MemKeeper, StoreFault};
+use poll_book::{Caller, Key, MemKeeper, StoreFault};
 use read_planner::Read;
 use std::alloc::{AllocError, Global};
 use std::io;
@@ -43,14 +43,23 @@ fn list_text(alloc: Global) -> Result<String, AllocError> {
     Ok(text)
 }
 
-fn loaded(alloc: Global) -> Result<Office<MemKeeper>, OfficeError> {
+/// An office of the roof that knows the points of a list, its caller's first.
+pub fn loaded(alloc: Global, list: &str) -> Result<Office<MemKeeper>, OfficeError> {
     let mut office = match Office::new(alloc, MemKeeper::new(alloc), site(alloc)?) {
         Ok(office) => office,
         Err((error, _)) => return Err(error),
     };
-    let text = list_text(alloc)?;
-    office.load(text.as_bytes())?;
+    if let Some(caller) = Caller::new("bench")
+        && let Some(key) = Key::new("list")
+    {
+        office.load(&caller, &key, list.as_bytes())?;
+    }
     Ok(office)
+}
+
+fn counters(alloc: Global) -> Result<Office<MemKeeper>, OfficeError> {
+    let text = list_text(alloc)?;
+    loaded(alloc, text.as_str())
 }
 
 /// Asks for all points in each of so many slots, and brings each reply.
@@ -82,7 +91,7 @@ fn time<R: Clock + AllocGlobal>(rt: &R, slots: u32) -> io::Result<Option<Duratio
     let Some(unit) = Unit::from_bytes(&answer) else {
         return Ok(None);
     };
-    let Ok(mut office) = loaded(rt.alloc()) else {
+    let Ok(mut office) = counters(rt.alloc()) else {
         return Ok(None);
     };
     let start = Instant::now(rt)?;
