@@ -73,7 +73,7 @@ pub fn measure<R: Print + Clock + AllocGlobal>(rt: &R) -> io::Result<()> {
         let micros = took.as_micros().max(1);
         let base = first.unwrap_or(micros);
         first = Some(base);
-        let percent = micros.saturating_mul(100) / base;
+        let percent = micros.saturating_mul(100) / base.max(1);
         println!(rt; "{count} orders: {percent}% of the time of the first")?;
     }
     Ok(())
