@@ -135,7 +135,8 @@ fn covered(
     ensures rows { IfOk result (λ rows. rows.items ≡ cover.given_of known.now device.now read.now (cover.reply_cells reply.now)) }
     ensures few { IfOk result (λ rows. length rows.items ≤ length known.now) }
 {
-    let mut rows = Vec::new(alloc);
+    let most = known.len().min(read.span.quantity as usize);
+    let mut rows = Vec::with_capacity(alloc, most)?;
     for point in known {
         if covers(device, read, &point.point) {
             rows.push((*point, words_in(read, reply, &point.point)))?;

@@ -1,5 +1,5 @@
 //! What becomes of a list that is loaded.
-ghost use Rattle.std.specs.Prelude.{◌≡◌, ◌≢◌, ◌≤◌, ◌+◌, [], is_none, length, option_map, IfOk, IfErr, OnOk, Ok};
+ghost use Rattle.std.specs.Prelude.{◌≡◌, ◌≢◌, ◌≤◌, ◌+◌, [], false, is_none, length, option_map, IfOk, IfErr, OnOk, Ok};
 ghost use Rattle.std.specs.List.{position};
 ghost use Rattle.std.specs.Str.{bytes_eq};
 ghost use Rattle.office_core.specs.ByName.{AreNamesOf};
@@ -10,12 +10,29 @@ use point_list::{ListError, ListFault, ListRow, Point, Site, read_list, resolve}
 use poll_book::{Outcome, PointRow, Reason, RequestFault, StoreFault};
 use std::alloc::{AllocError, Global};
 
+fn ends_otherwise(a: &[u8], b: &[u8]) -> bool
+    ensures { a.now ≡ b.now → result ≡ false }
+{
+    match (a.last(), b.last()) {
+        (Some(last), Some(other)) => last != other,
+        _ => false,
+    }
+}
+
+/// Names of one list mostly begin alike, so their last bytes are compared first.
+#[inline(always)]
+fn is_same_name(a: &[u8], b: &[u8]) -> bool
+    ensures { result ≡ bytes_eq a.now b.now }
+{
+    !ends_otherwise(a, b) && a == b
+}
+
 fn place_named(known: &[PointRow], name: &[u8]) -> Option<usize>
     ensures { result ≡ position (λ point. bytes_eq point.point.name name.now) known.now }
 {
     known
         .iter()
-        .position(|point| point.point.name.as_bytes() == name)
+        .position(|point| is_same_name(point.point.name.as_bytes(), name))
 }
 
 /// The known point of a name.
