@@ -19,6 +19,3 @@ mod site;
 pub use error::OfficeError;
 pub use event::{Arrival, Event, EventAnswer, RequestAnswer};
 pub use office::Office;
-
-#[cfg(test)]
-mod tests;

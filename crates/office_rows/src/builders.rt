@@ -52,7 +52,7 @@ pub(crate) fn office_over<K: Keeper + Drop>(
 }
 
 /// The caller of all requests, and a key of it.
-fn named(key: &str) -> Result<(Caller, Key), OfficeError> {
+pub(crate) fn named(key: &str) -> Result<(Caller, Key), OfficeError> {
     match (Caller::new("ann"), Key::new(key)) {
         (Some(caller), Some(key)) => Ok((caller, key)),
         _ => Err(OfficeError::NoRead),

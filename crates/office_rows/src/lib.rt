@@ -7,6 +7,8 @@ mod asserting;
 #[cfg(test)]
 mod builders;
 #[cfg(test)]
+mod calls;
+#[cfg(test)]
 mod faults;
 #[cfg(test)]
 mod memory;
