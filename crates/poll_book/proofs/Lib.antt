@@ -1,3 +1,4 @@
+pub mod Causes
 pub mod Entries
 pub mod Places
 pub mod Puts

@@ -1,5 +1,6 @@
 ghost use Rattle.poll_book.specs.declared.fault.StoreFault.{StoreFault};
-ghost use Rattle.std.specs.Prelude.{◌≡◌, ◌⊎◌, IfErr, IfOk, OnOk, OnErr, option_map};
+ghost use Rattle.std.specs.Prelude.{◌≡◌, ◌⊎◌, ℕ, IfErr, IfOk, OnOk, OnErr, option_map};
+ghost use Rattle.poll_book.specs.Fault.{CountsRefusal};
 ghost use Rattle.poll_book.specs.Tables.{Tables, Within, reading_at, readings_between};
 ghost use Rattle.poll_book.specs.Orders.{as_setting, last_order, oldest_waiting, setting_at};
 ghost use Rattle.poll_book.specs.Requests.{request_at};
@@ -26,11 +27,15 @@ pub trait Neighbours {
     /// The faults that its calls may answer.
     ghost may_refuse: { StoreFault → Type 0 };
 
+    /// How many of its calls were refused.
+    ghost refused: { Self → ℕ };
+
     /// The reading of a point in a slot, if there is one.
     fn reading(&mut self, point: &PointRow, slot: u32) -> Result<Option<Reading>, StoreFault>
         ensures value { is_clean self.new → (kept : Tables) → holds self.old kept
             → IfOk result (λ found. found ≡ reading_at kept.readings (point.now.number, slot)) }
         ensures cause { IfErr result (λ fault. may_refuse fault) }
+        ensures counted { CountsRefusal (refused self.old) (refused self.new) result }
         ensures same { Within (holds self.old) (holds self.new) }
         ensures clean { is_clean self.new → is_clean self.old }
         ensures crash { is_clean self.new → Within (may_leave self.new) (may_leave self.old) };
@@ -40,9 +45,14 @@ pub trait Neighbours {
         ensures value { is_clean self.new → (kept : Tables) → holds self.old kept
             → IfOk result (λ sum. sum ≡ total point.now kept.readings) }
         ensures cause { IfErr result (λ fault. may_refuse fault) }
+        ensures counted { CountsRefusal (refused self.old) (refused self.new) result }
         ensures same { Within (holds self.old) (holds self.new) }
         ensures clean { is_clean self.new → is_clean self.old }
         ensures crash { is_clean self.new → Within (may_leave self.new) (may_leave self.old) };
+
+    /// How many calls were refused, up to the greatest count.
+    fn refusals(&self) -> u64
+        ensures { result ≡ refused self.now };
 }
 
 /// What keeps an office's tables.
@@ -52,6 +62,7 @@ pub trait Keeper: Neighbours {
         ensures value { Self.is_clean self.new → (kept : Tables) → Self.holds self.old kept
             → IfOk result (λ points. points.items ≡ kept.points) }
         ensures cause { IfErr result (λ fault. Self.may_refuse fault) }
+        ensures counted { CountsRefusal (Self.refused self.old) (Self.refused self.new) result }
         ensures same { Within (Self.holds self.old) (Self.holds self.new) }
         ensures clean { Self.is_clean self.new → Self.is_clean self.old }
         ensures crash { Self.is_clean self.new
@@ -68,6 +79,7 @@ pub trait Keeper: Neighbours {
         ensures value { Self.is_clean self.new → (kept : Tables) → Self.holds self.old kept
             → IfOk result (λ rows. as_rows rows.items ≡ readings_between point from to kept.readings) }
         ensures cause { IfErr result (λ fault. Self.may_refuse fault) }
+        ensures counted { CountsRefusal (Self.refused self.old) (Self.refused self.new) result }
         ensures same { Within (Self.holds self.old) (Self.holds self.new) }
         ensures clean { Self.is_clean self.new → Self.is_clean self.old }
         ensures crash { Self.is_clean self.new
@@ -83,6 +95,7 @@ pub trait Keeper: Neighbours {
         ensures value { Self.is_clean self.new → (kept : Tables) → Self.holds self.old kept
             → IfOk result (λ found. found ≡ request_at kept.requests (caller.now, key.now)) }
         ensures cause { IfErr result (λ fault. Self.may_refuse fault) }
+        ensures counted { CountsRefusal (Self.refused self.old) (Self.refused self.new) result }
         ensures same { Within (Self.holds self.old) (Self.holds self.new) }
         ensures clean { Self.is_clean self.new → Self.is_clean self.old }
         ensures crash { Self.is_clean self.new
@@ -93,6 +106,7 @@ pub trait Keeper: Neighbours {
         ensures value { Self.is_clean self.new → (kept : Tables) → Self.holds self.old kept
             → IfOk result (λ found. found ≡ setting_at kept.settings number) }
         ensures cause { IfErr result (λ fault. Self.may_refuse fault) }
+        ensures counted { CountsRefusal (Self.refused self.old) (Self.refused self.new) result }
         ensures same { Within (Self.holds self.old) (Self.holds self.new) }
         ensures clean { Self.is_clean self.new → Self.is_clean self.old }
         ensures crash { Self.is_clean self.new
@@ -103,6 +117,7 @@ pub trait Keeper: Neighbours {
         ensures value { Self.is_clean self.new → (kept : Tables) → Self.holds self.old kept
             → IfOk result (λ found. option_map as_setting found ≡ oldest_waiting kept.points device.now kept.settings) }
         ensures cause { IfErr result (λ fault. Self.may_refuse fault) }
+        ensures counted { CountsRefusal (Self.refused self.old) (Self.refused self.new) result }
         ensures same { Within (Self.holds self.old) (Self.holds self.new) }
         ensures clean { Self.is_clean self.new → Self.is_clean self.old }
         ensures crash { Self.is_clean self.new
@@ -113,6 +128,7 @@ pub trait Keeper: Neighbours {
         ensures value { Self.is_clean self.new → (kept : Tables) → Self.holds self.old kept
             → IfOk result (λ orders. orders ≡ last_order kept.settings) }
         ensures cause { IfErr result (λ fault. Self.may_refuse fault) }
+        ensures counted { CountsRefusal (Self.refused self.old) (Self.refused self.new) result }
         ensures same { Within (Self.holds self.old) (Self.holds self.new) }
         ensures clean { Self.is_clean self.new → Self.is_clean self.old }
         ensures crash { Self.is_clean self.new
@@ -123,6 +139,7 @@ pub trait Keeper: Neighbours {
         ensures value { Self.is_clean self.new → (kept : Tables) → Self.holds self.old kept
             → IfOk result (λ connections. connections ≡ kept.connections) }
         ensures cause { IfErr result (λ fault. Self.may_refuse fault) }
+        ensures counted { CountsRefusal (Self.refused self.old) (Self.refused self.new) result }
         ensures same { Within (Self.holds self.old) (Self.holds self.new) }
         ensures clean { Self.is_clean self.new → Self.is_clean self.old }
         ensures crash { Self.is_clean self.new
@@ -133,6 +150,7 @@ pub trait Keeper: Neighbours {
         ensures ok { (kept : Tables) → Self.holds self.old kept → IsNew change.now kept
             → OnOk result (Self.holds self.new (applied change.now kept)) }
         ensures cause { IfErr result (λ fault. Self.may_refuse fault) }
+        ensures counted { CountsRefusal (Self.refused self.old) (Self.refused self.new) result }
         ensures err { OnErr result (Within (Self.holds self.old) (Self.holds self.new)) }
         ensures clean { Self.is_clean self.new → Self.is_clean self.old }
 

@@ -12,6 +12,7 @@ mod history;
 mod keeper;
 mod marks;
 mod mem_keeper;
+mod mem_tables;
 mod orders;
 mod points;
 mod recording;

@@ -1,7 +1,7 @@
-ghost use Rattle.std.specs.Prelude.{◌≡◌, ◌≤◌, IfErr, IfOk, length};
+ghost use Rattle.std.specs.Prelude.{◌≡◌, ◌≤◌, IfOk, length};
 ghost use Rattle.poll_book.specs.Tables.{Tables, Within, new_rows};
 ghost use Rattle.poll_book.specs.Changes.{as_rows, keyed};
-ghost use Rattle.poll_book.specs.Fault.{HasCause};
+ghost use Rattle.poll_book.specs.Fault.{Accounts};
 
 use crate::fault::StoreFault;
 use crate::keeper::Neighbours;
@@ -20,7 +20,7 @@ pub fn record<N: Neighbours>(
     ensures value { N.is_clean keeper.new → (kept : Tables) → N.holds keeper.old kept
         → IfOk result (λ rows. as_rows rows.items ≡ new_rows kept.readings (keyed slot covered.now)) }
     ensures few { IfOk result (λ rows. length rows.items ≤ length covered.now) }
-    ensures cause { IfErr result (λ fault. HasCause N.may_refuse fault) }
+    ensures cause { Accounts N.may_refuse (N.refused keeper.old) (N.refused keeper.new) result }
     ensures same { Within (N.holds keeper.old) (N.holds keeper.new) }
     ensures clean { N.is_clean keeper.new → N.is_clean keeper.old }
     ensures crash { N.is_clean keeper.new → Within (N.may_leave keeper.new) (N.may_leave keeper.old) }

@@ -9,6 +9,7 @@ invariant-loop-entry g l = record {
       → as_rows l.rows.items ≡ new_rows kept.readings (keyed l.slot (take l.entry-index l.covered));
   few : vec_len l.rows ≤ l.entry-index;
   same : Within (g.N.Neighbours.holds l.fn.keeper) (g.N.Neighbours.holds l.keeper);
+  counted : g.N.Neighbours.refused l.keeper ≡ g.N.Neighbours.refused l.fn.keeper;
   clean : g.N.Neighbours.is_clean l.keeper → g.N.Neighbours.is_clean l.fn.keeper;
   crash : g.N.Neighbours.is_clean l.keeper → Within (g.N.Neighbours.may_leave l.keeper) (g.N.Neighbours.may_leave l.fn.keeper);
 }

@@ -1,4 +1,4 @@
-use Rattle.poll_book.proofs.mem_keeper.MemKeeperKeeper.oldest_waiting.Goals as goal
+use Rattle.poll_book.proofs.mem_tables.MemTables.oldest_waiting.Goals as goal
 
 pub next_waiting-place-requires-clause-past : goal.next_waiting-place-requires-clause-past
 next_waiting-place-requires-clause-past c =
@@ -6,17 +6,6 @@ next_waiting-place-requires-clause-past c =
 
 pub invariant_of-self : goal.invariant_of-self
 invariant_of-self c =
-    let before = c.self.invariant in
-    let past = rw (c.deref-2.ensures.value, c.deref-3.ensures.value) at c.next_waiting-place.ensures.past in
-    record {
-      counted = before.counted;
-      ordered = before.ordered;
-      rising = before.rising;
-      right = c.set_mark.ensures c.self.inside.points.items c.self.inside.orders.items before.right past;
-    }
-
-pub invariant_of-self-2 : goal.invariant_of-self-2
-invariant_of-self-2 c =
     let before = c.self.invariant in
     let past = rw (c.deref-2.ensures.value, c.deref-3.ensures.value) at c.next_waiting-place.ensures.past in
     record {

@@ -5,8 +5,8 @@ use Rattle.poll_book.specs.declared.history.SlotRow.{SlotRow}
 use Rattle.poll_book.specs.Totals.{steps, step_from}
 use Rattle.poll_book.specs.Histories.{counted_in, reading_number}
 use Rattle.poll_book.proofs.Steps.{last_of, last-push, steps-push, counted_more}
-use Rattle.poll_book.proofs.mem_keeper.total_of.Goals as goal
-use Rattle.poll_book.proofs.mem_keeper.total_of.Goals.{in-Some, in_default}
+use Rattle.poll_book.proofs.mem_tables.total_of.Goals as goal
+use Rattle.poll_book.proofs.mem_tables.total_of.Goals.{in-Some, in_default}
 
 pub loop-row-preserved : goal.loop-row-preserved
 loop-row-preserved c =

@@ -3,7 +3,7 @@ use Rattle.poll_book.specs.declared.rows.PointRow.{PointRow}
 use Rattle.poll_book.specs.declared.rows.ReadingRow.{ReadingRow}
 use Rattle.poll_book.specs.Histories.{HaveHistories}
 use Rattle.poll_book.specs.Marks.{AreRight}
-use Rattle.poll_book.proofs.mem_keeper.MemKeeper.write.Goals as goal
+use Rattle.poll_book.proofs.mem_tables.MemTables.write.Goals as goal
 
 pub invariant_of-self-in_err-reserve-2 : goal.invariant_of-self-in_err-reserve-2
 invariant_of-self-in_err-reserve-2 c = record {

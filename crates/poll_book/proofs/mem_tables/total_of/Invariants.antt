@@ -3,7 +3,7 @@ use Rattle.std.specs.Prelude.{IfSome}
 use Rattle.poll_book.specs.Totals.{steps}
 use Rattle.poll_book.specs.Histories.{counted_in}
 use Rattle.poll_book.proofs.Steps.{last_of}
-use Rattle.poll_book.proofs.mem_keeper.total_of.Given as goal
+use Rattle.poll_book.proofs.mem_tables.total_of.Given as goal
 
 abbrev pub invariant-loop-row : goal.invariant-loop-row
 invariant-loop-row l = record {

@@ -1,0 +1,255 @@
+//! Tables in memory.
+ghost use Rattle.std.specs.Prelude.{◌≡◌, ◌≤◌, IfOk, IfSome, OnErr, OnOk, option_map};
+ghost use Rattle.poll_book.specs.Tables as table;
+ghost use Rattle.poll_book.specs.Tables.{no_tables, readings_between};
+ghost use Rattle.poll_book.specs.Changes.{applied, as_rows};
+ghost use Rattle.poll_book.specs.Histories.{IsRising, counted_in, reading_number, slot_of, slots_of};
+ghost use Rattle.poll_book.specs.Orders as book;
+ghost use Rattle.poll_book.specs.Orders.{as_setting, last_order, oldest_waiting};
+ghost use Rattle.poll_book.specs.Requests as asked;
+ghost use Rattle.poll_book.specs.Totals as totals;
+ghost use Rattle.poll_book.specs.Totals.{step_from, steps};
+
+use crate::asked::{copy_of_request, put_request, request_at};
+use crate::caller::{Caller, Key};
+use crate::counting::{counted_number, step_between};
+use crate::histories::{make_histories, put_all, slots_in, staged};
+use crate::history::{History, SlotRow, slot_place};
+use crate::marks::{Mark, forget_for, next_waiting, past_of, set_mark};
+use crate::orders::{copy_of_setting, last_number, order_at, put_order, setting_at};
+use crate::points::add_points;
+use crate::requests::Request;
+use crate::rows::{Change, PointRow, Reading, ReadingRow, Setting, SettingRow};
+use point_list::Point;
+use std::alloc::{AllocError, Global};
+use std::collections::BTreeMap;
+use std::marker::Model;
+
+/// The readings of each point stand by slot in a vector of their own: a look-up is a binary search,
+/// and a reading after all others of its point is appended. Orders stand by number in a vector,
+/// requests in a map.
+#[derive(Drop)]
+pub(crate) struct MemTables {
+    points: Vec<PointRow>,
+    // How many of the first points are numbered on from 1.
+    counted: usize,
+    histories: Vec<History>,
+    orders: Vec<SettingRow>,
+    marks: Vec<Mark>,
+    requests: BTreeMap<(Caller, Key), Request>,
+    connections: u32,
+    alloc: Global,
+}
+
+impl Model for MemTables {
+    ghost use Rattle.poll_book.specs.Tables.{Tables};
+
+    ghost Value = { Tables };
+
+    ghost use Rattle.poll_book.specs.Histories.{readings_of};
+    ghost use Rattle.poll_book.specs.Marks.{AreKept, settings_of};
+
+    ghost view = { λ k. record {
+      points = k.points.items;
+      readings = readings_of k.histories.items;
+      settings = settings_of k.orders.items;
+      requests = k.requests.entries;
+      connections = k.connections;
+    } };
+
+    ghost invariant = { λ k. AreKept k.points.items k.counted k.histories.items k.orders.items k.marks.items };
+}
+
+impl MemTables {
+    /// No point, no reading, no order and no request, before the first connection.
+    pub(crate) fn new(alloc: Global) -> MemTables
+        ensures { result ≡ no_tables }
+    {
+        MemTables {
+            points: Vec::new(alloc),
+            counted: 0,
+            histories: Vec::new(alloc),
+            orders: Vec::new(alloc),
+            marks: Vec::new(alloc),
+            requests: BTreeMap::new(alloc),
+            connections: 0,
+            alloc,
+        }
+    }
+
+    /// The reading of a point in a slot, if there is one.
+    pub(crate) fn reading(&self, point: u32, slot: u32) -> Result<Option<Reading>, AllocError>
+        ensures { IfOk result (λ found. found ≡ table.reading_at self.now.readings (point, slot)) }
+    {
+        let slots = slots_in(&self.histories, point);
+        reading_at(slots, point, slot)
+    }
+
+    /// How far a counter went by its counted readings.
+    pub(crate) fn total(&self, point: &PointRow) -> u128
+        ensures { result ≡ totals.total point.now self.now.readings }
+    {
+        total_of(&point.point, slots_in(&self.histories, point.number))
+    }
+
+    /// The known points.
+    pub(crate) fn points(&self, alloc: Global) -> Result<Vec<PointRow>, AllocError>
+        ensures { IfOk result (λ points. points.items ≡ self.now.points) }
+    {
+        Vec::from_slice(alloc, &self.points)
+    }
+
+    /// The readings of a point in the slots `from` to `to`, by slot.
+    pub(crate) fn readings(
+        &self,
+        alloc: Global,
+        point: u32,
+        from: u32,
+        to: u32,
+    ) -> Result<Vec<ReadingRow>, AllocError>
+        ensures { IfOk result (λ rows. as_rows rows.items ≡ readings_between point from to self.now.readings) }
+    {
+        let slots = slots_in(&self.histories, point);
+        rows_between(alloc, point, slots, from, to)
+    }
+
+    /// The request of a caller under a key, if there is one.
+    pub(crate) fn request(
+        &self,
+        alloc: Global,
+        caller: &Caller,
+        key: &Key,
+    ) -> Result<Option<Request>, AllocError>
+        ensures { IfOk result (λ found. found ≡ asked.request_at self.now.requests (caller.now, key.now)) }
+    {
+        request_at(alloc, &self.requests, caller, key)
+    }
+
+    /// What the order of a number sets, if there is one.
+    pub(crate) fn setting(&self, number: u32) -> Result<Option<Setting>, AllocError>
+        ensures { IfOk result (λ found. found ≡ book.setting_at self.now.settings number) }
+    {
+        setting_at(&self.orders, number)
+    }
+
+    /// The oldest order that waits on the device of a name, if one does.
+    pub(crate) fn oldest_waiting(&mut self, device: &str) -> Result<Option<SettingRow>, AllocError>
+        ensures value { IfOk result (λ found. option_map as_setting found ≡ oldest_waiting self.old.points device.now self.old.settings) }
+        ensures same { self.new ≡ self.old }
+    {
+        let from = past_of(&self.marks, device);
+        let place = next_waiting(&self.points, self.counted, &self.orders, device, from);
+        set_mark(&mut self.marks, device, place);
+        order_at(&self.orders, place)
+    }
+
+    /// The number of the last order.
+    pub(crate) fn orders(&self) -> u32
+        ensures { result ≡ last_order self.now.settings }
+    {
+        last_number(&self.orders)
+    }
+
+    /// The number of the last connection.
+    pub(crate) fn connections(&self) -> u32
+        ensures { result ≡ self.now.connections }
+    {
+        self.connections
+    }
+
+    /// Writes the whole change or nothing.
+    pub(crate) fn write(&mut self, change: &Change) -> Result<(), AllocError>
+        ensures written { OnOk result (self.new ≡ applied change.now self.old) }
+        ensures same { OnErr result (self.new ≡ self.old) }
+    {
+        let added = change.readings.as_slice();
+        let points = change.points.as_slice();
+        make_histories(self.alloc, &mut self.histories, added)?;
+        let rows = staged(self.alloc, &mut self.histories, added)?;
+        let setting = copy_of_setting(&change.setting)?;
+        let request = copy_of_request(self.alloc, &change.request)?;
+        self.points.reserve(points.len())?;
+        self.orders.reserve(1)?;
+        put_request(&mut self.requests, request)?;
+        // From here on nothing can be refused.
+        self.counted = add_points(&mut self.points, self.counted, points);
+        forget_for(&mut self.marks, points);
+        put_order(&mut self.orders, &mut self.marks, setting);
+        put_all(&mut self.histories, rows);
+        self.connections = change.connections.unwrap_or(self.connections);
+        Ok(())
+    }
+}
+
+fn reading_at(slots: &[SlotRow], point: u32, slot: u32) -> Result<Option<Reading>, AllocError>
+    requires { IsRising slot_of slots.now }
+    ensures { IfOk result (λ found. found ≡ table.reading_at (slots_of point slots.now) (point, slot)) }
+{
+    let Ok(place) = slot_place(slots, slot) else {
+        return Ok(None);
+    };
+    let reading = &slots[place].reading;
+    Ok(Some(Reading {
+        words: reading.words.clone()?,
+        counted: reading.counted,
+    }))
+}
+
+fn number_of(point: &Point, reading: &Reading) -> Option<u64>
+    ensures number { result ≡ reading_number point.now reading.now }
+    ensures bound { IfSome result (λ number. number ≤ point.now.roll) }
+{
+    if reading.counted {
+        counted_number(point, reading.words.as_slice())
+    } else {
+        None
+    }
+}
+
+fn total_of(point: &Point, slots: &[SlotRow]) -> u128
+    ensures { result ≡ steps point.now.roll (counted_in point.now slots.now) }
+{
+    let mut last = None;
+    let mut sum = 0;
+    for row in slots {
+        if let Some(number) = number_of(point, &row.reading) {
+            sum += step_to(last, number, point.roll) as u128;
+            last = Some(number);
+        }
+    }
+    sum
+}
+
+fn step_to(last: Option<u64>, number: u64, roll: u64) -> u64
+    requires before { IfSome last (λ before. before ≤ roll) }
+    requires bound { number ≤ roll }
+    ensures { result ≡ step_from roll last number }
+{
+    match last {
+        Some(before) => step_between(before, number, roll),
+        None => 0,
+    }
+}
+
+fn rows_between(
+    alloc: Global,
+    point: u32,
+    slots: &[SlotRow],
+    from: u32,
+    to: u32,
+) -> Result<Vec<ReadingRow>, AllocError>
+    ensures { IfOk result (λ rows. as_rows rows.items ≡ readings_between point from to (slots_of point slots.now)) }
+{
+    let mut rows = Vec::new(alloc);
+    for row in slots {
+        if from <= row.slot && row.slot <= to {
+            rows.push(ReadingRow {
+                point,
+                slot: row.slot,
+                words: row.reading.words.clone()?,
+                counted: row.reading.counted,
+            })?;
+        }
+    }
+    Ok(rows)
+}
