@@ -1,3 +1,4 @@
+pub mod Causing
 pub mod Registers
 pub mod Cells
 pub mod Written

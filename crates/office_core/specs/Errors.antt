@@ -2,7 +2,6 @@
 use Rattle.poll_book.specs.declared.fault.StoreFault.{StoreFault}
 use Rattle.poll_book.specs.declared.fault.StoreFault.TheVariants as fault
 use Rattle.std.specs.Prelude.{Bool, true, false, ⊤}
-use Rattle.poll_book.specs.Fault.{HasCause}
 use Rattle.poll_match.specs.declared.error.MatchError.{MatchError}
 use Rattle.poll_match.specs.declared.error.MatchError.TheVariants as matching
 use Rattle.office_core.specs.declared.error.OfficeError.{OfficeError}
@@ -27,12 +26,12 @@ abbrev pub is_of_store : OfficeError → Bool
 is_of_store (error.Store f) = true
 is_of_store _ = false
 
--- a refusal that isn't the store's, or one for want of memory or by a fault that the keeper may answer
+-- a refusal that isn't the store's, or one by a fault that has a cause
 abbrev pub IsCaused : (StoreFault → Type 0) → OfficeError → Type 0
-IsCaused may_refuse (error.Store f) = HasCause may_refuse f
-IsCaused may_refuse _ = ⊤
+IsCaused cause (error.Store f) = cause f
+IsCaused cause _ = ⊤
 
--- a refusal by the store alone
+-- a refusal by the store alone, which has a cause
 abbrev pub IsOfStore : (StoreFault → Type 0) → OfficeError → Type 0
-IsOfStore may_refuse (error.Store f) = HasCause may_refuse f
-IsOfStore may_refuse _ = ⊥
+IsOfStore cause (error.Store f) = cause f
+IsOfStore cause _ = ⊥

@@ -1,7 +1,7 @@
 //! What a reply to a query brings.
-ghost use Rattle.std.specs.Prelude.{◌≡◌, ◌≤◌, IfErr, IfOk, OnErr, MatchResult, length};
+ghost use Rattle.std.specs.Prelude.{◌≡◌, ◌≤◌, IfOk, OnErr, MatchResult, length};
 ghost use Rattle.poll_book.specs.Tables.{Tables, Within};
-ghost use Rattle.poll_book.specs.Fault.{HasCause};
+ghost use Rattle.poll_book.specs.Fault.{Accounts};
 ghost use Rattle.office_core.specs.Orders as orders;
 ghost use Rattle.office_core.specs.Queries.{Answers, AnswersRead};
 ghost use Rattle.office_core.specs.Keeping as keeping;
@@ -35,7 +35,7 @@ fn bring_readings<K: Keeper>(
         → MatchResult result
         (λ _. Endures (K.holds keeper.new) (K.may_leave keeper.new) (brought_read site.now known.now asking.now reply.now kept))
         (λ _. Endures (K.holds keeper.new) (K.may_leave keeper.new) kept) }
-    ensures cause { IfErr result (λ fault. HasCause K.may_refuse fault) }
+    ensures cause { Accounts K.may_refuse (K.refused keeper.old) (K.refused keeper.new) result }
     ensures err { OnErr result (Within (K.holds keeper.old) (K.holds keeper.new)) }
     ensures clean { K.is_clean keeper.new → K.is_clean keeper.old }
 {
@@ -98,7 +98,7 @@ pub(crate) fn bring<K: Keeper>(
         → MatchResult result
         (λ _. Endures (K.holds keeper.new) (K.may_leave keeper.new) (brought site.now known.now asked.now reply.now kept))
         (λ _. Endures (K.holds keeper.new) (K.may_leave keeper.new) kept) }
-    ensures cause { IfErr result (λ fault. HasCause K.may_refuse fault) }
+    ensures cause { Accounts K.may_refuse (K.refused keeper.old) (K.refused keeper.new) result }
     ensures err { OnErr result (Within (K.holds keeper.old) (K.holds keeper.new)) }
     ensures clean { K.is_clean keeper.new → K.is_clean keeper.old }
 {

@@ -1,8 +1,8 @@
 //! What is written to a keeper.
-ghost use Rattle.std.specs.Prelude.{◌≡◌, ◌≤◌, IfErr, IfOk, IfSome, OnErr, MatchResult, false, length};
+ghost use Rattle.std.specs.Prelude.{◌≡◌, ◌≤◌, IfOk, IfSome, OnErr, MatchResult, false, length};
 ghost use Rattle.poll_book.specs.Tables.{Tables, Within, new_rows};
 ghost use Rattle.poll_book.specs.Changes.{IsNew, applied, keyed};
-ghost use Rattle.poll_book.specs.Fault.{HasCause};
+ghost use Rattle.poll_book.specs.Fault.{Accounts};
 ghost use Rattle.poll_book.specs.Orders.{is_waiting, setting_at};
 ghost use Rattle.office_core.specs.Orders.{waiting_at};
 ghost use Rattle.office_core.specs.Keeping.{Endures, IsCounted, Rises, with_given, with_state};
@@ -20,7 +20,7 @@ pub(crate) fn commit<K: Keeper>(keeper: &mut K, change: &Change) -> Result<(), S
         → MatchResult result
         (λ _. Endures (K.holds keeper.new) (K.may_leave keeper.new) (applied change.now kept))
         (λ _. Endures (K.holds keeper.new) (K.may_leave keeper.new) kept) }
-    ensures cause { IfErr result (λ fault. K.may_refuse fault) }
+    ensures cause { Accounts K.may_refuse (K.refused keeper.old) (K.refused keeper.new) result }
     ensures err { OnErr result (Within (K.holds keeper.old) (K.holds keeper.new)) }
     ensures clean { K.is_clean keeper.new → K.is_clean keeper.old }
 {
@@ -36,7 +36,7 @@ pub(crate) fn write<K: Keeper>(keeper: &mut K, change: Change) -> Result<(), Sto
         → MatchResult result
         (λ _. Endures (K.holds keeper.new) (K.may_leave keeper.new) (applied change kept))
         (λ _. Endures (K.holds keeper.new) (K.may_leave keeper.new) kept) }
-    ensures cause { IfErr result (λ fault. K.may_refuse fault) }
+    ensures cause { Accounts K.may_refuse (K.refused keeper.old) (K.refused keeper.new) result }
     ensures err { OnErr result (Within (K.holds keeper.old) (K.holds keeper.new)) }
     ensures clean { K.is_clean keeper.new → K.is_clean keeper.old }
 {
@@ -59,7 +59,7 @@ pub(crate) fn keep_readings<K: Keeper>(
         → MatchResult result
         (λ _. Endures (K.holds keeper.new) (K.may_leave keeper.new) (with_given (keyed slot covered.now) kept))
         (λ _. Endures (K.holds keeper.new) (K.may_leave keeper.new) kept) }
-    ensures cause { IfErr result (λ fault. HasCause K.may_refuse fault) }
+    ensures cause { Accounts K.may_refuse (K.refused keeper.old) (K.refused keeper.new) result }
     ensures err { OnErr result (Within (K.holds keeper.old) (K.holds keeper.new)) }
     ensures clean { K.is_clean keeper.new → K.is_clean keeper.old }
 {
@@ -76,7 +76,7 @@ pub(crate) fn keep_readings<K: Keeper>(
 fn waiting_setting<K: Keeper>(keeper: &mut K, order: u32) -> Result<Option<Setting>, StoreFault>
     ensures value { K.is_clean keeper.new → (kept : Tables) → K.holds keeper.old kept
         → IfOk result (λ found. found ≡ waiting_at (setting_at kept.settings order)) }
-    ensures cause { IfErr result (λ fault. K.may_refuse fault) }
+    ensures cause { Accounts K.may_refuse (K.refused keeper.old) (K.refused keeper.new) result }
     ensures same { Within (K.holds keeper.old) (K.holds keeper.new) }
     ensures crash { K.is_clean keeper.new → Within (K.may_leave keeper.new) (K.may_leave keeper.old) }
     ensures clean { K.is_clean keeper.new → K.is_clean keeper.old }
@@ -101,7 +101,7 @@ pub(crate) fn keep_state<K: Keeper>(
         → MatchResult result
         (λ _. Endures (K.holds keeper.new) (K.may_leave keeper.new) (with_state order state kept))
         (λ _. Endures (K.holds keeper.new) (K.may_leave keeper.new) kept) }
-    ensures cause { IfErr result (λ fault. K.may_refuse fault) }
+    ensures cause { Accounts K.may_refuse (K.refused keeper.old) (K.refused keeper.new) result }
     ensures err { OnErr result (Within (K.holds keeper.old) (K.holds keeper.new)) }
     ensures clean { K.is_clean keeper.new → K.is_clean keeper.old }
 {

@@ -1,5 +1,6 @@
 //! The office over any keeper.
 ghost use Rattle.std.specs.Prelude.{All, ◌≡◌, ◌<◌, ◌≤◌, ◌⊎◌, ◌∷◌, ◌++◌, ◌+◌, ℕ, IfOk, IfErr, OnOk, OnErr, MatchResult, Some, None, length, false, true, option_map, vec_len, vec_capacity};
+ghost use Rattle.poll_book.specs.Fault.{Accounts, HasCause};
 ghost use Rattle.poll_book.specs.Tables.{Tables, Within};
 ghost use Rattle.poll_book.specs.Requests.{request_at};
 ghost use Rattle.point_list.specs.Sites.{IsSound};
@@ -74,7 +75,7 @@ fn last_made<K: Keeper>(keeper: &mut K, greatest: u32) -> Result<u32, StoreFault
     ensures value { K.is_clean keeper.new → (kept : Tables) → K.holds keeper.old kept → greatest ≤ kept.connections
         → IfOk result (λ last. last ≡ kept.connections) }
     ensures above { IfOk result (λ last. greatest ≤ last) }
-    ensures cause { IfErr result (λ fault. K.may_refuse fault) }
+    ensures cause { Accounts K.may_refuse (K.refused keeper.old) (K.refused keeper.new) result }
     ensures same { Within (K.holds keeper.old) (K.holds keeper.new) }
     ensures crash { K.is_clean keeper.new → (kept : Tables) → Endures (K.holds keeper.old) (K.may_leave keeper.old) kept
         → Endures (K.holds keeper.new) (K.may_leave keeper.new) kept }
@@ -96,7 +97,7 @@ fn former<K: Keeper>(
 ) -> Result<Option<Request>, StoreFault>
     ensures value { K.is_clean keeper.new → (kept : Tables) → K.holds keeper.old kept
         → IfOk result (λ found. found ≡ request_at kept.requests (caller.now, key.now)) }
-    ensures cause { IfErr result (λ fault. K.may_refuse fault) }
+    ensures cause { Accounts K.may_refuse (K.refused keeper.old) (K.refused keeper.new) result }
     ensures same { Within (K.holds keeper.old) (K.holds keeper.new) }
     ensures crash { K.is_clean keeper.new → (kept : Tables) → Endures (K.holds keeper.old) (K.may_leave keeper.old) kept
         → Endures (K.holds keeper.new) (K.may_leave keeper.new) kept }
@@ -130,7 +131,7 @@ impl<K: Keeper> Office<K> {
     ghost use Rattle.office_core.specs.History.{History, Restart, tables, points, settings, requests};
     ghost use Rattle.poll_book.specs.Orders.{as_setting, last_order, oldest_waiting};
     ghost use Rattle.office_core.specs.Errors.{IsCaused, IsOfStore};
-    ghost use Rattle.office_core.specs.Offices.{AnswerCaused, IsAlike, Shows, Stands, StandsInCrash, StandsInCrashUnused, StandsUnused, arrived, asked_so, keeper_of, opened, order_state_of, points_of, readings_of, site_of, told_so, total_of};
+    ghost use Rattle.office_core.specs.Offices.{AnswerCaused, CauseFrom, IsAlike, Shows, Stands, StandsInCrash, StandsInCrashUnused, StandsUnused, arrived, asked_so, keeper_of, opened, order_state_of, points_of, readings_of, site_of, told_so, total_of};
 
     /// An office over what a keeper holds, with no connection open. A keeper that can't be read is
     /// given back with `Store`, and one with a point whose device isn't in the site with
@@ -142,8 +143,9 @@ impl<K: Keeper> Office<K> {
             → StandsInCrash office (Restart site ∷ before)) }
         ensures devices { IfOk result (λ office. K.is_clean (keeper_of office) → (kept : Tables) → K.holds keeper kept → has_devices site kept.points ≡ true) }
         ensures differs { IfErr result (λ e. e.0 ≡ OfficeError.SiteDiffers → K.is_clean e.1 → (kept : Tables) → K.holds keeper kept → has_devices site kept.points ≡ false) }
-        ensures cause { IfErr result (λ e. IsCaused K.may_refuse e.0
+        ensures cause { IfErr result (λ e. IsCaused (HasCause K.may_refuse (K.refused keeper) (K.refused e.1)) e.0
             ⊎ (K.is_clean e.1 → (kept : Tables) → K.holds keeper kept → 10000 < length kept.points)) }
+        ensures counted { MatchResult result (λ office. K.refused (keeper_of office) ≡ K.refused keeper) (λ e. K.refused keeper ≤ K.refused e.1) }
         ensures same { MatchResult result (λ office. Within (K.holds keeper) (K.holds (keeper_of office))) (λ e. Within (K.holds keeper) (K.holds e.1)) }
         ensures clean { MatchResult result (λ office. K.is_clean (keeper_of office) → K.is_clean keeper) (λ e. K.is_clean e.1 → K.is_clean keeper) }
     {
@@ -186,7 +188,8 @@ impl<K: Keeper> Office<K> {
     ) -> Result<RequestAnswer, OfficeError>
         ensures goes { K.is_clean (keeper_of self.new) → Goes (Stands self.old) (Stands self.new) (Event.Load caller.now key.now list.now) (told_so result) }
         ensures crash { K.is_clean (keeper_of self.new) → Goes (StandsInCrash self.old) (StandsInCrash self.new) (Event.Load caller.now key.now list.now) (told_so result) }
-        ensures cause { IfErr result (λ e. IsOfStore K.may_refuse e) }
+        ensures cause { IfErr result (λ e. IsOfStore (CauseFrom self.old self.new) e) }
+        ensures counted { K.refused (keeper_of self.old) ≤ K.refused (keeper_of self.new) }
         ensures same { is_refusal (told_so result) ≡ true → IsAlike self.old self.new }
         ensures clean { K.is_clean (keeper_of self.new) → K.is_clean (keeper_of self.old) }
     {
@@ -205,7 +208,8 @@ impl<K: Keeper> Office<K> {
     ) -> Result<RequestAnswer, OfficeError>
         ensures goes { K.is_clean (keeper_of self.new) → Goes (StandsUnused self.old (caller.now, key.now)) (Stands self.new) (Event.Load caller.now key.now list.now) (told_so result) }
         ensures crash { K.is_clean (keeper_of self.new) → Goes (StandsInCrashUnused self.old (caller.now, key.now)) (StandsInCrash self.new) (Event.Load caller.now key.now list.now) (told_so result) }
-        ensures cause { IfErr result (λ e. IsOfStore K.may_refuse e) }
+        ensures cause { IfErr result (λ e. IsOfStore (CauseFrom self.old self.new) e) }
+        ensures counted { K.refused (keeper_of self.old) ≤ K.refused (keeper_of self.new) }
         ensures same { is_refusal (told_so result) ≡ true → IsAlike self.old self.new }
         ensures clean { K.is_clean (keeper_of self.new) → K.is_clean (keeper_of self.old) }
     {
@@ -235,7 +239,8 @@ impl<K: Keeper> Office<K> {
     ) -> Result<RequestAnswer, OfficeError>
         ensures goes { K.is_clean (keeper_of self.new) → Goes (Stands self.old) (Stands self.new) (Event.Order caller.now key.now point.now value) (told_so result) }
         ensures crash { K.is_clean (keeper_of self.new) → Goes (StandsInCrash self.old) (StandsInCrash self.new) (Event.Order caller.now key.now point.now value) (told_so result) }
-        ensures cause { IfErr result (λ e. IsOfStore K.may_refuse e) }
+        ensures cause { IfErr result (λ e. IsOfStore (CauseFrom self.old self.new) e) }
+        ensures counted { K.refused (keeper_of self.old) ≤ K.refused (keeper_of self.new) }
         ensures same { is_refusal (told_so result) ≡ true → IsAlike self.old self.new }
         ensures clean { K.is_clean (keeper_of self.new) → K.is_clean (keeper_of self.old) }
     {
@@ -255,7 +260,8 @@ impl<K: Keeper> Office<K> {
     ) -> Result<RequestAnswer, OfficeError>
         ensures goes { K.is_clean (keeper_of self.new) → Goes (StandsUnused self.old (caller.now, key.now)) (Stands self.new) (Event.Order caller.now key.now point.now value) (told_so result) }
         ensures crash { K.is_clean (keeper_of self.new) → Goes (StandsInCrashUnused self.old (caller.now, key.now)) (StandsInCrash self.new) (Event.Order caller.now key.now point.now value) (told_so result) }
-        ensures cause { IfErr result (λ e. IsOfStore K.may_refuse e) }
+        ensures cause { IfErr result (λ e. IsOfStore (CauseFrom self.old self.new) e) }
+        ensures counted { K.refused (keeper_of self.old) ≤ K.refused (keeper_of self.new) }
         ensures same { is_refusal (told_so result) ≡ true → IsAlike self.old self.new }
         ensures clean { K.is_clean (keeper_of self.new) → K.is_clean (keeper_of self.old) }
     {
@@ -281,7 +287,8 @@ impl<K: Keeper> Office<K> {
     pub fn open_line(&mut self, line: &str) -> Result<Conn, OfficeError>
         ensures goes { K.is_clean (keeper_of self.new) → Goes (Stands self.old) (Stands self.new) (Event.Open line.now) (opened result) }
         ensures crash { K.is_clean (keeper_of self.new) → Goes (StandsInCrash self.old) (StandsInCrash self.new) (Event.Open line.now) (opened result) }
-        ensures cause { IfErr result (λ e. IsCaused K.may_refuse e) }
+        ensures cause { IfErr result (λ e. IsCaused (CauseFrom self.old self.new) e) }
+        ensures counted { K.refused (keeper_of self.old) ≤ K.refused (keeper_of self.new) }
         ensures same { OnErr result (IsAlike self.old self.new) }
         ensures clean { K.is_clean (keeper_of self.new) → K.is_clean (keeper_of self.old) }
     {
@@ -317,7 +324,7 @@ impl<K: Keeper> Office<K> {
     ) -> Result<Frame, OfficeError>
         ensures goes { K.is_clean (keeper_of self.new) → Goes (Stands self.old) (Stands self.new) (Event.Ask conn device.now slot read) (asked_so result) }
         ensures crash { K.is_clean (keeper_of self.new) → Goes (StandsInCrash self.old) (StandsInCrash self.new) (Event.Ask conn device.now slot read) (asked_so result) }
-        ensures cause { IfErr result (λ e. IsCaused K.may_refuse e) }
+        ensures cause { IfErr result (λ e. IsCaused (CauseFrom self.old self.new) e) }
         ensures same { OnErr result (IsAlike self.old self.new) }
         ensures keeper { keeper_of self.new ≡ keeper_of self.old }
     {
@@ -340,7 +347,8 @@ impl<K: Keeper> Office<K> {
     pub fn send_order(&mut self, conn: Conn, number: u32) -> Result<Frame, OfficeError>
         ensures goes { K.is_clean (keeper_of self.new) → Goes (Stands self.old) (Stands self.new) (Event.Send conn number) (asked_so result) }
         ensures crash { K.is_clean (keeper_of self.new) → Goes (StandsInCrash self.old) (StandsInCrash self.new) (Event.Send conn number) (asked_so result) }
-        ensures cause { IfErr result (λ e. IsCaused K.may_refuse e) }
+        ensures cause { IfErr result (λ e. IsCaused (CauseFrom self.old self.new) e) }
+        ensures counted { K.refused (keeper_of self.old) ≤ K.refused (keeper_of self.new) }
         ensures same { OnErr result (IsAlike self.old self.new) }
         ensures clean { K.is_clean (keeper_of self.new) → K.is_clean (keeper_of self.old) }
     {
@@ -357,7 +365,8 @@ impl<K: Keeper> Office<K> {
     pub fn arrive(&mut self, conn: Conn, frame: &Frame) -> Result<Arrival, OfficeError>
         ensures goes { K.is_clean (keeper_of self.new) → Goes (Stands self.old) (Stands self.new) (Event.Arrive conn frame.now) (arrived result) }
         ensures crash { K.is_clean (keeper_of self.new) → Goes (StandsInCrash self.old) (StandsInCrash self.new) (Event.Arrive conn frame.now) (arrived result) }
-        ensures cause { IfErr result (λ e. IsCaused K.may_refuse e) }
+        ensures cause { IfErr result (λ e. IsCaused (CauseFrom self.old self.new) e) }
+        ensures counted { K.refused (keeper_of self.old) ≤ K.refused (keeper_of self.new) }
         ensures same { OnErr result (IsAlike self.old self.new) }
         ensures clean { K.is_clean (keeper_of self.new) → K.is_clean (keeper_of self.old) }
     {
@@ -387,7 +396,8 @@ impl<K: Keeper> Office<K> {
     pub fn step(&mut self, event: &Event) -> EventAnswer
         ensures goes { K.is_clean (keeper_of self.new) → Goes (Stands self.old) (Stands self.new) event.now result }
         ensures crash { K.is_clean (keeper_of self.new) → Goes (StandsInCrash self.old) (StandsInCrash self.new) event.now result }
-        ensures cause { AnswerCaused K.may_refuse result }
+        ensures cause { AnswerCaused (CauseFrom self.old self.new) result }
+        ensures counted { K.refused (keeper_of self.old) ≤ K.refused (keeper_of self.new) }
         ensures same { is_refusal result ≡ true → IsAlike self.old self.new }
         ensures clean { K.is_clean (keeper_of self.new) → K.is_clean (keeper_of self.old) }
     {
@@ -416,7 +426,8 @@ impl<K: Keeper> Office<K> {
         ensures each { IfOk result (λ told. length told.items ≡ length events.now) }
         ensures runs { K.is_clean (keeper_of self.new) → IfOk result (λ told. Runs (Stands self.old) (Stands self.new) events.now told.items) }
         ensures crash { K.is_clean (keeper_of self.new) → IfOk result (λ told. Runs (StandsInCrash self.old) (StandsInCrash self.new) events.now told.items) }
-        ensures cause { IfOk result (λ told. All (AnswerCaused K.may_refuse) told.items) }
+        ensures cause { IfOk result (λ told. All (AnswerCaused (CauseFrom self.old self.new)) told.items) }
+        ensures counted { K.refused (keeper_of self.old) ≤ K.refused (keeper_of self.new) }
         ensures clean { K.is_clean (keeper_of self.new) → K.is_clean (keeper_of self.old) }
         ensures memory { OnErr result (self.new ≡ self.old) }
     {
@@ -437,7 +448,8 @@ impl<K: Keeper> Office<K> {
     ) -> Result<Option<Vec<ReadingRow>>, OfficeError>
         ensures value { K.is_clean (keeper_of self.new) → (before : History) → Stands self.old before
             → IfOk result (λ rows. Shows (readings_of before point.now from to) rows) }
-        ensures cause { IfErr result (λ e. IsOfStore K.may_refuse e) }
+        ensures cause { IfErr result (λ e. IsOfStore (CauseFrom self.old self.new) e) }
+        ensures counted { K.refused (keeper_of self.old) ≤ K.refused (keeper_of self.new) }
         ensures same { IsAlike self.old self.new }
         ensures clean { K.is_clean (keeper_of self.new) → K.is_clean (keeper_of self.old) }
     {
@@ -453,7 +465,8 @@ impl<K: Keeper> Office<K> {
     pub fn total(&mut self, point: &str) -> Result<Option<u128>, OfficeError>
         ensures value { K.is_clean (keeper_of self.new) → (before : History) → Stands self.old before
             → IfOk result (λ sum. sum ≡ total_of before point.now) }
-        ensures cause { IfErr result (λ e. IsOfStore K.may_refuse e) }
+        ensures cause { IfErr result (λ e. IsOfStore (CauseFrom self.old self.new) e) }
+        ensures counted { K.refused (keeper_of self.old) ≤ K.refused (keeper_of self.new) }
         ensures same { IsAlike self.old self.new }
         ensures clean { K.is_clean (keeper_of self.new) → K.is_clean (keeper_of self.old) }
     {
@@ -471,7 +484,8 @@ impl<K: Keeper> Office<K> {
     pub fn request_of(&mut self, caller: &Caller, key: &Key) -> Result<Option<Request>, OfficeError>
         ensures value { K.is_clean (keeper_of self.new) → (before : History) → Stands self.old before
             → IfOk result (λ found. found ≡ request_at (requests before) (caller.now, key.now)) }
-        ensures cause { IfErr result (λ e. IsOfStore K.may_refuse e) }
+        ensures cause { IfErr result (λ e. IsOfStore (CauseFrom self.old self.new) e) }
+        ensures counted { K.refused (keeper_of self.old) ≤ K.refused (keeper_of self.new) }
         ensures same { IsAlike self.old self.new }
         ensures clean { K.is_clean (keeper_of self.new) → K.is_clean (keeper_of self.old) }
     {
@@ -482,7 +496,8 @@ impl<K: Keeper> Office<K> {
     pub fn order_state(&mut self, number: u32) -> Result<Option<OrderState>, OfficeError>
         ensures value { K.is_clean (keeper_of self.new) → (before : History) → Stands self.old before
             → IfOk result (λ state. state ≡ order_state_of before number) }
-        ensures cause { IfErr result (λ e. IsOfStore K.may_refuse e) }
+        ensures cause { IfErr result (λ e. IsOfStore (CauseFrom self.old self.new) e) }
+        ensures counted { K.refused (keeper_of self.old) ≤ K.refused (keeper_of self.new) }
         ensures same { IsAlike self.old self.new }
         ensures clean { K.is_clean (keeper_of self.new) → K.is_clean (keeper_of self.old) }
     {
@@ -496,7 +511,8 @@ impl<K: Keeper> Office<K> {
     pub fn waiting(&mut self, device: &str) -> Result<Option<SettingRow>, OfficeError>
         ensures value { K.is_clean (keeper_of self.new) → (before : History) → Stands self.old before
             → IfOk result (λ found. option_map as_setting found ≡ oldest_waiting (points before) device.now (settings before)) }
-        ensures cause { IfErr result (λ e. IsOfStore K.may_refuse e) }
+        ensures cause { IfErr result (λ e. IsOfStore (CauseFrom self.old self.new) e) }
+        ensures counted { K.refused (keeper_of self.old) ≤ K.refused (keeper_of self.new) }
         ensures same { IsAlike self.old self.new }
         ensures clean { K.is_clean (keeper_of self.new) → K.is_clean (keeper_of self.old) }
     {
@@ -507,7 +523,8 @@ impl<K: Keeper> Office<K> {
     pub fn orders(&mut self) -> Result<u32, OfficeError>
         ensures value { K.is_clean (keeper_of self.new) → (before : History) → Stands self.old before
             → IfOk result (λ orders. orders ≡ last_order (settings before)) }
-        ensures cause { IfErr result (λ e. IsOfStore K.may_refuse e) }
+        ensures cause { IfErr result (λ e. IsOfStore (CauseFrom self.old self.new) e) }
+        ensures counted { K.refused (keeper_of self.old) ≤ K.refused (keeper_of self.new) }
         ensures same { IsAlike self.old self.new }
         ensures clean { K.is_clean (keeper_of self.new) → K.is_clean (keeper_of self.old) }
     {

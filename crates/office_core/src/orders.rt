@@ -4,7 +4,7 @@ ghost use Rattle.std.specs.List.{position};
 ghost use Rattle.poll_match.specs.Queries.{is_valid};
 ghost use Rattle.poll_book.specs.Tables.{Tables, Within};
 ghost use Rattle.poll_book.specs.Orders.{Settings, last_order, oldest_waiting, point_at};
-ghost use Rattle.poll_book.specs.Fault.{HasCause};
+ghost use Rattle.poll_book.specs.Fault.{Accounts, HasCause};
 ghost use Rattle.office_core.specs.Errors.{IsCaused};
 ghost use Rattle.office_core.specs.Loads.{known_named};
 ghost use Rattle.office_core.specs.Orders as order;
@@ -94,7 +94,7 @@ pub(crate) fn judge_order<K: Keeper>(
         → IfOk result (λ x. x.0 ≡ order.ordered (last_order kept.settings) (order.ordering_of (last_order kept.settings) (known_named known.now point.now) value)) }
     ensures row { K.is_clean keeper.new → (kept : Tables) → K.holds keeper.old kept
         → IfOk result (λ x. x.1 ≡ order.ordering_row (last_order kept.settings) (order.ordering_of (last_order kept.settings) (known_named known.now point.now) value)) }
-    ensures cause { IfErr result (λ fault. HasCause K.may_refuse fault) }
+    ensures cause { Accounts K.may_refuse (K.refused keeper.old) (K.refused keeper.new) result }
     ensures same { Within (K.holds keeper.old) (K.holds keeper.new) }
     ensures crash { K.is_clean keeper.new → Within (K.may_leave keeper.new) (K.may_leave keeper.old) }
     ensures clean { K.is_clean keeper.new → K.is_clean keeper.old }
@@ -151,7 +151,7 @@ fn judge_setting(
 fn is_next<K: Keeper>(keeper: &mut K, device: &str, number: u32) -> Result<bool, StoreFault>
     ensures value { K.is_clean keeper.new → (kept : Tables) → K.holds keeper.old kept
         → IfOk result (λ next. next ≡ order.is_number (oldest_waiting kept.points device.now kept.settings) number) }
-    ensures cause { IfErr result (λ fault. K.may_refuse fault) }
+    ensures cause { Accounts K.may_refuse (K.refused keeper.old) (K.refused keeper.new) result }
     ensures same { Within (K.holds keeper.old) (K.holds keeper.new) }
     ensures crash { K.is_clean keeper.new → Within (K.may_leave keeper.new) (K.may_leave keeper.old) }
     ensures clean { K.is_clean keeper.new → K.is_clean keeper.old }
@@ -176,7 +176,8 @@ pub(crate) fn judge_send<K: Keeper>(
         → MatchResult result (λ asked. IsSent line site.now known.now kept.settings number asked)
         (λ e. IsRefused line site.now known.now kept.settings number e) }
     ensures valid { IfOk result (λ asked. is_valid asked ≡ true) }
-    ensures cause { IfErr result (λ e. IsCaused K.may_refuse e) }
+    ensures cause { IfErr result (λ e. IsCaused (HasCause K.may_refuse (K.refused keeper.old) (K.refused keeper.new)) e) }
+    ensures counted { K.refused keeper.old ≤ K.refused keeper.new }
     ensures same { Within (K.holds keeper.old) (K.holds keeper.new) }
     ensures crash { K.is_clean keeper.new → Within (K.may_leave keeper.new) (K.may_leave keeper.old) }
     ensures clean { K.is_clean keeper.new → K.is_clean keeper.old }

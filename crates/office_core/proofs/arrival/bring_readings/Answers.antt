@@ -47,7 +47,7 @@ returns-in_ok-count-in_default g c =
           (ap (λ (l : Readings). with_given l kept) is ∙ sym (brought_rows site known query reply kept c.in_default.not-Excepted))
           (c.in_ok-count-in_default.ensures.crash clean kept e (subst (AreNumbered 0) copy.0 copy.1)
           (subst (Rises 0) (sym is) (rises_at site known query reply copy.1)));
-      cause = tt;
+      cause = search rules;
       err = tt;
       clean = c.keep_readings.ensures.clean;
     }

@@ -1,6 +1,8 @@
 use Rattle.std.proofs.Common.{◌≡◌, ◌∙◌, ℕ, Some, length, subst, sym, rules}
 use Rattle.poll_match.specs.declared.asked.Asked.TheVariants.{Read}
 use Rattle.poll_match.specs.Window.{IsNextFrame, Changes, held, with_query}
+use Rattle.poll_book.specs.declared.fault.StoreFault.{StoreFault}
+use Rattle.poll_book.specs.Fault.{HasCause}
 use Rattle.office_core.specs.declared.event.Event.TheVariants.{Ask}
 use Rattle.office_core.specs.Errors.{refused_by}
 use Rattle.office_core.specs.Cover.{is_readable}
@@ -89,5 +91,7 @@ returns-clause-crash g c clean =
 
 pub returns-in_err-to-clause-cause : goal.returns-in_err-to-clause-cause
 returns-in_err-to-clause-cause g c =
-    caused_err g.K.Neighbours.may_refuse c.from_residual.result c.in_err-to.field-0.0 c.from_residual.ensures.1
-    (ask_caused g.K.Neighbours.may_refuse c.line_of-line.result c.args.self.now.site c.deref.result.now 0 c.args.device.now c.args.read c.in_err-to.field-0.0 (c.in_err-to.ensures 0))
+    let refused = g.K.Neighbours.refused c.args.self.now.keeper in
+    let cause : StoreFault → Type 0 = HasCause g.K.Neighbours.may_refuse refused refused in
+    caused_err cause c.from_residual.result c.in_err-to.field-0.0 c.from_residual.ensures.1
+    (ask_caused cause c.line_of-line.result c.args.self.now.site c.deref.result.now 0 c.args.device.now c.args.read c.in_err-to.field-0.0 (c.in_err-to.ensures 0))

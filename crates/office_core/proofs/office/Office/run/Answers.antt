@@ -1,13 +1,15 @@
-use Rattle.std.proofs.Common.{rules, ◌≡◌, ◌+◌, List, [], ◌∷◌, ◌++◌, length, true, cond, take, sym, ap, ◌∙◌, subst, arith, length-take}
+use Rattle.std.proofs.Common.{rules, ◌≡◌, ◌≤◌, ◌+◌, List, [], ◌∷◌, ◌++◌, length, true, cond, take, sym, ap, ◌∙◌, subst, arith, length-take}
 use Rattle.std.specs.Prelude.{All, is_ok}
-use Rattle.std.proofs.lemmas.List.Elements.{All-push}
+use Rattle.std.proofs.lemmas.List.Elements.{All-push, All-weaker}
 use Rattle.std.proofs.lemmas.List.{take_more}
 use Rattle.office_core.specs.declared.event.Event.{Event}
 use Rattle.office_core.specs.declared.event.EventAnswer.{EventAnswer}
 use Rattle.office_core.specs.History.{History}
+use Rattle.poll_book.specs.Fault.{HasCause}
 use Rattle.office_core.specs.Keeping.{Endures}
 use Rattle.office_core.specs.Offices.{AnswerCaused}
 use Rattle.office_core.specs.Standing.{StandsFor, Runs}
+use Rattle.office_core.proofs.Causing.{answer_within}
 use Rattle.office_core.proofs.Runs.{none_ran, one_ran}
 use Rattle.office_core.proofs.office.Office.run.Goals as goal
 
@@ -21,6 +23,7 @@ loop-event-init g c =
       each = search rules;
       room = search rules;
       cause = search rules;
+      counted = search rules;
       clean = λ clean. clean;
       runs = λ _. subst (Runs stands stands []) (sym c.in_ok-told.ensures.items) (none_ran stands);
       crash = λ _. subst (Runs endures endures []) (sym c.in_ok-told.ensures.items) (none_ran endures);
@@ -39,6 +42,13 @@ loop-event-preserved g c =
     let first' : History → Type 0 = StandsFor (Endures (holds old.keeper) (may old.keeper)) old.site old.points.items old.matcher in
     let middle' : History → Type 0 = StandsFor (Endures (holds office.keeper) (may office.keeper)) office.site office.points.items office.matcher in
     let last' : History → Type 0 = StandsFor (Endures (holds next.keeper) (may next.keeper)) next.site next.points.items next.matcher in
+    let may_refuse = g.K.Neighbours.may_refuse in
+    let first_count = g.K.Neighbours.refused old.keeper in
+    let count = g.K.Neighbours.refused office.keeper in
+    let next_count = g.K.Neighbours.refused next.keeper in
+    let rises : count ≤ next_count = c.step-answer.ensures.counted in
+    let caused' : EventAnswer → Type 0 = AnswerCaused (HasCause may_refuse first_count count) in
+    let caused : EventAnswer → Type 0 = AnswerCaused (HasCause may_refuse first_count next_count) in
     let i = c.loop-event.event-index in
     let events = c.args.events.now in
     let told = c.loop-event.told.items in
@@ -50,7 +60,10 @@ loop-event-preserved g c =
     record {
       each = search rules;
       room = omega (arith, c.loop-event.invariant.room, c.push.ensures.capacity);
-      cause = subst (All (AnswerCaused g.K.Neighbours.may_refuse)) (sym items) (All-push (AnswerCaused g.K.Neighbours.may_refuse) told c.step-answer.result c.loop-event.invariant.cause c.step-answer.ensures.cause);
+      cause = subst (All caused) (sym items) (All-push caused told c.step-answer.result
+          (All-weaker caused' caused (answer_within may_refuse first_count first_count count next_count (omega arith) rises) told c.loop-event.invariant.cause)
+          (answer_within may_refuse first_count count next_count next_count c.loop-event.invariant.counted (omega arith) c.step-answer.result c.step-answer.ensures.cause));
+      counted = omega (arith, c.loop-event.invariant.counted, rises);
       clean = λ clean. c.loop-event.invariant.clean (c.step-answer.ensures.clean clean);
       runs = λ clean. subst (λ (x : List Event × List EventAnswer). Runs first last x.0 x.1) (λ k. (sym more k, sym items k))
           (one_ran first middle last (take i events) told c.event-item.result c.step-answer.result same (c.loop-event.invariant.runs (c.step-answer.ensures.clean clean)) (c.step-answer.ensures.goes clean));

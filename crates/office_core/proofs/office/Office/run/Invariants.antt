@@ -1,5 +1,6 @@
 use Rattle.std.proofs.Common.{◌≡◌, ◌≤◌, length, take, vec_len, vec_capacity}
 use Rattle.std.specs.Prelude.{All}
+use Rattle.poll_book.specs.Fault.{HasCause}
 use Rattle.office_core.specs.Keeping.{Endures}
 use Rattle.office_core.specs.Offices.{AnswerCaused}
 use Rattle.office_core.specs.Standing.{Runs, StandsFor}
@@ -13,7 +14,8 @@ invariant-loop-event g l =
     record {
       each : vec_len l.told ≡ l.event-index;
       room : length l.events ≤ vec_capacity l.told;
-      cause : All (AnswerCaused g.K.Neighbours.may_refuse) l.told.items;
+      cause : All (AnswerCaused (HasCause g.K.Neighbours.may_refuse (g.K.Neighbours.refused l.fn.self.keeper) (g.K.Neighbours.refused l.self.keeper))) l.told.items;
+      counted : g.K.Neighbours.refused l.fn.self.keeper ≤ g.K.Neighbours.refused l.self.keeper;
       clean : g.K.Neighbours.is_clean l.self.keeper → g.K.Neighbours.is_clean l.fn.self.keeper;
       runs : g.K.Neighbours.is_clean l.self.keeper → Runs
           (StandsFor (holds l.fn.self.keeper) l.fn.self.site l.fn.self.points.items l.fn.self.matcher)
