@@ -211,6 +211,34 @@ reply_late before c n unit q e is timely refused =
         ap (λ o. number_by before c o (reply_frame n (Some q) unit)) (numbered_at (n % 65536) (length (asked before c)) n timely.1 timely.2 refl)
         ∙ ap (λ o. named_by before c n o (reply_frame n (Some q) unit)) is
 
+-- no noise is accepted
+noisy : (before : History) (c : ℕ) (noise : Frame) (n : ℕ) (q : Query) → IsNoise before c noise → Accepted before c noise n q → ⊥
+noisy before c noise n q (inl shut) a = let e : Some a.line ≡ None = sym a.is_open ∙ shut in absurd (cc)
+noisy before c noise n q (inr quiet) a =
+    let near = numbered_is noise.transaction (length (asked before c)) n a.number in
+    false≢true (sym (quiet n q a.query near.1 near.2) ∙ and_from (eqb noise.unit_id (unit_id_of q)) (fits q noise.unit) a.unit_id a.fit)
+
+-- the tables after an accepted frame
+pub arrival_tables : (before : History) (happening : Happening) (conn : ℕ) (frame : Frame) (n : ℕ) (q : Query) → MayHappen before happening → Sees before happening (event.Arrive conn frame)
+    → Accepted before conn frame n q → tables (happening ∷ before) ≡ recorded (points before) q frame.unit (tables before)
+arrival_tables before (Restart site) conn frame n q may sees a = absurd sees
+arrival_tables before (Load caller key list) conn frame n q may sees a = absurd sees
+arrival_tables before (Order caller key point value) conn frame n q may sees a = absurd sees
+arrival_tables before (Open line) conn frame n q may sees a = absurd sees
+arrival_tables before (Ask c device slot read) conn frame n q may sees a = absurd sees
+arrival_tables before (Send c number) conn frame n q may sees a = absurd sees
+arrival_tables before (Reply c m unit) conn frame n q may sees a =
+    by may.1 (subst (λ (x : ℕ × Frame). Accepted before x.0 x.1 n q) (λ i. (sees.0 i, sees.1 i)) a)
+    ∙ ap (λ (f : Frame). recorded (points before) q f.unit (tables before)) (sym sees.1)
+  where
+    by : IsTimely before c m → Accepted before c (reply_frame m (slice_get (asked before c) m) unit) n q
+        → tables (Reply c m unit ∷ before) ≡ recorded (points before) q unit (tables before)
+    by timely a =
+        let same : n ≡ m = same_Some n m (sym a.number ∙ numbered_at (m % 65536) (length (asked before c)) m timely.1 timely.2 refl) in
+        tables_more before c m unit q (ap (slice_get (asked before c)) (sym same) ∙ a.query) (ap (is_answered before c) (sym same) ∙ a.fresh) a.fit
+arrival_tables before (Noise c noise) conn frame n q may sees a =
+    absurd (noisy before c noise n q may.1 (subst (λ (x : ℕ × Frame). Accepted before x.0 x.1 n q) (λ i. (sees.0 i, sees.1 i)) a))
+
 module _ (holds : Tables → Type 0) (now : Site) (known : List PointRow) (all : List OpenOne) (before : History) (stands : StandsFor holds now known all before) where
   -- a refused frame changes nothing
   pub arrival_refused : (happening : Happening) (conn : ℕ) (frame : Frame) (e : MatchError) → MayHappen before happening → Sees before happening (event.Arrive conn frame)
@@ -278,11 +306,4 @@ module _ (holds : Tables → Type 0) (now : Site) (known : List PointRow) (all :
                     ∙ sym (still_open before (Reply c m unit ∷ before) d refl refl (λ k. answered_other before c m unit d k apart)))
                     (cases_eq d c);
               }
-      by (Noise c noise) may sees =
-          absurd (noisy c noise may.1 (subst (λ (x : ℕ × Frame). Accepted before x.0 x.1 n q) (λ i. (sees.0 i, sees.1 i)) a))
-        where
-          noisy : (c : ℕ) (noise : Frame) → IsNoise before c noise → Accepted before c noise n q → ⊥
-          noisy c noise (inl shut) a = let e : Some a.line ≡ None = sym a.is_open ∙ shut in absurd (cc)
-          noisy c noise (inr quiet) a =
-              let near = numbered_is noise.transaction (length (asked before c)) n a.number in
-              false≢true (sym (quiet n q a.query near.1 near.2) ∙ and_from (eqb noise.unit_id (unit_id_of q)) (fits q noise.unit) a.unit_id a.fit)
+      by (Noise c noise) may sees = absurd (noisy before c noise n q may.1 (subst (λ (x : ℕ × Frame). Accepted before x.0 x.1 n q) (λ i. (sees.0 i, sees.1 i)) a))

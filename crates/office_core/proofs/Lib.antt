@@ -1,3 +1,6 @@
+pub mod LeavingRuns
+pub mod Leaving
+pub mod CrashLeavings
 pub mod Causing
 pub mod Registers
 pub mod Cells

@@ -1,6 +1,6 @@
 -- What is written is new.
 use Rattle.std.proofs.Common.{◌≡◌, ◌⊎◌, inl, inr, ℕ, ◌+◌, ◌≤◌, Bool, true, false, cond, List, [], ◌∷◌, ◌++◌, length, Some, None, Option, Result, Ok, Err, refl, sym, ap, ◌∙◌, arith, subst}
-use Rattle.std.specs.Prelude.{filter, is_none, OnOk, OnErr, IfOk, MatchResult}
+use Rattle.std.specs.Prelude.{filter, is_none, OnOk, OnErr, IfOk, MatchResult, is_err}
 use Rattle.std.specs.Result.{IsErr}
 use Rattle.std.specs.Ordering.{eq_by_cmp}
 use Rattle.std.proofs.lemmas.List.{append-nil}
@@ -21,9 +21,10 @@ use Rattle.poll_book.specs.Requests.{request_at, with_request}
 use Rattle.poll_book.specs.Tables.{Tables, Within, Key, key_cmp, Readings, reading_at, new_rows, with_rows}
 use Rattle.poll_book.specs.Changes.{applied, as_rows, with_order, AreNumbered, AreNew, IsNew, IsNextOrSettled, IsNextOrSettledAs}
 use Rattle.poll_book.proofs.Tabled.{exact_keys}
+use Rattle.office_core.specs.Leavings.{LeftAfter}
 use Rattle.office_core.specs.Loads.{numbered_on}
 use Rattle.office_core.specs.Orders.{Ordering, Refused as NoOrder, Taken as ATaken, ordering_row, settle, settle_at, waiting_at, with_ordered}
-use Rattle.office_core.specs.Keeping.{Endures, IsCounted, Rises, asked_change, no_change, with_given, with_state}
+use Rattle.office_core.specs.Keeping.{IsCounted, Rises, asked_change, no_change, with_given, with_state}
 
 -- ---- points
 
@@ -202,18 +203,30 @@ applied_ordered ordering request change kept is =
 
 -- ---- what a crash may leave
 
--- a call that keeps what is held, and adds nothing that a crash may leave
-pub endures_still : (holds may holds' may' : Tables → Type 0) (kept : Tables) → Within holds holds' → Within may' may → Endures holds may kept → Endures holds' may' kept
-endures_still holds may holds' may' kept same crash e = (same kept e.0, λ left m. e.1 left (crash left m))
-
 -- a change that was tried
-pub committed : {X E : Type 0} (holds may holds' may' : Tables → Type 0) (change : Change) (kept : Tables) → Endures holds may kept → IsNew change kept → (told : Result X E)
-    → OnOk told (holds' (applied change kept)) → OnErr told (Within holds holds') → ((left : Tables) → may' left → may left ⊎ (left ≡ applied change kept))
-    → OnOk told ((left : Tables) → may' left → left ≡ applied change kept)
-    → MatchResult told (λ _. Endures holds' may' (applied change kept)) (λ _. Endures holds' may' kept)
-committed holds may holds' may' change kept e new (Ok x) ok err crash durable = (ok, λ left m. inl (durable left m))
-committed holds may holds' may' change kept e new (Err x) ok err crash durable =
-    (err kept e.0, λ left m. elim (crash left m) [ inl was ↦ e.1 left was | inr made ↦ inr (change, new, made) ])
+pub committed : {X E : Type 0} (may may' : Tables → Type 0) (made : Tables) (told : Result X E)
+    → ((left : Tables) → may' left → may left ⊎ (left ≡ made)) → OnOk told ((left : Tables) → may' left → left ≡ made)
+    → (left : Tables) → may' left → MatchResult told (λ _. left ≡ made) (λ _. may left ⊎ (left ≡ made))
+committed may may' made (Ok x) crash durable left m = durable left m
+committed may may' made (Err x) crash durable left m = crash left m
+
+-- as the call that tried it tells it
+pub left_told : {X E : Type 0} (may : Tables → Type 0) (old new left : Tables) (told : Result X E) → MatchResult told (λ _. left ≡ new) (λ _. may left ⊎ (left ≡ new))
+    → LeftAfter may old new (is_err told) left
+left_told may old new left (Ok x) l = inl l
+left_told may old new left (Err x) l = l
+
+-- as a refusal that is handed on
+pub left_refused : {X E : Type 0} (may : Tables → Type 0) (old new left : Tables) (told : Result X E) → IsErr told → may left ⊎ (left ≡ new) → LeftAfter may old new (is_err told) left
+left_refused may old new left (Ok x) e l = absurd (cc)
+left_refused may old new left (Err x) e l = l
+
+-- after calls that only read
+pub left_within : (may may' : Tables → Type 0) (old new : Tables) (refused : Bool) → Within may' may → (left : Tables) → LeftAfter may' old new refused left → LeftAfter may old new refused left
+left_within may may' old new true within left (inl was) = inl (within left was)
+left_within may may' old new true within left (inr made) = inr made
+left_within may may' old new false within left (inl made) = inl made
+left_within may may' old new false within left (inr was) = inr (was.0, within left was.1)
 
 -- what holds of a refusal
 pub on_refusal : {X E P : Type 0} (Q : X → Type 0) (told : Result X E) → IsErr told → P → MatchResult told Q (λ _. P)

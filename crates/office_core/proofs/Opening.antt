@@ -1,5 +1,5 @@
 -- What the matcher and the keeper answer to an Open is what the history says of it.
-use Rattle.std.proofs.Common.{◌≡◌, ◌≢◌, ℕ, ◌+◌, ◌<◌, ◌≤◌, cond, leb, List, Some, None, Option, refl, sym, ap, ◌∙◌, arith, subst, ⊎_elim}
+use Rattle.std.proofs.Common.{◌≡◌, ◌≢◌, ℕ, ◌+◌, ◌<◌, ◌≤◌, cond, leb, List, ◌∷◌, Some, None, Option, refl, sym, ap, ◌∙◌, arith, subst, ⊎_elim}
 use Rattle.std.specs.Prelude.{is_some, IfSome, IfNone}
 use Rattle.std.proofs.lemmas.Bool.{le-leb, lt-leb, cases_eq}
 use Rattle.point_list.specs.declared.site.Site.{Site}
@@ -11,10 +11,10 @@ use Rattle.office_core.specs.declared.error.OfficeError.TheVariants as error
 use Rattle.office_core.specs.declared.event.Event.TheVariants as event
 use Rattle.office_core.specs.declared.event.EventAnswer.TheVariants as answer
 use Rattle.office_core.specs.Sites.{line_place}
-use Rattle.office_core.specs.History.{History, connections, open_fault}
+use Rattle.office_core.specs.History.{Happening, History, connections, open_fault, tables}
 use Rattle.office_core.specs.Keeping.{IsCopy}
-use Rattle.office_core.specs.Standing.{StandsFor, IsFormer, Closes, Goes}
-use Rattle.office_core.proofs.Steps.{open_refused_goes, opened_goes}
+use Rattle.office_core.specs.Standing.{StandsFor, IsFormer, Closes, Goes, Sees}
+use Rattle.office_core.proofs.Steps.{open_refused_goes, opened_goes, opened_made}
 
 -- a number above all that are open isn't open
 pub not_open : (all : List OpenOne) (conn : ℕ) → greatest_of all < conn → held conn all ≡ None
@@ -58,3 +58,10 @@ module _ (holds : Tables → Type 0) (now : Site) (known : List PointRow) (all :
       opened_goes holds now known all name line new place
       (λ before stands. (next ∙ ap (λ n. n + 1) (made before stands), fault_is before stands ∙ ap (λ b. cond b (Some error.Exhausted) None) (lt-leb 4294967295 last left)))
       holds' kept former is_former all1 all' opens closes
+
+  -- the tables with it
+  pub opening_made : last < 4294967295 → (new : ℕ) → new ≡ last + 1 → (before : History) (happening : Happening) → StandsFor holds now known all before → Sees before happening (event.Open name)
+      → record (tables before) { connections = new } ≡ tables (happening ∷ before)
+  opening_made left new next =
+      opened_made holds now known all name line new place
+      (λ before stands. (next ∙ ap (λ n. n + 1) (made before stands), fault_is before stands ∙ ap (λ b. cond b (Some error.Exhausted) None) (lt-leb 4294967295 last left)))

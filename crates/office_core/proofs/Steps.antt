@@ -1,6 +1,6 @@
 -- Each call of an office, as a step of its history.
 use Rattle.std.proofs.Common.{◌≡◌, ℕ, ℤ, ◌+◌, true, false, cond, List, [], ◌∷◌, ◌++◌, length, Some, None, Option, refl, sym, ap, ◌∙◌, subst}
-use Rattle.std.specs.Prelude.{is_some, take, slice_get, IsSome, ⊤}
+use Rattle.std.specs.Prelude.{is_none, is_some, take, slice_get, IsSome, ⊤}
 use Rattle.std.proofs.lemmas.Bool.{false≢true}
 use Rattle.mb_pdu.specs.Replies.{spells_reply}
 use Rattle.mb_pdu.specs.declared.reply.Reply.{Reply as UnitReply}
@@ -40,12 +40,13 @@ use Rattle.office_core.specs.History.{Happening, Restart, Load, Order, Open, Ask
 use Rattle.office_core.specs.Answers.{answer_again, answer_of, unit_answer}
 use Rattle.office_core.specs.Keeping.{IsCopy, asking_of, with_given, with_state, rows_at, brought, arrival_of}
 use Rattle.office_core.specs.Standing.{StandsFor, IsFormer, Closes, Sees, Goes, is_store}
+use Rattle.office_core.specs.Legal.{MayHappen}
 use Rattle.office_core.proofs.Cells.{cells_spelled, exception_spelled, bits_plain, words_plain, no_echo}
 use Rattle.office_core.proofs.Loaded.{numbered_points, restarted}
 use Rattle.office_core.proofs.Kept.{asked_again, asked_list, asked_order}
 use Rattle.office_core.proofs.Written.{state_is, written_told}
 use Rattle.office_core.proofs.Naming.{accepted, found_is}
-use Rattle.office_core.proofs.Arrivals.{recorded, arrival_refused, arrival_accepted}
+use Rattle.office_core.proofs.Arrivals.{recorded, arrival_refused, arrival_accepted, arrival_tables}
 use Rattle.office_core.proofs.Asks.{asks, ask_refused, ask_made_so}
 use Rattle.office_core.proofs.Opens.{open_refused, open_made_so}
 use Rattle.office_core.proofs.Sends.{sends, send_refused, send_made_so}
@@ -185,6 +186,24 @@ module _ (holds : Tables → Type 0) (now : Site) (known : List PointRow) (all :
         );
   }
 
+  -- the tables with what an accepted frame brings
+  pub arrival_made : (conn : ℕ) (frame : Frame) (number : ℕ) (query : Asked) (reply : UnitReply) → refusal (held conn all) frame ≡ None → Names (held conn all) frame number query reply
+      → (before : History) (happening : Happening) → StandsFor holds now known all before → MayHappen before happening → Sees before happening (event.Arrive conn frame)
+      → brought now known query reply (tables before) ≡ tables (happening ∷ before)
+  arrival_made conn frame number query reply none names before happening stands may sees =
+      let was = sym (stands.connections conn) in
+      let found = accepted before conn frame (ap (λ o. refusal o frame) was ∙ none) in
+      let n = found.0 in
+      let q = found.1.0 in
+      let a = found.1.1 in
+      let here = found_is before conn frame n q number query reply a (subst (λ o. Names o frame number query reply) (sym was) names) in
+      let named : IsPlaced now known frame.unit (tables before) q = at_place before stands conn n q (ap is_some a.is_open) a.query in
+      let spelled : spells_reply (request_of (asked_of q)) reply frame.unit = subst (λ (x : Asked). spells_reply (request_of x) reply frame.unit) here.1 here.2 in
+      ap (λ (x : Asked). brought now known x reply (tables before)) here.1
+      ∙ brought_is now known frame.unit (tables before) q named reply spelled
+      ∙ ap (λ l. recorded l q frame.unit (tables before)) stands.points
+      ∙ sym (arrival_tables before happening conn frame n q may sees a)
+
   -- ---- asks
 
   pub ask_refused_goes : (conn : ℕ) (device : List ℕ) (slot : ℕ) (read : Read) (e : OfficeError)
@@ -286,6 +305,24 @@ module _ (holds : Tables → Type 0) (now : Site) (known : List PointRow) (all :
       by before (Reply c n unit) stands sees = absurd sees
       by before (Noise c frame) stands sees = absurd sees
 
+  -- the tables with the connection that is opened
+  pub opened_made : (name : List ℕ) (line new : ℕ) → line_place now name ≡ Some line
+      → ((before : History) → StandsFor holds now known all before → (new ≡ connections before + 1) × (open_fault (line_place now name) (connections before) ≡ None))
+      → (before : History) (happening : Happening) → StandsFor holds now known all before → Sees before happening (event.Open name)
+      → record (tables before) { connections = new } ≡ tables (happening ∷ before)
+  opened_made name line new place made before (Restart site) stands sees = absurd sees
+  opened_made name line new place made before (Load caller key list) stands sees = absurd sees
+  opened_made name line new place made before (Order caller key point value) stands sees = absurd sees
+  opened_made name line new place made before (Open l) stands sees =
+      let m = made before stands in
+      let fault : open_fault (line_place (site_of before) l) (connections before) ≡ None = (λ i. open_fault (line_place (sym stands.site i) (sym sees i)) (connections before)) ∙ m.1 in
+      ap (λ n. record (tables before) { connections = n }) m.0
+      ∙ ap (λ b. record (tables before) { connections = cond b (connections before + 1) (connections before) }) (sym (ap is_none fault))
+  opened_made name line new place made before (Ask c d s r) stands sees = absurd sees
+  opened_made name line new place made before (Send c n) stands sees = absurd sees
+  opened_made name line new place made before (Reply c n unit) stands sees = absurd sees
+  opened_made name line new place made before (Noise c frame) stands sees = absurd sees
+
   -- ---- sends
 
   pub send_refused_goes : (conn number : ℕ) (e : OfficeError) (holds' : Tables → Type 0) → ((kept : Tables) → holds kept → holds' kept)
@@ -348,13 +385,6 @@ module _ (holds : Tables → Type 0) (now : Site) (known : List PointRow) (all :
 
   abbrev Unused : RequestKey → History → Type 0
   Unused key before = StandsFor holds now known all before × (request_at (requests before) key ≡ None)
-
-  pub unused_store_goes : (key : RequestKey) (holds' : Tables → Type 0) → ((kept : Tables) → holds kept → IsCopy known kept → request_at kept.requests key ≡ None → holds' kept)
-      → (seen : Event) (told : EventAnswer) → is_store told ≡ true → Goes (Unused key) (StandsFor holds' now known all) seen told
-  unused_store_goes key holds' keeps seen told store = record {
-    refused = λ before stands _. same_stands holds' all (λ conn. refl) before (λ h. keeps (tables before) h (copy_of before stands.0) stands.1) stands.0;
-    happened = λ before happening stands may sees off. absurd (false≢true (sym off ∙ store));
-  }
 
   pub again_goes : (key : RequestKey) (asked : Body) (first : Request) (holds' : Tables → Type 0) → ((kept : Tables) → holds kept → holds' kept)
       → ((kept : Tables) → holds kept → request_at kept.requests key ≡ Some first)

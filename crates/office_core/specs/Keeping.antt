@@ -1,5 +1,5 @@
 -- What a keeper holds, and what is written to it.
-use Rattle.std.specs.Prelude.{◌≡◌, ◌⊎◌, ℕ, ◌<◌, ⊤, List, [], ◌∷◌, length, Option, Some, None}
+use Rattle.std.specs.Prelude.{◌≡◌, ℕ, ◌<◌, ⊤, List, [], ◌∷◌, length, Option, Some, None}
 use Rattle.mb_pdu.specs.declared.reply.Reply.{Reply}
 use Rattle.mb_pdu.specs.declared.reply.Reply.TheVariants.{Excepted}
 use Rattle.point_list.specs.declared.site.Site.{Site}
@@ -11,7 +11,7 @@ use Rattle.poll_book.specs.declared.rows.SettingRow.{SettingRow}
 use Rattle.poll_book.specs.declared.requests.RequestRow.{RequestRow}
 use Rattle.poll_book.specs.declared.rows.OrderState.{OrderState}
 use Rattle.poll_book.specs.declared.rows.OrderState.TheVariants.{Done}
-use Rattle.poll_book.specs.Changes.{AreNumbered, IsNew, applied, keyed}
+use Rattle.poll_book.specs.Changes.{AreNumbered, keyed}
 use Rattle.office_core.specs.declared.event.Arrival.{Arrival}
 use Rattle.office_core.specs.declared.event.Arrival.TheVariants as arrival
 use Rattle.office_core.specs.Cover.{given_at, reply_cells}
@@ -19,12 +19,6 @@ use Rattle.office_core.specs.Orders.{state_after, settle}
 use Rattle.read_planner.specs.declared.Read.{Read}
 use Rattle.office_core.specs.declared.cover.Asking.{Asking}
 use Rattle.poll_book.specs.Tables.{Tables, Readings, new_rows, with_rows}
-
--- it holds these tables, and a crash leaves them, or them with one change that was refused
-abbrev pub Endures : (Tables → Type 0) → (Tables → Type 0) → Tables → Type 0
-Endures holds may_leave kept =
-    holds kept
-    × ((left : Tables) → may_leave left → (left ≡ kept) ⊎ ((change : Change) × IsNew change kept × (left ≡ applied change kept)))
 
 -- the copy of the points is the keeper's, and they are numbered
 abbrev pub IsCopy : List PointRow → Tables → Type 0

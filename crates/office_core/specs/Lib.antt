@@ -10,6 +10,7 @@ pub mod History
 pub mod Answers
 pub mod Legal
 pub mod Standing
+pub mod Leavings
 pub mod Keeping
 pub mod Offices
 pub mod FirstArrivals

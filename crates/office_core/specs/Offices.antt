@@ -13,6 +13,7 @@ use Rattle.poll_book.specs.declared.keeper.Neighbours.{Ghosts}
 use Rattle.office_core.specs.declared.office.Office.{Office}
 use Rattle.office_core.specs.declared.error.OfficeError.{OfficeError}
 use Rattle.office_core.specs.declared.event.Arrival.{Arrival}
+use Rattle.office_core.specs.declared.event.Event.{Event}
 use Rattle.office_core.specs.declared.event.RequestAnswer.{RequestAnswer}
 use Rattle.poll_book.specs.declared.rows.OrderState.{OrderState}
 use Rattle.poll_book.specs.declared.rows.Setting.{Setting}
@@ -25,7 +26,7 @@ use Rattle.office_core.specs.Errors.{IsCaused}
 use Rattle.office_core.specs.Loads.{known_named}
 use Rattle.poll_book.specs.Requests.{RequestKey, request_at}
 use Rattle.office_core.specs.History.{History, points, readings, settings, requests, total}
-use Rattle.office_core.specs.Keeping.{Endures}
+use Rattle.office_core.specs.Leavings.{Leaves, LeavesAll}
 use Rattle.office_core.specs.Standing.{StandsFor}
 
 -- what contracts see of an office, beside the histories that it stands for
@@ -42,23 +43,33 @@ points_of office = office.points.items
 abbrev pub Stands : {K : Type 0} {g : Ghosts K} → Office K g → History → Type 0
 Stands {g = g} office before = StandsFor (g.holds office.keeper) office.site office.points.items office.matcher before
 
--- it stands for that history, and a crash leaves its tables, or them with one change that was refused
-abbrev pub StandsInCrash : {K : Type 0} {g : Ghosts K} → Office K g → History → Type 0
-StandsInCrash {g = g} office before =
-    StandsFor (Endures (g.holds office.keeper) (g.may_leave office.keeper)) office.site office.points.items office.matcher before
-
 -- and the key wasn't used
 abbrev pub StandsUnused : {K : Type 0} {g : Ghosts K} → Office K g → RequestKey → History → Type 0
 StandsUnused office key before = Stands office before × (request_at (requests before) key ≡ None)
-
-abbrev pub StandsInCrashUnused : {K : Type 0} {g : Ghosts K} → Office K g → RequestKey → History → Type 0
-StandsInCrashUnused office key before = StandsInCrash office before × (request_at (requests before) key ≡ None)
 
 -- nothing changed but room: the tables that were held are held still
 abbrev pub IsAlike : {K : Type 0} {g : Ghosts K} → Office K g → Office K g → Type 0
 IsAlike {g = g} old new =
     Within (g.holds old.keeper) (g.holds new.keeper) × (new.site ≡ old.site) × (new.points.items ≡ old.points.items)
     × ((conn : ℕ) → held conn new.matcher ≡ held conn old.matcher)
+
+-- ---- what a crash leaves
+
+-- nothing that it couldn't leave before
+abbrev pub LeavesNoMore : {K : Type 0} {g : Ghosts K} → Office K g → Office K g → Type 0
+LeavesNoMore {g = g} old new = Within (g.may_leave new.keeper) (g.may_leave old.keeper)
+
+-- after what the office saw as this event
+abbrev pub LeavesSo : {K : Type 0} {g : Ghosts K} → Office K g → Office K g → Event → EventAnswer → Type 0
+LeavesSo {g = g} old new seen told = Leaves (Stands old) (g.may_leave old.keeper) (g.may_leave new.keeper) seen told
+
+-- the same under a key that wasn't used
+abbrev pub LeavesUnused : {K : Type 0} {g : Ghosts K} → RequestKey → Office K g → Office K g → Event → EventAnswer → Type 0
+LeavesUnused {g = g} key old new seen told = Leaves (StandsUnused old key) (g.may_leave old.keeper) (g.may_leave new.keeper) seen told
+
+-- after what it saw as these events
+abbrev pub LeavesRun : {K : Type 0} {g : Ghosts K} → Office K g → Office K g → List Event → List EventAnswer → Type 0
+LeavesRun {g = g} old new events told = LeavesAll (Stands old) (g.may_leave old.keeper) (g.may_leave new.keeper) events told
 
 -- ---- how a call's result is told
 

@@ -1,11 +1,12 @@
 //! What a reply to a query brings.
-ghost use Rattle.std.specs.Prelude.{◌≡◌, ◌≤◌, IfOk, OnErr, MatchResult, length};
+ghost use Rattle.std.specs.Prelude.{◌≡◌, ◌≤◌, IfOk, OnErr, MatchResult, is_err, length};
 ghost use Rattle.poll_book.specs.Tables.{Tables, Within};
 ghost use Rattle.poll_book.specs.Fault.{Accounts};
 ghost use Rattle.office_core.specs.Orders as orders;
 ghost use Rattle.office_core.specs.Queries.{Answers, AnswersRead};
 ghost use Rattle.office_core.specs.Keeping as keeping;
-ghost use Rattle.office_core.specs.Keeping.{Endures, IsCopy, arrival_of, brought, brought_read, read_arrival, with_state, write_arrival};
+ghost use Rattle.office_core.specs.Keeping.{IsCopy, arrival_of, brought, brought_read, read_arrival, with_state, write_arrival};
+ghost use Rattle.office_core.specs.Leavings.{LeftAfter};
 
 use crate::commit::{keep_readings, keep_state};
 use crate::cover::{Asking, covered_by};
@@ -31,10 +32,8 @@ fn bring_readings<K: Keeper>(
         → IfOk result (λ arrival. arrival ≡ read_arrival site.now known.now asking.now reply.now kept) }
     ensures kept { K.is_clean keeper.new → (kept : Tables) → K.holds keeper.old kept → IsCopy known.now kept
         → MatchResult result (λ _. K.holds keeper.new (brought_read site.now known.now asking.now reply.now kept)) (λ _. K.holds keeper.new kept) }
-    ensures crash { K.is_clean keeper.new → (kept : Tables) → Endures (K.holds keeper.old) (K.may_leave keeper.old) kept → IsCopy known.now kept
-        → MatchResult result
-        (λ _. Endures (K.holds keeper.new) (K.may_leave keeper.new) (brought_read site.now known.now asking.now reply.now kept))
-        (λ _. Endures (K.holds keeper.new) (K.may_leave keeper.new) kept) }
+    ensures leaves { K.is_clean keeper.new → (kept : Tables) → K.holds keeper.old kept → IsCopy known.now kept
+        → Within (K.may_leave keeper.new) (LeftAfter (K.may_leave keeper.old) kept (brought_read site.now known.now asking.now reply.now kept) (is_err result)) }
     ensures cause { Accounts K.may_refuse (K.refused keeper.old) (K.refused keeper.new) result }
     ensures err { OnErr result (Within (K.holds keeper.old) (K.holds keeper.new)) }
     ensures clean { K.is_clean keeper.new → K.is_clean keeper.old }
@@ -94,10 +93,8 @@ pub(crate) fn bring<K: Keeper>(
         → IfOk result (λ arrival. arrival ≡ arrival_of site.now known.now asked.now reply.now kept) }
     ensures kept { K.is_clean keeper.new → (kept : Tables) → K.holds keeper.old kept → IsCopy known.now kept
         → MatchResult result (λ _. K.holds keeper.new (brought site.now known.now asked.now reply.now kept)) (λ _. K.holds keeper.new kept) }
-    ensures crash { K.is_clean keeper.new → (kept : Tables) → Endures (K.holds keeper.old) (K.may_leave keeper.old) kept → IsCopy known.now kept
-        → MatchResult result
-        (λ _. Endures (K.holds keeper.new) (K.may_leave keeper.new) (brought site.now known.now asked.now reply.now kept))
-        (λ _. Endures (K.holds keeper.new) (K.may_leave keeper.new) kept) }
+    ensures leaves { K.is_clean keeper.new → (kept : Tables) → K.holds keeper.old kept → IsCopy known.now kept
+        → Within (K.may_leave keeper.new) (LeftAfter (K.may_leave keeper.old) kept (brought site.now known.now asked.now reply.now kept) (is_err result)) }
     ensures cause { Accounts K.may_refuse (K.refused keeper.old) (K.refused keeper.new) result }
     ensures err { OnErr result (Within (K.holds keeper.old) (K.holds keeper.new)) }
     ensures clean { K.is_clean keeper.new → K.is_clean keeper.old }

@@ -1,11 +1,12 @@
 //! What is written to a keeper.
-ghost use Rattle.std.specs.Prelude.{◌≡◌, ◌≤◌, IfOk, IfSome, OnErr, MatchResult, false, length};
+ghost use Rattle.std.specs.Prelude.{◌≡◌, ◌⊎◌, ◌≤◌, IfOk, IfSome, OnErr, MatchResult, false, is_err, length};
 ghost use Rattle.poll_book.specs.Tables.{Tables, Within, new_rows};
 ghost use Rattle.poll_book.specs.Changes.{IsNew, applied, keyed};
 ghost use Rattle.poll_book.specs.Fault.{Accounts};
 ghost use Rattle.poll_book.specs.Orders.{is_waiting, setting_at};
 ghost use Rattle.office_core.specs.Orders.{waiting_at};
-ghost use Rattle.office_core.specs.Keeping.{Endures, IsCounted, Rises, with_given, with_state};
+ghost use Rattle.office_core.specs.Keeping.{IsCounted, Rises, with_given, with_state};
+ghost use Rattle.office_core.specs.Leavings.{LeftAfter};
 
 use crate::changes::{readings_change, state_change};
 use mb_pdu::Registers;
@@ -16,10 +17,8 @@ use std::alloc::Global;
 pub(crate) fn commit<K: Keeper>(keeper: &mut K, change: &Change) -> Result<(), StoreFault>
     ensures kept { K.is_clean keeper.new → (kept : Tables) → K.holds keeper.old kept → IsNew change.now kept
         → MatchResult result (λ _. K.holds keeper.new (applied change.now kept)) (λ _. K.holds keeper.new kept) }
-    ensures crash { K.is_clean keeper.new → (kept : Tables) → Endures (K.holds keeper.old) (K.may_leave keeper.old) kept → IsNew change.now kept
-        → MatchResult result
-        (λ _. Endures (K.holds keeper.new) (K.may_leave keeper.new) (applied change.now kept))
-        (λ _. Endures (K.holds keeper.new) (K.may_leave keeper.new) kept) }
+    ensures leaves { K.is_clean keeper.new → (kept : Tables) → K.holds keeper.old kept → IsNew change.now kept → (left : Tables) → K.may_leave keeper.new left
+        → MatchResult result (λ _. left ≡ applied change.now kept) (λ _. K.may_leave keeper.old left ⊎ (left ≡ applied change.now kept)) }
     ensures cause { Accounts K.may_refuse (K.refused keeper.old) (K.refused keeper.new) result }
     ensures err { OnErr result (Within (K.holds keeper.old) (K.holds keeper.new)) }
     ensures clean { K.is_clean keeper.new → K.is_clean keeper.old }
@@ -32,10 +31,8 @@ pub(crate) fn commit<K: Keeper>(keeper: &mut K, change: &Change) -> Result<(), S
 pub(crate) fn write<K: Keeper>(keeper: &mut K, change: Change) -> Result<(), StoreFault>
     ensures kept { K.is_clean keeper.new → (kept : Tables) → K.holds keeper.old kept → IsNew change kept
         → MatchResult result (λ _. K.holds keeper.new (applied change kept)) (λ _. K.holds keeper.new kept) }
-    ensures crash { K.is_clean keeper.new → (kept : Tables) → Endures (K.holds keeper.old) (K.may_leave keeper.old) kept → IsNew change kept
-        → MatchResult result
-        (λ _. Endures (K.holds keeper.new) (K.may_leave keeper.new) (applied change kept))
-        (λ _. Endures (K.holds keeper.new) (K.may_leave keeper.new) kept) }
+    ensures leaves { K.is_clean keeper.new → (kept : Tables) → K.holds keeper.old kept → IsNew change kept → (left : Tables) → K.may_leave keeper.new left
+        → MatchResult result (λ _. left ≡ applied change kept) (λ _. K.may_leave keeper.old left ⊎ (left ≡ applied change kept)) }
     ensures cause { Accounts K.may_refuse (K.refused keeper.old) (K.refused keeper.new) result }
     ensures err { OnErr result (Within (K.holds keeper.old) (K.holds keeper.new)) }
     ensures clean { K.is_clean keeper.new → K.is_clean keeper.old }
@@ -55,10 +52,8 @@ pub(crate) fn keep_readings<K: Keeper>(
         → IfOk result (λ count. count ≡ length (new_rows kept.readings (keyed slot covered.now))) }
     ensures kept { K.is_clean keeper.new → (kept : Tables) → K.holds keeper.old kept → IsCounted kept → Rises 0 (keyed slot covered.now)
         → MatchResult result (λ _. K.holds keeper.new (with_given (keyed slot covered.now) kept)) (λ _. K.holds keeper.new kept) }
-    ensures crash { K.is_clean keeper.new → (kept : Tables) → Endures (K.holds keeper.old) (K.may_leave keeper.old) kept → IsCounted kept → Rises 0 (keyed slot covered.now)
-        → MatchResult result
-        (λ _. Endures (K.holds keeper.new) (K.may_leave keeper.new) (with_given (keyed slot covered.now) kept))
-        (λ _. Endures (K.holds keeper.new) (K.may_leave keeper.new) kept) }
+    ensures leaves { K.is_clean keeper.new → (kept : Tables) → K.holds keeper.old kept → IsCounted kept → Rises 0 (keyed slot covered.now)
+        → Within (K.may_leave keeper.new) (LeftAfter (K.may_leave keeper.old) kept (with_given (keyed slot covered.now) kept) (is_err result)) }
     ensures cause { Accounts K.may_refuse (K.refused keeper.old) (K.refused keeper.new) result }
     ensures err { OnErr result (Within (K.holds keeper.old) (K.holds keeper.new)) }
     ensures clean { K.is_clean keeper.new → K.is_clean keeper.old }
@@ -78,7 +73,7 @@ fn waiting_setting<K: Keeper>(keeper: &mut K, order: u32) -> Result<Option<Setti
         → IfOk result (λ found. found ≡ waiting_at (setting_at kept.settings order)) }
     ensures cause { Accounts K.may_refuse (K.refused keeper.old) (K.refused keeper.new) result }
     ensures same { Within (K.holds keeper.old) (K.holds keeper.new) }
-    ensures crash { K.is_clean keeper.new → Within (K.may_leave keeper.new) (K.may_leave keeper.old) }
+    ensures leaves { K.is_clean keeper.new → Within (K.may_leave keeper.new) (K.may_leave keeper.old) }
     ensures clean { K.is_clean keeper.new → K.is_clean keeper.old }
 {
     match keeper.setting(order)? {
@@ -97,10 +92,8 @@ pub(crate) fn keep_state<K: Keeper>(
     requires { IfSome state (λ s. is_waiting s ≡ false) }
     ensures kept { K.is_clean keeper.new → (kept : Tables) → K.holds keeper.old kept → IsCounted kept
         → MatchResult result (λ _. K.holds keeper.new (with_state order state kept)) (λ _. K.holds keeper.new kept) }
-    ensures crash { K.is_clean keeper.new → (kept : Tables) → Endures (K.holds keeper.old) (K.may_leave keeper.old) kept → IsCounted kept
-        → MatchResult result
-        (λ _. Endures (K.holds keeper.new) (K.may_leave keeper.new) (with_state order state kept))
-        (λ _. Endures (K.holds keeper.new) (K.may_leave keeper.new) kept) }
+    ensures leaves { K.is_clean keeper.new → (kept : Tables) → K.holds keeper.old kept → IsCounted kept
+        → Within (K.may_leave keeper.new) (LeftAfter (K.may_leave keeper.old) kept (with_state order state kept) (is_err result)) }
     ensures cause { Accounts K.may_refuse (K.refused keeper.old) (K.refused keeper.new) result }
     ensures err { OnErr result (Within (K.holds keeper.old) (K.holds keeper.new)) }
     ensures clean { K.is_clean keeper.new → K.is_clean keeper.old }

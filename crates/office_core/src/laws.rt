@@ -1,6 +1,6 @@
 //! Laws of the definitions alone.
 
-ghost use Rattle.std.specs.Prelude.{◌≡◌, ◌↔◌, ◌≤◌, ℕ, false, List, ◌++◌, Some, IsSome};
+ghost use Rattle.std.specs.Prelude.{◌≡◌, ◌⊎◌, ◌↔◌, ◌≤◌, ℕ, false, List, ◌++◌, Some, IsSome};
 ghost use Rattle.poll_book.specs.declared.requests.Request.{Request};
 ghost use Rattle.poll_book.specs.declared.rows.OrderState.{OrderState};
 ghost use Rattle.poll_book.specs.declared.rows.OrderState.TheVariants.{Waiting};
@@ -9,10 +9,12 @@ ghost use Rattle.poll_book.specs.declared.rows.Reading.{Reading};
 ghost use Rattle.poll_book.specs.declared.rows.Setting.{Setting};
 ghost use Rattle.poll_book.specs.Orders.{is_waiting, setting_at, last_order};
 ghost use Rattle.poll_book.specs.Requests.{RequestKey, request_at};
-ghost use Rattle.poll_book.specs.Tables.{reading_at};
+ghost use Rattle.poll_book.specs.Tables.{Tables, reading_at};
 ghost use Rattle.office_core.specs.declared.event.Event.{Event};
+ghost use Rattle.office_core.specs.declared.event.EventAnswer.{EventAnswer};
 ghost use Rattle.office_core.specs.Fitting.{IsFitting};
-ghost use Rattle.office_core.specs.History.{Happening, History, readings, settings, requests, tables, total};
+ghost use Rattle.office_core.specs.History.{Happening, History, after, readings, settings, requests, tables, total};
+ghost use Rattle.office_core.specs.Leavings.{IsOfRefused, LeftBy, happened};
 ghost use Rattle.office_core.specs.Legal.{Legal, MayHappen};
 ghost use Rattle.office_core.specs.Messages.{IsMessage, happening_of};
 ghost use Rattle.office_core.specs.Queries.{Writing};
@@ -85,4 +87,14 @@ pub fn any_message()
 /// are such as there are, and each of its readings has as many registers as the type, a cell 0 or 1.
 pub fn fitting_tables()
     ensures { (before : History) → Legal before → IsFitting (tables before) }
+{}
+
+/// From a history whose tables alone a crash might leave, a crash after events that were told so leaves
+/// the tables of what happened, which is all that the store didn't refuse, in order; or those of what
+/// happened before one event that the store refused, and then that event, where nothing that happened
+/// after it changed a table. It may leave each of these, and nothing else.
+pub fn crash_leavings()
+    ensures { (before : History) (rest : List Happening) (told : List EventAnswer) (left : Tables)
+        → LeftBy before (λ kept. kept ≡ tables before) rest told left
+        ↔ ((left ≡ tables (after before (happened rest told))) ⊎ IsOfRefused before rest told left) }
 {}

@@ -9,7 +9,6 @@ ghost use Rattle.office_core.specs.Sites.{has_devices};
 ghost use Rattle.office_core.specs.Cover.{is_readable};
 ghost use Rattle.office_core.specs.History as history;
 ghost use Rattle.office_core.specs.Standing.{Closes, Goes, Runs, is_refusal};
-ghost use Rattle.office_core.specs.Keeping.{Endures};
 
 use crate::arrival::bring;
 use crate::changes::{connection_change, request_change};
@@ -77,8 +76,7 @@ fn last_made<K: Keeper>(keeper: &mut K, greatest: u32) -> Result<u32, StoreFault
     ensures above { IfOk result (λ last. greatest ≤ last) }
     ensures cause { Accounts K.may_refuse (K.refused keeper.old) (K.refused keeper.new) result }
     ensures same { Within (K.holds keeper.old) (K.holds keeper.new) }
-    ensures crash { K.is_clean keeper.new → (kept : Tables) → Endures (K.holds keeper.old) (K.may_leave keeper.old) kept
-        → Endures (K.holds keeper.new) (K.may_leave keeper.new) kept }
+    ensures leaves { K.is_clean keeper.new → Within (K.may_leave keeper.new) (K.may_leave keeper.old) }
     ensures clean { K.is_clean keeper.new → K.is_clean keeper.old }
 {
     match keeper.connections() {
@@ -99,8 +97,7 @@ fn former<K: Keeper>(
         → IfOk result (λ found. found ≡ request_at kept.requests (caller.now, key.now)) }
     ensures cause { Accounts K.may_refuse (K.refused keeper.old) (K.refused keeper.new) result }
     ensures same { Within (K.holds keeper.old) (K.holds keeper.new) }
-    ensures crash { K.is_clean keeper.new → (kept : Tables) → Endures (K.holds keeper.old) (K.may_leave keeper.old) kept
-        → Endures (K.holds keeper.new) (K.may_leave keeper.new) kept }
+    ensures leaves { K.is_clean keeper.new → Within (K.may_leave keeper.new) (K.may_leave keeper.old) }
     ensures clean { K.is_clean keeper.new → K.is_clean keeper.old }
 {
     keeper.request(alloc, caller, key)
@@ -131,7 +128,7 @@ impl<K: Keeper> Office<K> {
     ghost use Rattle.office_core.specs.History.{History, Restart, tables, points, settings, requests};
     ghost use Rattle.poll_book.specs.Orders.{as_setting, last_order, oldest_waiting};
     ghost use Rattle.office_core.specs.Errors.{IsCaused, IsOfStore};
-    ghost use Rattle.office_core.specs.Offices.{AnswerCaused, CauseFrom, IsAlike, Shows, Stands, StandsInCrash, StandsInCrashUnused, StandsUnused, arrived, asked_so, keeper_of, opened, order_state_of, points_of, readings_of, site_of, told_so, total_of};
+    ghost use Rattle.office_core.specs.Offices.{AnswerCaused, CauseFrom, IsAlike, LeavesNoMore, LeavesRun, LeavesSo, LeavesUnused, Shows, Stands, StandsUnused, arrived, asked_so, keeper_of, opened, order_state_of, points_of, readings_of, site_of, told_so, total_of};
 
     /// An office over what a keeper holds, with no connection open. A keeper that can't be read is
     /// given back with `Store`, and one with a point whose device isn't in the site with
@@ -139,8 +136,7 @@ impl<K: Keeper> Office<K> {
     pub fn new(alloc: Global, mut keeper: K, site: Site) -> Result<Office<K>, (OfficeError, K)>
         requires { IsSound site }
         ensures stands { IfOk result (λ office. K.is_clean (keeper_of office) → (before : History) → K.holds keeper (tables before) → Stands office (Restart site ∷ before)) }
-        ensures crash { IfOk result (λ office. K.is_clean (keeper_of office) → (before : History) → Endures (K.holds keeper) (K.may_leave keeper) (tables before)
-            → StandsInCrash office (Restart site ∷ before)) }
+        ensures leaves { IfOk result (λ office. K.is_clean (keeper_of office) → Within (K.may_leave (keeper_of office)) (K.may_leave keeper)) }
         ensures devices { IfOk result (λ office. K.is_clean (keeper_of office) → (kept : Tables) → K.holds keeper kept → has_devices site kept.points ≡ true) }
         ensures differs { IfErr result (λ e. e.0 ≡ OfficeError.SiteDiffers → K.is_clean e.1 → (kept : Tables) → K.holds keeper kept → has_devices site kept.points ≡ false) }
         ensures cause { IfErr result (λ e. IsCaused (HasCause K.may_refuse (K.refused keeper) (K.refused e.1)) e.0
@@ -187,7 +183,7 @@ impl<K: Keeper> Office<K> {
         list: &[u8],
     ) -> Result<RequestAnswer, OfficeError>
         ensures goes { K.is_clean (keeper_of self.new) → Goes (Stands self.old) (Stands self.new) (Event.Load caller.now key.now list.now) (told_so result) }
-        ensures crash { K.is_clean (keeper_of self.new) → Goes (StandsInCrash self.old) (StandsInCrash self.new) (Event.Load caller.now key.now list.now) (told_so result) }
+        ensures leaves { K.is_clean (keeper_of self.new) → LeavesSo self.old self.new (Event.Load caller.now key.now list.now) (told_so result) }
         ensures cause { IfErr result (λ e. IsOfStore (CauseFrom self.old self.new) e) }
         ensures counted { K.refused (keeper_of self.old) ≤ K.refused (keeper_of self.new) }
         ensures same { is_refusal (told_so result) ≡ true → IsAlike self.old self.new }
@@ -207,7 +203,7 @@ impl<K: Keeper> Office<K> {
         list: &[u8],
     ) -> Result<RequestAnswer, OfficeError>
         ensures goes { K.is_clean (keeper_of self.new) → Goes (StandsUnused self.old (caller.now, key.now)) (Stands self.new) (Event.Load caller.now key.now list.now) (told_so result) }
-        ensures crash { K.is_clean (keeper_of self.new) → Goes (StandsInCrashUnused self.old (caller.now, key.now)) (StandsInCrash self.new) (Event.Load caller.now key.now list.now) (told_so result) }
+        ensures leaves { K.is_clean (keeper_of self.new) → LeavesUnused (caller.now, key.now) self.old self.new (Event.Load caller.now key.now list.now) (told_so result) }
         ensures cause { IfErr result (λ e. IsOfStore (CauseFrom self.old self.new) e) }
         ensures counted { K.refused (keeper_of self.old) ≤ K.refused (keeper_of self.new) }
         ensures same { is_refusal (told_so result) ≡ true → IsAlike self.old self.new }
@@ -238,7 +234,7 @@ impl<K: Keeper> Office<K> {
         value: i128,
     ) -> Result<RequestAnswer, OfficeError>
         ensures goes { K.is_clean (keeper_of self.new) → Goes (Stands self.old) (Stands self.new) (Event.Order caller.now key.now point.now value) (told_so result) }
-        ensures crash { K.is_clean (keeper_of self.new) → Goes (StandsInCrash self.old) (StandsInCrash self.new) (Event.Order caller.now key.now point.now value) (told_so result) }
+        ensures leaves { K.is_clean (keeper_of self.new) → LeavesSo self.old self.new (Event.Order caller.now key.now point.now value) (told_so result) }
         ensures cause { IfErr result (λ e. IsOfStore (CauseFrom self.old self.new) e) }
         ensures counted { K.refused (keeper_of self.old) ≤ K.refused (keeper_of self.new) }
         ensures same { is_refusal (told_so result) ≡ true → IsAlike self.old self.new }
@@ -259,7 +255,7 @@ impl<K: Keeper> Office<K> {
         value: i128,
     ) -> Result<RequestAnswer, OfficeError>
         ensures goes { K.is_clean (keeper_of self.new) → Goes (StandsUnused self.old (caller.now, key.now)) (Stands self.new) (Event.Order caller.now key.now point.now value) (told_so result) }
-        ensures crash { K.is_clean (keeper_of self.new) → Goes (StandsInCrashUnused self.old (caller.now, key.now)) (StandsInCrash self.new) (Event.Order caller.now key.now point.now value) (told_so result) }
+        ensures leaves { K.is_clean (keeper_of self.new) → LeavesUnused (caller.now, key.now) self.old self.new (Event.Order caller.now key.now point.now value) (told_so result) }
         ensures cause { IfErr result (λ e. IsOfStore (CauseFrom self.old self.new) e) }
         ensures counted { K.refused (keeper_of self.old) ≤ K.refused (keeper_of self.new) }
         ensures same { is_refusal (told_so result) ≡ true → IsAlike self.old self.new }
@@ -286,7 +282,7 @@ impl<K: Keeper> Office<K> {
     /// left, and `Store`: then the former connection stays open, and the number isn't used.
     pub fn open_line(&mut self, line: &str) -> Result<Conn, OfficeError>
         ensures goes { K.is_clean (keeper_of self.new) → Goes (Stands self.old) (Stands self.new) (Event.Open line.now) (opened result) }
-        ensures crash { K.is_clean (keeper_of self.new) → Goes (StandsInCrash self.old) (StandsInCrash self.new) (Event.Open line.now) (opened result) }
+        ensures leaves { K.is_clean (keeper_of self.new) → LeavesSo self.old self.new (Event.Open line.now) (opened result) }
         ensures cause { IfErr result (λ e. IsCaused (CauseFrom self.old self.new) e) }
         ensures counted { K.refused (keeper_of self.old) ≤ K.refused (keeper_of self.new) }
         ensures same { OnErr result (IsAlike self.old self.new) }
@@ -323,7 +319,7 @@ impl<K: Keeper> Office<K> {
         read: Read,
     ) -> Result<Frame, OfficeError>
         ensures goes { K.is_clean (keeper_of self.new) → Goes (Stands self.old) (Stands self.new) (Event.Ask conn device.now slot read) (asked_so result) }
-        ensures crash { K.is_clean (keeper_of self.new) → Goes (StandsInCrash self.old) (StandsInCrash self.new) (Event.Ask conn device.now slot read) (asked_so result) }
+        ensures leaves { K.is_clean (keeper_of self.new) → LeavesSo self.old self.new (Event.Ask conn device.now slot read) (asked_so result) }
         ensures cause { IfErr result (λ e. IsCaused (CauseFrom self.old self.new) e) }
         ensures same { OnErr result (IsAlike self.old self.new) }
         ensures keeper { keeper_of self.new ≡ keeper_of self.old }
@@ -346,7 +342,7 @@ impl<K: Keeper> Office<K> {
     /// older order waits on that device; `Exhausted`; and `Store`.
     pub fn send_order(&mut self, conn: Conn, number: u32) -> Result<Frame, OfficeError>
         ensures goes { K.is_clean (keeper_of self.new) → Goes (Stands self.old) (Stands self.new) (Event.Send conn number) (asked_so result) }
-        ensures crash { K.is_clean (keeper_of self.new) → Goes (StandsInCrash self.old) (StandsInCrash self.new) (Event.Send conn number) (asked_so result) }
+        ensures leaves { K.is_clean (keeper_of self.new) → LeavesSo self.old self.new (Event.Send conn number) (asked_so result) }
         ensures cause { IfErr result (λ e. IsCaused (CauseFrom self.old self.new) e) }
         ensures counted { K.refused (keeper_of self.old) ≤ K.refused (keeper_of self.new) }
         ensures same { OnErr result (IsAlike self.old self.new) }
@@ -364,7 +360,7 @@ impl<K: Keeper> Office<K> {
     /// are the refusals, in this order, then `Store`: the query stays open then.
     pub fn arrive(&mut self, conn: Conn, frame: &Frame) -> Result<Arrival, OfficeError>
         ensures goes { K.is_clean (keeper_of self.new) → Goes (Stands self.old) (Stands self.new) (Event.Arrive conn frame.now) (arrived result) }
-        ensures crash { K.is_clean (keeper_of self.new) → Goes (StandsInCrash self.old) (StandsInCrash self.new) (Event.Arrive conn frame.now) (arrived result) }
+        ensures leaves { K.is_clean (keeper_of self.new) → LeavesSo self.old self.new (Event.Arrive conn frame.now) (arrived result) }
         ensures cause { IfErr result (λ e. IsCaused (CauseFrom self.old self.new) e) }
         ensures counted { K.refused (keeper_of self.old) ≤ K.refused (keeper_of self.new) }
         ensures same { OnErr result (IsAlike self.old self.new) }
@@ -386,7 +382,7 @@ impl<K: Keeper> Office<K> {
     /// Closes all connections, as a new start with the same site does.
     pub fn restart(&mut self)
         ensures goes { Goes (Stands self.old) (Stands self.new) Event.Restart EventAnswer.Restarted }
-        ensures crash { Goes (StandsInCrash self.old) (StandsInCrash self.new) Event.Restart EventAnswer.Restarted }
+        ensures leaves { LeavesSo self.old self.new Event.Restart EventAnswer.Restarted }
         ensures keeper { keeper_of self.new ≡ keeper_of self.old }
     {
         self.matcher.close_all();
@@ -395,7 +391,7 @@ impl<K: Keeper> Office<K> {
     /// One event, answered as the call of its name answers it.
     pub fn step(&mut self, event: &Event) -> EventAnswer
         ensures goes { K.is_clean (keeper_of self.new) → Goes (Stands self.old) (Stands self.new) event.now result }
-        ensures crash { K.is_clean (keeper_of self.new) → Goes (StandsInCrash self.old) (StandsInCrash self.new) event.now result }
+        ensures leaves { K.is_clean (keeper_of self.new) → LeavesSo self.old self.new event.now result }
         ensures cause { AnswerCaused (CauseFrom self.old self.new) result }
         ensures counted { K.refused (keeper_of self.old) ≤ K.refused (keeper_of self.new) }
         ensures same { is_refusal result ≡ true → IsAlike self.old self.new }
@@ -425,7 +421,7 @@ impl<K: Keeper> Office<K> {
     pub fn run(&mut self, events: &[Event]) -> Result<Vec<EventAnswer>, AllocError>
         ensures each { IfOk result (λ told. length told.items ≡ length events.now) }
         ensures runs { K.is_clean (keeper_of self.new) → IfOk result (λ told. Runs (Stands self.old) (Stands self.new) events.now told.items) }
-        ensures crash { K.is_clean (keeper_of self.new) → IfOk result (λ told. Runs (StandsInCrash self.old) (StandsInCrash self.new) events.now told.items) }
+        ensures leaves { K.is_clean (keeper_of self.new) → IfOk result (λ told. LeavesRun self.old self.new events.now told.items) }
         ensures cause { IfOk result (λ told. All (AnswerCaused (CauseFrom self.old self.new)) told.items) }
         ensures counted { K.refused (keeper_of self.old) ≤ K.refused (keeper_of self.new) }
         ensures clean { K.is_clean (keeper_of self.new) → K.is_clean (keeper_of self.old) }
@@ -451,6 +447,7 @@ impl<K: Keeper> Office<K> {
         ensures cause { IfErr result (λ e. IsOfStore (CauseFrom self.old self.new) e) }
         ensures counted { K.refused (keeper_of self.old) ≤ K.refused (keeper_of self.new) }
         ensures same { IsAlike self.old self.new }
+        ensures leaves { K.is_clean (keeper_of self.new) → LeavesNoMore self.old self.new }
         ensures clean { K.is_clean (keeper_of self.new) → K.is_clean (keeper_of self.old) }
     {
         let Some(row) = known_named(&self.points, point.as_bytes()) else {
@@ -468,6 +465,7 @@ impl<K: Keeper> Office<K> {
         ensures cause { IfErr result (λ e. IsOfStore (CauseFrom self.old self.new) e) }
         ensures counted { K.refused (keeper_of self.old) ≤ K.refused (keeper_of self.new) }
         ensures same { IsAlike self.old self.new }
+        ensures leaves { K.is_clean (keeper_of self.new) → LeavesNoMore self.old self.new }
         ensures clean { K.is_clean (keeper_of self.new) → K.is_clean (keeper_of self.old) }
     {
         let Some(row) = known_named(&self.points, point.as_bytes()) else {
@@ -487,6 +485,7 @@ impl<K: Keeper> Office<K> {
         ensures cause { IfErr result (λ e. IsOfStore (CauseFrom self.old self.new) e) }
         ensures counted { K.refused (keeper_of self.old) ≤ K.refused (keeper_of self.new) }
         ensures same { IsAlike self.old self.new }
+        ensures leaves { K.is_clean (keeper_of self.new) → LeavesNoMore self.old self.new }
         ensures clean { K.is_clean (keeper_of self.new) → K.is_clean (keeper_of self.old) }
     {
         Ok(former(self.alloc, &mut self.keeper, caller, key)?)
@@ -499,6 +498,7 @@ impl<K: Keeper> Office<K> {
         ensures cause { IfErr result (λ e. IsOfStore (CauseFrom self.old self.new) e) }
         ensures counted { K.refused (keeper_of self.old) ≤ K.refused (keeper_of self.new) }
         ensures same { IsAlike self.old self.new }
+        ensures leaves { K.is_clean (keeper_of self.new) → LeavesNoMore self.old self.new }
         ensures clean { K.is_clean (keeper_of self.new) → K.is_clean (keeper_of self.old) }
     {
         match self.keeper.setting(number)? {
@@ -514,6 +514,7 @@ impl<K: Keeper> Office<K> {
         ensures cause { IfErr result (λ e. IsOfStore (CauseFrom self.old self.new) e) }
         ensures counted { K.refused (keeper_of self.old) ≤ K.refused (keeper_of self.new) }
         ensures same { IsAlike self.old self.new }
+        ensures leaves { K.is_clean (keeper_of self.new) → LeavesNoMore self.old self.new }
         ensures clean { K.is_clean (keeper_of self.new) → K.is_clean (keeper_of self.old) }
     {
         Ok(self.keeper.oldest_waiting(device)?)
@@ -526,6 +527,7 @@ impl<K: Keeper> Office<K> {
         ensures cause { IfErr result (λ e. IsOfStore (CauseFrom self.old self.new) e) }
         ensures counted { K.refused (keeper_of self.old) ≤ K.refused (keeper_of self.new) }
         ensures same { IsAlike self.old self.new }
+        ensures leaves { K.is_clean (keeper_of self.new) → LeavesNoMore self.old self.new }
         ensures clean { K.is_clean (keeper_of self.new) → K.is_clean (keeper_of self.old) }
     {
         Ok(self.keeper.orders()?)

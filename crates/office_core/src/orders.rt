@@ -96,7 +96,7 @@ pub(crate) fn judge_order<K: Keeper>(
         → IfOk result (λ x. x.1 ≡ order.ordering_row (last_order kept.settings) (order.ordering_of (last_order kept.settings) (known_named known.now point.now) value)) }
     ensures cause { Accounts K.may_refuse (K.refused keeper.old) (K.refused keeper.new) result }
     ensures same { Within (K.holds keeper.old) (K.holds keeper.new) }
-    ensures crash { K.is_clean keeper.new → Within (K.may_leave keeper.new) (K.may_leave keeper.old) }
+    ensures leaves { K.is_clean keeper.new → Within (K.may_leave keeper.new) (K.may_leave keeper.old) }
     ensures clean { K.is_clean keeper.new → K.is_clean keeper.old }
 {
     let orders = keeper.orders()?;
@@ -153,7 +153,7 @@ fn is_next<K: Keeper>(keeper: &mut K, device: &str, number: u32) -> Result<bool,
         → IfOk result (λ next. next ≡ order.is_number (oldest_waiting kept.points device.now kept.settings) number) }
     ensures cause { Accounts K.may_refuse (K.refused keeper.old) (K.refused keeper.new) result }
     ensures same { Within (K.holds keeper.old) (K.holds keeper.new) }
-    ensures crash { K.is_clean keeper.new → Within (K.may_leave keeper.new) (K.may_leave keeper.old) }
+    ensures leaves { K.is_clean keeper.new → Within (K.may_leave keeper.new) (K.may_leave keeper.old) }
     ensures clean { K.is_clean keeper.new → K.is_clean keeper.old }
 {
     match keeper.oldest_waiting(device)? {
@@ -179,7 +179,7 @@ pub(crate) fn judge_send<K: Keeper>(
     ensures cause { IfErr result (λ e. IsCaused (HasCause K.may_refuse (K.refused keeper.old) (K.refused keeper.new)) e) }
     ensures counted { K.refused keeper.old ≤ K.refused keeper.new }
     ensures same { Within (K.holds keeper.old) (K.holds keeper.new) }
-    ensures crash { K.is_clean keeper.new → Within (K.may_leave keeper.new) (K.may_leave keeper.old) }
+    ensures leaves { K.is_clean keeper.new → Within (K.may_leave keeper.new) (K.may_leave keeper.old) }
     ensures clean { K.is_clean keeper.new → K.is_clean keeper.old }
 {
     let Some(line) = line else {

@@ -1,11 +1,12 @@
-use Rattle.std.proofs.Common.{◌≡◌, ◌∙◌, subst, sym, ap, rules}
+use Rattle.std.proofs.Common.{◌≡◌, ◌⊎◌, ◌∙◌, false, subst, sym, ap, rules}
 use Rattle.std.specs.Prelude.{length}
-use Rattle.poll_book.specs.Tables.{Readings, new_rows}
+use Rattle.poll_book.specs.Tables.{Readings, Tables, new_rows}
 use Rattle.poll_book.specs.Changes.{AreNumbered, keyed}
 use Rattle.office_core.specs.declared.event.Arrival.TheVariants.{Recorded}
-use Rattle.office_core.specs.Keeping.{Endures, Rises, rows_at, with_given}
+use Rattle.office_core.specs.Keeping.{Rises, brought_read, rows_at, with_given}
+use Rattle.office_core.specs.Leavings.{LeftAfter}
 use Rattle.office_core.proofs.Given.{rises_at, brought_rows, arrival_rows}
-use Rattle.office_core.proofs.Newness.{on_refusal, on_err, unmet}
+use Rattle.office_core.proofs.Newness.{left_refused, on_refusal, on_err, unmet}
 use Rattle.office_core.proofs.arrival.bring_readings.Goals as goal
 
 pub returns-in_err-count-in_default : goal.returns-in_err-count-in_default
@@ -13,15 +14,18 @@ returns-in_err-count-in_default g c =
     let known = c.args.known.now in
     let given = rows_at c.args.site.now known c.args.asking.now c.args.reply.now in
     let is : keyed c.args.asking.now.slot c.deref.result.now ≡ given = ap (keyed c.args.asking.now.slot) (c.deref.ensures.value ∙ c.in_ok-covered-in_default.ensures.rows) in
+    let may = g.K.Neighbours.may_leave c.args.keeper.now in
     let failed = c.from_residual-in_err-count-in_default.ensures.0 in
     record {
       told = λ clean kept h. unmet _ c.from_residual-in_err-count-in_default.result failed;
       kept = λ clean kept h copy. on_refusal _ c.from_residual-in_err-count-in_default.result failed
           (c.in_err-count-in_default.ensures.kept clean kept h (subst (AreNumbered 0) copy.0 copy.1)
           (subst (Rises 0) (sym is) (rises_at c.args.site.now known c.args.asking.now c.args.reply.now copy.1)));
-      crash = λ clean kept e copy. on_refusal _ c.from_residual-in_err-count-in_default.result failed
-          (c.in_err-count-in_default.ensures.crash clean kept e (subst (AreNumbered 0) copy.0 copy.1)
-          (subst (Rises 0) (sym is) (rises_at c.args.site.now known c.args.asking.now c.args.reply.now copy.1)));
+      leaves = λ clean kept h copy left m. left_refused may kept (brought_read c.args.site.now known c.args.asking.now c.args.reply.now kept) left
+          c.from_residual-in_err-count-in_default.result failed
+          (subst (λ (t : Tables). may left ⊎ (left ≡ t)) (ap (λ (l : Readings). with_given l kept) is ∙ sym (brought_rows c.args.site.now known c.args.asking.now c.args.reply.now kept c.in_default.not-Excepted))
+          (c.in_err-count-in_default.ensures.leaves clean kept h (subst (AreNumbered 0) copy.0 copy.1)
+          (subst (Rises 0) (sym is) (rises_at c.args.site.now known c.args.asking.now c.args.reply.now copy.1)) left m));
       cause = search rules;
       err = on_err c.from_residual-in_err-count-in_default.result c.in_err-count-in_default.ensures.err;
       clean = c.keep_readings.ensures.clean;
@@ -34,7 +38,7 @@ returns-in_ok-count-in_default g c =
     let query = c.args.asking.now in
     let reply = c.args.reply.now in
     let holds = g.K.Neighbours.holds in
-    let may = g.K.Neighbours.may_leave in
+    let may = g.K.Neighbours.may_leave c.args.keeper.now in
     let given = rows_at site known query reply in
     let is : keyed c.args.asking.now.slot c.deref.result.now ≡ given = ap (keyed c.args.asking.now.slot) (c.deref.ensures.value ∙ c.in_ok-covered-in_default.ensures.rows) in
     record {
@@ -43,10 +47,10 @@ returns-in_ok-count-in_default g c =
       kept = λ clean kept h copy. subst (holds c.keep_readings.new.keeper) (ap (λ (l : Readings). with_given l kept) is ∙ sym (brought_rows site known query reply kept c.in_default.not-Excepted))
           (c.in_ok-count-in_default.ensures.kept clean kept h (subst (AreNumbered 0) copy.0 copy.1)
           (subst (Rises 0) (sym is) (rises_at site known query reply copy.1)));
-      crash = λ clean kept e copy. subst (Endures (holds c.keep_readings.new.keeper) (may c.keep_readings.new.keeper))
+      leaves = λ clean kept h copy left m. subst (λ (t : Tables). LeftAfter may kept t false left)
           (ap (λ (l : Readings). with_given l kept) is ∙ sym (brought_rows site known query reply kept c.in_default.not-Excepted))
-          (c.in_ok-count-in_default.ensures.crash clean kept e (subst (AreNumbered 0) copy.0 copy.1)
-          (subst (Rises 0) (sym is) (rises_at site known query reply copy.1)));
+          (c.in_ok-count-in_default.ensures.leaves clean kept h (subst (AreNumbered 0) copy.0 copy.1)
+          (subst (Rises 0) (sym is) (rises_at site known query reply copy.1)) left m);
       cause = search rules;
       err = tt;
       clean = c.keep_readings.ensures.clean;

@@ -1,8 +1,8 @@
-use Rattle.std.proofs.Common.{◌≡◌, ◌∙◌, sym, subst, ap}
+use Rattle.std.proofs.Common.{◌≡◌, ◌⊎◌, inl, inr, ◌∙◌, sym, subst, ap}
 use Rattle.poll_book.specs.Changes.{IsNew, applied, as_rows, keyed}
 use Rattle.poll_book.specs.Tables.{new_rows}
-use Rattle.office_core.specs.Keeping.{Endures}
-use Rattle.office_core.proofs.Newness.{new_readings, applied_readings, endures_still, on_refusal}
+use Rattle.office_core.specs.Keeping.{with_given}
+use Rattle.office_core.proofs.Newness.{new_readings, applied_readings, left_refused}
 use Rattle.office_core.proofs.commit.keep_readings.Goals as goal
 
 pub returns-clause-kept : goal.returns-clause-kept
@@ -13,27 +13,26 @@ returns-clause-kept g c clean kept h counted rises =
     subst (g.K.Neighbours.holds c.write.new.keeper) (ap (λ x. applied x kept) c.readings_change.ensures ∙ applied_readings added kept given rows)
     (c.in_ok-write.ensures.kept clean kept (c.record.ensures.same kept h) (subst (λ x. IsNew x kept) (sym c.readings_change.ensures) (new_readings added kept given rows counted rises)))
 
-pub returns-clause-crash : goal.returns-clause-crash
-returns-clause-crash g c clean kept e counted rises =
-    let holds = g.K.Neighbours.holds in
-    let may = g.K.Neighbours.may_leave in
+pub returns-clause-leaves : goal.returns-clause-leaves
+returns-clause-leaves g c clean kept h counted rises left m =
     let given = keyed c.args.slot c.args.covered.now in
     let added = c.in_ok-rows.rows.items in
-    let rows : as_rows added ≡ new_rows kept.readings given = c.in_ok-rows.ensures.value (c.write.ensures.clean clean) kept e.0 in
-    let still = endures_still (holds c.args.keeper.now) (may c.args.keeper.now) (holds c.record.new.keeper) (may c.record.new.keeper) kept c.record.ensures.same
-    (c.record.ensures.crash (c.write.ensures.clean clean)) e in
-    subst (Endures (holds c.write.new.keeper) (may c.write.new.keeper)) (ap (λ x. applied x kept) c.readings_change.ensures ∙ applied_readings added kept given rows)
-    (c.in_ok-write.ensures.crash clean kept still (subst (λ x. IsNew x kept) (sym c.readings_change.ensures) (new_readings added kept given rows counted rises)))
+    let rows : as_rows added ≡ new_rows kept.readings given = c.in_ok-rows.ensures.value (c.write.ensures.clean clean) kept h in
+    inl (c.in_ok-write.ensures.leaves clean kept (c.record.ensures.same kept h)
+    (subst (λ x. IsNew x kept) (sym c.readings_change.ensures) (new_readings added kept given rows counted rises)) left m
+    ∙ ap (λ x. applied x kept) c.readings_change.ensures ∙ applied_readings added kept given rows)
 
-pub returns-in_err-write-clause-crash : goal.returns-in_err-write-clause-crash
-returns-in_err-write-clause-crash g c clean kept e counted rises =
-    let holds = g.K.Neighbours.holds in
-    let may = g.K.Neighbours.may_leave in
+pub returns-in_err-write-clause-leaves : goal.returns-in_err-write-clause-leaves
+returns-in_err-write-clause-leaves g c clean kept h counted rises left m =
+    let may = g.K.Neighbours.may_leave c.args.keeper.now in
     let given = keyed c.args.slot c.args.covered.now in
     let added = c.in_ok-rows.rows.items in
-    let rows : as_rows added ≡ new_rows kept.readings given = c.in_ok-rows.ensures.value (c.write.ensures.clean clean) kept e.0 in
-    let still = endures_still (holds c.args.keeper.now) (may c.args.keeper.now) (holds c.record.new.keeper) (may c.record.new.keeper) kept c.record.ensures.same
-    (c.record.ensures.crash (c.write.ensures.clean clean)) e in
-    let lost : Endures (holds c.write.new.keeper) (may c.write.new.keeper) kept =
-    c.in_err-write.ensures.crash clean kept still (subst (λ x. IsNew x kept) (sym c.readings_change.ensures) (new_readings added kept given rows counted rises)) in
-    on_refusal _ c.from_residual-in_err-write.result c.from_residual-in_err-write.ensures.0 lost
+    let rows : as_rows added ≡ new_rows kept.readings given = c.in_ok-rows.ensures.value (c.write.ensures.clean clean) kept h in
+    let tried = c.in_err-write.ensures.leaves clean kept (c.record.ensures.same kept h)
+    (subst (λ x. IsNew x kept) (sym c.readings_change.ensures) (new_readings added kept given rows counted rises)) left m in
+    let lost : may left ⊎ (left ≡ with_given given kept) =
+    elim tried [
+      | inl was ↦ inl (c.record.ensures.crash (c.write.ensures.clean clean) left was)
+      | inr made ↦ inr (made ∙ ap (λ x. applied x kept) c.readings_change.ensures ∙ applied_readings added kept given rows)
+    ] in
+    left_refused may kept (with_given given kept) left c.from_residual-in_err-write.result c.from_residual-in_err-write.ensures.0 lost

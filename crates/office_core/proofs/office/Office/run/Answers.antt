@@ -6,10 +6,12 @@ use Rattle.office_core.specs.declared.event.Event.{Event}
 use Rattle.office_core.specs.declared.event.EventAnswer.{EventAnswer}
 use Rattle.office_core.specs.History.{History}
 use Rattle.poll_book.specs.Fault.{HasCause}
-use Rattle.office_core.specs.Keeping.{Endures}
+use Rattle.poll_book.specs.Tables.{Tables}
+use Rattle.office_core.specs.Leavings.{LeavesAll}
 use Rattle.office_core.specs.Offices.{AnswerCaused}
 use Rattle.office_core.specs.Standing.{StandsFor, Runs}
 use Rattle.office_core.proofs.Causing.{answer_within}
+use Rattle.office_core.proofs.LeavingRuns.{StandsAll, none_left, none_stood, one_left, one_stood}
 use Rattle.office_core.proofs.Runs.{none_ran, one_ran}
 use Rattle.office_core.proofs.office.Office.run.Goals as goal
 
@@ -18,7 +20,7 @@ loop-event-init g c =
     let office = c.args.self.now in
     let holds = g.K.Neighbours.holds office.keeper in
     let stands : History → Type 0 = StandsFor holds office.site office.points.items office.matcher in
-    let endures : History → Type 0 = StandsFor (Endures holds (g.K.Neighbours.may_leave office.keeper)) office.site office.points.items office.matcher in
+    let may : Tables → Type 0 = g.K.Neighbours.may_leave office.keeper in
     record {
       each = search rules;
       room = search rules;
@@ -26,7 +28,8 @@ loop-event-init g c =
       counted = search rules;
       clean = λ clean. clean;
       runs = λ _. subst (Runs stands stands []) (sym c.in_ok-told.ensures.items) (none_ran stands);
-      crash = λ _. subst (Runs endures endures []) (sym c.in_ok-told.ensures.items) (none_ran endures);
+      stands = λ _. subst (StandsAll stands stands []) (sym c.in_ok-told.ensures.items) (none_stood stands);
+      leaves = λ _. subst (LeavesAll stands may may []) (sym c.in_ok-told.ensures.items) (none_left stands may);
     }
 
 pub loop-event-preserved : goal.loop-event-preserved
@@ -39,9 +42,6 @@ loop-event-preserved g c =
     let first : History → Type 0 = StandsFor (holds old.keeper) old.site old.points.items old.matcher in
     let middle : History → Type 0 = StandsFor (holds office.keeper) office.site office.points.items office.matcher in
     let last : History → Type 0 = StandsFor (holds next.keeper) next.site next.points.items next.matcher in
-    let first' : History → Type 0 = StandsFor (Endures (holds old.keeper) (may old.keeper)) old.site old.points.items old.matcher in
-    let middle' : History → Type 0 = StandsFor (Endures (holds office.keeper) (may office.keeper)) office.site office.points.items office.matcher in
-    let last' : History → Type 0 = StandsFor (Endures (holds next.keeper) (may next.keeper)) next.site next.points.items next.matcher in
     let may_refuse = g.K.Neighbours.may_refuse in
     let first_count = g.K.Neighbours.refused old.keeper in
     let count = g.K.Neighbours.refused office.keeper in
@@ -67,6 +67,9 @@ loop-event-preserved g c =
       clean = λ clean. c.loop-event.invariant.clean (c.step-answer.ensures.clean clean);
       runs = λ clean. subst (λ (x : List Event × List EventAnswer). Runs first last x.0 x.1) (λ k. (sym more k, sym items k))
           (one_ran first middle last (take i events) told c.event-item.result c.step-answer.result same (c.loop-event.invariant.runs (c.step-answer.ensures.clean clean)) (c.step-answer.ensures.goes clean));
-      crash = λ clean. subst (λ (x : List Event × List EventAnswer). Runs first' last' x.0 x.1) (λ k. (sym more k, sym items k))
-          (one_ran first' middle' last' (take i events) told c.event-item.result c.step-answer.result same (c.loop-event.invariant.crash (c.step-answer.ensures.clean clean)) (c.step-answer.ensures.crash clean));
+      stands = λ clean. subst (λ (x : List Event × List EventAnswer). StandsAll first last x.0 x.1) (λ k. (sym more k, sym items k))
+          (one_stood first middle last (take i events) told c.event-item.result c.step-answer.result same (c.loop-event.invariant.stands (c.step-answer.ensures.clean clean)) (c.step-answer.ensures.goes clean));
+      leaves = λ clean. subst (λ (x : List Event × List EventAnswer). LeavesAll first (may old.keeper) (may next.keeper) x.0 x.1) (λ k. (sym more k, sym items k))
+          (one_left first middle last (take i events) told c.event-item.result c.step-answer.result same (c.loop-event.invariant.stands (c.step-answer.ensures.clean clean))
+          (may old.keeper) (may office.keeper) (may next.keeper) (c.loop-event.invariant.leaves (c.step-answer.ensures.clean clean)) (c.step-answer.ensures.leaves clean));
     }

@@ -1,9 +1,10 @@
 use Rattle.std.proofs.Common.{◌≡◌, ◌≤◌, length, take, vec_len, vec_capacity}
 use Rattle.std.specs.Prelude.{All}
 use Rattle.poll_book.specs.Fault.{HasCause}
-use Rattle.office_core.specs.Keeping.{Endures}
+use Rattle.office_core.specs.Leavings.{LeavesAll}
 use Rattle.office_core.specs.Offices.{AnswerCaused}
 use Rattle.office_core.specs.Standing.{Runs, StandsFor}
+use Rattle.office_core.proofs.LeavingRuns.{StandsAll}
 use Rattle.office_core.proofs.office.Office.run.Given as goal
 
 -- the events so far are a run
@@ -21,8 +22,11 @@ invariant-loop-event g l =
           (StandsFor (holds l.fn.self.keeper) l.fn.self.site l.fn.self.points.items l.fn.self.matcher)
           (StandsFor (holds l.self.keeper) l.self.site l.self.points.items l.self.matcher)
           (take l.event-index l.events) l.told.items;
-      crash : g.K.Neighbours.is_clean l.self.keeper → Runs
-          (StandsFor (Endures (holds l.fn.self.keeper) (may l.fn.self.keeper)) l.fn.self.site l.fn.self.points.items l.fn.self.matcher)
-          (StandsFor (Endures (holds l.self.keeper) (may l.self.keeper)) l.self.site l.self.points.items l.self.matcher)
+      stands : g.K.Neighbours.is_clean l.self.keeper → StandsAll
+          (StandsFor (holds l.fn.self.keeper) l.fn.self.site l.fn.self.points.items l.fn.self.matcher)
+          (StandsFor (holds l.self.keeper) l.self.site l.self.points.items l.self.matcher)
           (take l.event-index l.events) l.told.items;
+      leaves : g.K.Neighbours.is_clean l.self.keeper → LeavesAll
+          (StandsFor (holds l.fn.self.keeper) l.fn.self.site l.fn.self.points.items l.fn.self.matcher)
+          (may l.fn.self.keeper) (may l.self.keeper) (take l.event-index l.events) l.told.items;
     }
