@@ -75,9 +75,9 @@ fn push_readings(
     keeper: &mut MemKeeper,
     known: &PointRow,
 ) -> Result<(), AllocError>
-    requires { HasForm known.now.point × AreOf known.now.point (readings_between known.now.number 0 4294967295 keeper.old.readings) }
-    ensures text { OnOk result (out.new.items ≡ out.old.items ++ reading_lines keeper.old.readings known.now) }
-    ensures same { keeper.new ≡ keeper.old }
+    requires { HasForm known.now.point × AreOf known.now.point (readings_between known.now.number 0 4294967295 keeper.old.0.readings) }
+    ensures text { OnOk result (out.new.items ≡ out.old.items ++ reading_lines keeper.old.0.readings known.now) }
+    ensures same { keeper.new.0 ≡ keeper.old.0 }
 {
     let Ok(rows) = keeper.readings(alloc, known.number, 0, u32::MAX) else {
         return Err(AllocError);
@@ -111,8 +111,8 @@ fn push_total(
     keeper: &mut MemKeeper,
     known: &PointRow,
 ) -> Result<(), AllocError>
-    ensures text { OnOk result (out.new.items ≡ out.old.items ++ total_line keeper.old.readings known.now) }
-    ensures same { keeper.new ≡ keeper.old }
+    ensures text { OnOk result (out.new.items ≡ out.old.items ++ total_line keeper.old.0.readings known.now) }
+    ensures same { keeper.new.0 ≡ keeper.old.0 }
 {
     if known.point.role != Role::Counter {
         return Ok(());
@@ -129,9 +129,9 @@ fn push_all_readings(
     keeper: &mut MemKeeper,
     points: &[PointRow],
 ) -> Result<(), AllocError>
-    requires { All (λ known. HasForm known.point × AreOf known.point (readings_between known.number 0 4294967295 keeper.old.readings)) points.now }
-    ensures text { OnOk result (out.new.items ≡ out.old.items ++ flat_map (reading_lines keeper.old.readings) points.now) }
-    ensures same { keeper.new ≡ keeper.old }
+    requires { All (λ known. HasForm known.point × AreOf known.point (readings_between known.number 0 4294967295 keeper.old.0.readings)) points.now }
+    ensures text { OnOk result (out.new.items ≡ out.old.items ++ flat_map (reading_lines keeper.old.0.readings) points.now) }
+    ensures same { keeper.new.0 ≡ keeper.old.0 }
 {
     for known in points {
         push_readings(alloc, out, keeper, known)?;
@@ -145,8 +145,8 @@ fn push_all_totals(
     keeper: &mut MemKeeper,
     points: &[PointRow],
 ) -> Result<(), AllocError>
-    ensures text { OnOk result (out.new.items ≡ out.old.items ++ flat_map (total_line keeper.old.readings) points.now) }
-    ensures same { keeper.new ≡ keeper.old }
+    ensures text { OnOk result (out.new.items ≡ out.old.items ++ flat_map (total_line keeper.old.0.readings) points.now) }
+    ensures same { keeper.new.0 ≡ keeper.old.0 }
 {
     for known in points {
         push_total(alloc, out, keeper, known)?;
@@ -180,8 +180,8 @@ fn push_order(out: &mut Vec<u8>, number: u32, state: OrderState) -> Result<(), A
 
 /// Writes the line of the order of a number; nothing where there is none.
 fn push_order_of(out: &mut Vec<u8>, keeper: &mut MemKeeper, number: u32) -> Result<(), AllocError>
-    ensures text { OnOk result (out.new.items ≡ out.old.items ++ order_line_of number (setting_at keeper.old.settings number)) }
-    ensures same { keeper.new ≡ keeper.old }
+    ensures text { OnOk result (out.new.items ≡ out.old.items ++ order_line_of number (setting_at keeper.old.0.settings number)) }
+    ensures same { keeper.new.0 ≡ keeper.old.0 }
 {
     match keeper.setting(number) {
         Ok(Some(setting)) => push_order(out, number, setting.state),
@@ -191,8 +191,8 @@ fn push_order_of(out: &mut Vec<u8>, keeper: &mut MemKeeper, number: u32) -> Resu
 }
 
 fn push_all_orders(out: &mut Vec<u8>, keeper: &mut MemKeeper) -> Result<(), AllocError>
-    ensures text { OnOk result (out.new.items ≡ out.old.items ++ order_lines keeper.old.settings) }
-    ensures same { keeper.new ≡ keeper.old }
+    ensures text { OnOk result (out.new.items ≡ out.old.items ++ order_lines keeper.old.0.settings) }
+    ensures same { keeper.new.0 ≡ keeper.old.0 }
 {
     let Ok(last) = keeper.orders() else {
         return Err(AllocError);
@@ -211,8 +211,8 @@ pub(crate) fn push_report(
     out: &mut Vec<u8>,
     keeper: &mut MemKeeper,
 ) -> Result<(), AllocError>
-    requires { IsFitting keeper.old }
-    ensures { OnOk result (out.new.items ≡ out.old.items ++ report_of keeper.old) }
+    requires { IsFitting keeper.old.0 }
+    ensures { OnOk result (out.new.items ≡ out.old.items ++ report_of keeper.old.0) }
 {
     let Ok(points) = keeper.points(alloc) else {
         return Err(AllocError);
