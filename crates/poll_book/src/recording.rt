@@ -25,7 +25,7 @@ pub fn record<N: Neighbours>(
     ensures clean { N.is_clean keeper.new → N.is_clean keeper.old }
     ensures crash { N.is_clean keeper.new → Within (N.may_leave keeper.new) (N.may_leave keeper.old) }
 {
-    let mut rows = Vec::new(alloc);
+    let mut rows = Vec::with_capacity(alloc, covered.len())?;
     for entry in covered {
         let point = &entry.0;
         if keeper.reading(point, slot)?.is_none() {

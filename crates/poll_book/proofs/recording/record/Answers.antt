@@ -6,4 +6,4 @@ returns-in_err-reading-clause-cause g c =
     let refused = g.N.Neighbours.refused in
     let told = c.in_err-reading.ensures in
     accounts_refusal g.N.Neighbours.may_refuse (refused c.args.keeper.now) (refused c.loop-entry.keeper) (refused c.reading.new.self)
-    c.from_residual.result c.in_err-reading.field-0.0 c.from_residual.ensures.1 c.loop-entry.invariant.counted told.cause told.counted
+    c.from_residual-in_err-reading.result c.in_err-reading.field-0.0 c.from_residual-in_err-reading.ensures.1 c.loop-entry.invariant.counted told.cause told.counted
