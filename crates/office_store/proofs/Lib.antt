@@ -1,0 +1,6 @@
+mod Texts
+mod Tables
+mod Numbers
+mod Asking
+mod Queries
+mod Only

@@ -1,0 +1,57 @@
+-- A text that is a SELECT is a query, whatever the tables are.
+use Rattle.std.proofs.Common.{◌≡◌, ℕ, List, Ok, Err, Result, None, refl, sym, ap, ◌+◌, if◌then◌else◌, Bool, true, false}
+use Rattle.sqlite_schema.specs.declared.schema.Schema.{Schema}
+use Rattle.sqlite_schema.specs.declared.command.Command.{Command}
+use Rattle.sqlite_resolve.specs.declared.compiled.Compiled.{Compiled}
+use Rattle.sqlite_resolve.specs.declared.error.CompileError.{CompileError}
+use Rattle.sqlite_syntax.specs.declared.statement.Parsed.{Parsed}
+use Rattle.sqlite_resolve.specs.Lowering.{and_then}
+use Rattle.sqlite_resolve.specs.Compile.{compiled, first, planned, meaning, returning, command, timed, with_command, small}
+use Rattle.sqlite_resolve.specs.declared.error.CompileError.TheVariants.{NoSuchTable}
+use Rattle.sqlite_tied.specs.Compute.{everything}
+use Rattle.office_store.specs.Texts.{version_text}
+use Rattle.sqlite.specs.Listing.{understood, reads_listing, if_select, listing_schema, is_select}
+use Rattle.office_store.specs.Kept.{IsQuery}
+
+abbrev pub ShowsNothing : Result Parsed CompileError → Type 0
+ShowsNothing (Ok p) = (schema : Schema) (base : ℕ) → returning schema base p.statement ≡ Ok None
+ShowsNothing (Err e) = Unit {0}
+
+plan_shows_nothing : (schema : Schema) (p : Parsed) (c : Compiled) → ((base : ℕ) → returning schema base p.statement ≡ Ok None) → and_then (planned schema p) (λ plan. Ok (with_command p plan)) ≡ Ok c → c.returning ≡ None
+unfolding planned meaning
+plan_shows_nothing schema p c none h =
+    let formats = timed schema p.formats p.statement in
+    let base = small p.names + small formats in
+    after (command schema p.formats base p.statement) (rw (none base) at h)
+  where
+    after : (made : Result Command CompileError) → and_then (and_then (and_then made (λ k. Ok (k, None))) (λ found. Ok (timed schema p.formats p.statement, found))) (λ plan. Ok (with_command p plan)) ≡ Ok c → c.returning ≡ None
+    after (Ok k) h = let same : with_command p (timed schema p.formats p.statement, (k, None)) ≡ c = cc in ap (λ (x : Compiled). x.returning) (sym same)
+    after (Err e) h = absurd (cc)
+
+compiled_shows_nothing : (schema : Schema) (sql : List ℕ) (c : Compiled) → ShowsNothing (first sql) → compiled schema sql ≡ Ok c → c.returning ≡ None
+unfolding compiled
+compiled_shows_nothing schema sql c =
+    elim (first sql) as (λ r. ShowsNothing r → and_then r (λ p. and_then (planned schema p) (λ plan. Ok (with_command p plan))) ≡ Ok c → c.returning ≡ None) [
+      | Ok p ↦ λ nothing h. plan_shows_nothing schema p c (nothing schema) h
+      | Err e ↦ λ nothing h. absurd (cc)
+    ]
+
+selected_if : (b : Bool) (d c : Compiled) → ◌≡◌ {A = Result Compiled CompileError} (if b then Ok d else Err NoSuchTable) (Ok c) → ◌≡◌ {A = Result Compiled CompileError} (Ok d) (Ok c)
+selected_if true d c h = h
+selected_if false d c h = absurd (cc)
+
+selected : (r : Result Compiled CompileError) (c : Compiled) → if_select r ≡ Ok c → r ≡ Ok c
+selected (Ok d) c h = selected_if (is_select d.command) d c h
+selected (Err e) c h = absurd (cc)
+
+pub is_query : (sql : List ℕ) → ShowsNothing (first sql) → IsQuery sql
+unfolding understood
+is_query sql nothing schema c =
+    elim (reads_listing schema sql) as (λ b. (if b then if_select (compiled listing_schema sql) else compiled schema sql) ≡ Ok c → c.returning ≡ None) [
+      | true ↦ λ h. compiled_shows_nothing listing_schema sql c nothing (selected _ c h)
+      | false ↦ λ h. compiled_shows_nothing schema sql c nothing h
+    ]
+
+pub version_is_query : IsQuery version_text
+unfolding everything
+version_is_query = is_query version_text (λ schema base. refl)

@@ -1,0 +1,60 @@
+-- What the texts of the statements mean, by running the resolver on them.
+use Rattle.std.proofs.Common.{◌≡◌, Ok, refl, List, [], ◌∷◌, ℕ, codes, pos}
+use Rattle.sqlite.specs.Compile.{table_defined_by}
+use Rattle.sqlite.specs.Listing.{understood}
+use Rattle.sqlite.proofs.Callers.{IsPlain, command_of, statement_of}
+use Rattle.sqlite_tied.specs.Compute.{everything}
+use Rattle.sqlite_value.specs.declared.value.Value.TheVariants.{Null, Int, Text}
+use Rattle.sqlite_sql.specs.Term.{Term, lit}
+use Rattle.sqlite_schema.specs.declared.command.Command.TheVariants.{CreateTable, Insert}
+use Rattle.sqlite_schema.specs.declared.command.Source.TheVariants.{Values}
+use Rattle.sqlite_schema.specs.declared.schema.Schema.{Schema}
+use Rattle.sqlite_catalog.specs.Change.{created}
+use Rattle.office_store.specs.Schema.{meta_text, point_text, reading_text, setting_text, request_text, meta, point, reading, setting, request, no_schema, office_schema}
+use Rattle.office_store.specs.Blank.{first_schema}
+
+pub tables_are : (table_defined_by meta_text ≡ Ok meta) × (table_defined_by point_text ≡ Ok point) × (table_defined_by reading_text ≡ Ok reading) × (table_defined_by setting_text ≡ Ok setting) × (table_defined_by request_text ≡ Ok request)
+unfolding everything
+tables_are = (refl, refl, refl, refl, refl)
+
+abbrev pub one : Schema
+one = created no_schema meta
+
+abbrev pub two : Schema
+two = created one point
+
+abbrev pub four : Schema
+four = created first_schema setting
+
+abbrev pub IsMade : Schema → List ℕ → Type 0
+IsMade schema text = (command_of (understood schema text) ≡ CreateTable) × (statement_of text (understood schema text) ≡ text) × IsPlain (understood schema text)
+
+pub meta_made : IsMade no_schema meta_text
+unfolding understood everything
+meta_made = (refl, refl, (refl, refl))
+
+pub point_made : IsMade one point_text
+unfolding understood everything
+point_made = (refl, refl, (refl, refl))
+
+pub reading_made : IsMade two reading_text
+unfolding understood everything
+reading_made = (refl, refl, (refl, refl))
+
+pub setting_made : IsMade first_schema setting_text
+unfolding understood everything
+setting_made = (refl, refl, (refl, refl))
+
+pub request_made : IsMade four request_text
+unfolding understood everything
+request_made = (refl, refl, (refl, refl))
+
+abbrev pub numbers_text : List ℕ
+numbers_text = codes "INSERT INTO meta(name, value) VALUES ('version', 1), ('connections', 0)"
+
+abbrev pub numbers_terms : List Term
+numbers_terms = lit Null ∷ lit (Text (codes "version")) ∷ lit (Int (pos 1)) ∷ lit Null ∷ lit (Text (codes "connections")) ∷ lit (Int (pos 0)) ∷ []
+
+pub numbers_are : (command_of (understood office_schema numbers_text) ≡ Insert 0 (Values numbers_terms 3)) × IsPlain (understood office_schema numbers_text)
+unfolding understood everything
+numbers_are = (refl, (refl, refl))

@@ -1,0 +1,40 @@
+use Rattle.std.proofs.Common.{◌≡◌, [], inl, inr, Some, ap, subst, ◌∙◌, rules}
+use Rattle.sqlite.specs.Held.{state}
+use Rattle.sqlite.specs.State.{Shown}
+use Rattle.office_store.specs.Texts.{version_text}
+use Rattle.office_store.specs.Rows.{number_of}
+use Rattle.office_store.proofs.Queries.{version_is_query}
+use Rattle.office_store.proofs.Only.{nothing, only}
+use Rattle.office_store.proofs.keeper.SqlKeeper.open.Goals.{then-eq, else-eq}
+use Rattle.office_store.proofs.keeper.SqlKeeper.open.Goals as goal
+
+pub ask-requires-clause-query : goal.ask-requires-clause-query
+ask-requires-clause-query g c = version_is_query
+
+pub returns-in-Err-clause-not_office : goal.returns-in-Err-clause-not_office
+returns-in-Err-clause-not_office g c told clean = elim c.if-eq.branch [
+  | then-eq w ↦ inr (c.in-Err.error, c.in-Err.ensures.fails clean, search rules)
+  | else-eq w ↦ absurd (let no = w.told-is in cc)
+]
+
+pub returns-in-empty-clause-not_office : goal.returns-in-empty-clause-not_office
+returns-in-empty-clause-not_office g c told clean =
+    let none = nothing c.in-Ok.rows.items c.as_slice.result.now c.as_slice.ensures.value c.in-empty.len_below in
+    inl (subst (Shown version_text [] (state g.S.Store c.args.connection) (state g.S.Store c.ask.new.connection)) none (c.in-Ok.ensures.rows clean))
+
+pub returns-then-eq-2-clause-known : goal.returns-then-eq-2-clause-known
+returns-then-eq-2-clause-known g c clean =
+    let row = c.row-item.result in
+    let all = only c.in-Ok.rows.items c.as_slice.result.now row c.as_slice.ensures.value c.in-len1.len_at_least c.in-len1.len_below c.row-item.is in
+    (row, subst (Shown version_text [] (state g.S.Store c.args.connection) (state g.S.Store c.ask.new.connection)) all (c.in-Ok.ensures.rows clean), search rules)
+
+pub returns-in-len1-clause-bad_version : goal.returns-in-len1-clause-bad_version
+returns-in-len1-clause-bad_version g c told clean =
+    let row = c.row-item.result in
+    let all = only c.in-Ok.rows.items c.as_slice.result.now row c.as_slice.ensures.value c.in-len1.len_at_least c.in-len1.len_below c.row-item.is in (
+      row,
+      subst (Shown version_text [] (state g.S.Store c.args.connection) (state g.S.Store c.ask.new.connection)) all (c.in-Ok.ensures.rows clean),
+      λ h.
+          let is : c.number_of.result ≡ Some 1 = c.number_of.ensures ∙ ap number_of c.value_at.ensures ∙ h in
+          absurd (let bad = rw is at c.if-eq-2.ensures in cc),
+    )

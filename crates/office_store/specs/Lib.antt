@@ -1,0 +1,6 @@
+pub mod Schema
+pub mod Rows
+pub mod Kept
+pub mod Faults
+pub mod Blank
+pub mod Texts

@@ -1,0 +1,13 @@
+//! The tables of an office in a database of SQLite.
+#![tactic(auto)]
+
+mod ask;
+mod error;
+mod keeper;
+mod making;
+mod run;
+mod values;
+
+pub use error::StoreError;
+pub use keeper::SqlKeeper;
+pub use making::create;
