@@ -1,6 +1,14 @@
 mod Texts
 mod Tables
-mod Numbers
+mod FirstRows
 mod Asking
 mod Queries
 mod Only
+mod Sorted
+mod Showing
+mod Registers
+mod Comparing
+mod Slots
+mod ByNumber
+mod Counts
+mod Connections

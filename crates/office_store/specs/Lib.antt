@@ -4,3 +4,4 @@ pub mod Kept
 pub mod Faults
 pub mod Blank
 pub mod Texts
+pub mod Counting

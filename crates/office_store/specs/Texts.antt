@@ -3,3 +3,15 @@ use Rattle.std.specs.Prelude.{List, ℕ, codes}
 
 abbrev pub version_text : List ℕ
 version_text = codes "SELECT value FROM meta WHERE name = 'version'"
+
+abbrev pub readings_text : List ℕ
+readings_text = codes "SELECT point, slot, words, counted FROM reading WHERE point = ?1 AND slot >= ?2 AND slot <= ?3 ORDER BY slot"
+
+abbrev pub points_text : List ℕ
+points_text = codes "SELECT number, name, device, tab, addr, kind, len, scale, role, roll FROM point ORDER BY number"
+
+abbrev pub setting_text : List ℕ
+setting_text = codes "SELECT number, point, words, state, code FROM setting WHERE number = ?1 ORDER BY number"
+
+abbrev pub connections_text : List ℕ
+connections_text = codes "SELECT value FROM meta WHERE name = 'connections'"

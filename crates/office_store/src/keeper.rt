@@ -9,11 +9,13 @@ ghost use Rattle.office_store.specs.Faults.{fault_of};
 ghost use Rattle.office_store.specs.Kept.{Keeps};
 ghost use Rattle.office_store.specs.Rows.{number_of};
 ghost use Rattle.office_store.specs.Texts.{version_text};
+ghost use Rattle.poll_book.specs.Fault.{CountsRefusal};
 
 use crate::ask::ask;
 use crate::error::{StoreError, fault_of};
+use crate::readings;
 use crate::values::{number_of, value_at};
-use poll_book::StoreFault;
+use poll_book::{Neighbours, PointRow, Reading, StoreFault};
 use sqlite::{Alter, Connection};
 
 /// A keeper over the tables of a database, which no transaction changes but its own.
@@ -79,5 +81,46 @@ impl<S: Alter> SqlKeeper<S> {
         ensures { result ≡ self.connection }
     {
         self.connection
+    }
+}
+
+/// A call's answer. One that is refused is counted.
+fn counted<T>(refusals: &mut u64, answer: Result<T, StoreFault>) -> Result<T, StoreFault>
+    ensures answer { result ≡ answer }
+    ensures counted { CountsRefusal refusals.old refusals.new result }
+{
+    if answer.is_err() {
+        *refusals = refusals.saturating_add(1);
+    }
+    answer
+}
+
+impl<S: Alter> Neighbours for SqlKeeper<S> {
+    ghost use Rattle.sqlite.specs.Held.{state};
+    ghost use Rattle.sqlite.specs.State.{HasCleanDisk};
+    ghost use Rattle.office_store.specs.Kept.{Holds, MayLeave};
+
+    ghost holds = { λ k. Holds (state S.Store k.connection) };
+
+    ghost is_clean = { λ k. HasCleanDisk (state S.Store k.connection) };
+
+    ghost may_leave = { λ k. MayLeave (state S.Store k.connection) };
+
+    ghost may_refuse = { λ _. Unit {0} };
+
+    ghost refused = { λ k. k.refusals };
+
+    fn reading(&mut self, point: &PointRow, slot: u32) -> Result<Option<Reading>, StoreFault> {
+        let found = readings::reading_at(&mut self.connection, point.number, slot);
+        counted(&mut self.refusals, found)
+    }
+
+    fn total(&mut self, point: &PointRow) -> Result<u128, StoreFault> {
+        let sum = readings::total(&mut self.connection, point);
+        counted(&mut self.refusals, sum)
+    }
+
+    fn refusals(&self) -> u64 {
+        self.refusals
     }
 }

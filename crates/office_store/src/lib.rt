@@ -5,7 +5,11 @@ mod ask;
 mod error;
 mod keeper;
 mod making;
+mod numbers;
+mod points;
+mod readings;
 mod run;
+mod settings;
 mod values;
 
 pub use error::StoreError;

@@ -1,5 +1,5 @@
 use Rattle.sqlite.specs.Held.{state}
-use Rattle.office_store.proofs.Numbers.{puts_numbers}
+use Rattle.office_store.proofs.FirstRows.{puts_numbers}
 use Rattle.office_store.proofs.making.put_numbers.Goals as goal
 
 pub returns-clause-made : goal.returns-clause-made

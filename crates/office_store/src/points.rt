@@ -1,0 +1,138 @@
+//! The table of points.
+
+ghost use Rattle.std.specs.Prelude.{◌≡◌, false, IfOk, Some, map, option_and_then};
+ghost use Rattle.sqlite.specs.Held.{state};
+ghost use Rattle.sqlite.specs.State.{HasCleanDisk};
+ghost use Rattle.sqlite_value.specs.Value.{owned};
+ghost use Rattle.sqlite_value.specs.Order.{column};
+ghost use Rattle.point_list.specs.Name.{is_name};
+ghost use Rattle.point_list.specs.Label.{is_label};
+ghost use Rattle.poll_book.specs.Tables.{Tables};
+ghost use Rattle.office_store.specs.Kept.{Holds, Keeps};
+ghost use Rattle.office_store.specs.Rows.{described, kind_of, number_below, role_coded, shown_point, table_coded, text_that};
+
+use crate::ask::ask;
+use crate::error::fault_of;
+use crate::values::{address_of, byte_of, long_of, number_of, small_of, value_at};
+use mb_pdu::Table;
+use point_list::{Label, Name, Point, Role};
+use poll_book::{PointRow, StoreFault};
+use sqlite::types::ValueRef;
+use sqlite::{Alter, Connection, Row};
+use std::alloc::Global;
+use sunspec::PointType;
+
+fn name_of(value: ValueRef<'_>) -> Option<Name>
+    ensures { result ≡ text_that is_name (owned value.entry) }
+{
+    match value {
+        ValueRef::Text(text) => Name::new(text),
+        _ => None,
+    }
+}
+
+fn label_of(value: ValueRef<'_>) -> Option<Label>
+    ensures { result ≡ text_that is_label (owned value.entry) }
+{
+    match value {
+        ValueRef::Text(text) => Label::new(text),
+        _ => None,
+    }
+}
+
+fn table_of(value: ValueRef<'_>) -> Option<Table>
+    ensures { result ≡ option_and_then table_coded (number_below 256 (owned value.entry)) }
+{
+    match byte_of(value)? {
+        1 => Some(Table::Coil),
+        2 => Some(Table::Discrete),
+        3 => Some(Table::Holding),
+        4 => Some(Table::Input),
+        _ => None,
+    }
+}
+
+fn role_of(value: ValueRef<'_>) -> Option<Role>
+    ensures { result ≡ option_and_then role_coded (number_below 256 (owned value.entry)) }
+{
+    match byte_of(value)? {
+        1 => Some(Role::Gauge),
+        2 => Some(Role::Counter),
+        3 => Some(Role::Setting),
+        _ => None,
+    }
+}
+
+fn kind_of(kind: ValueRef<'_>, len: ValueRef<'_>) -> Option<PointType>
+    ensures { result ≡ kind_of (owned kind.entry) (owned len.entry) }
+{
+    let code = byte_of(kind)?;
+    let registers = byte_of(len)?;
+    match PointType::from_code(code)? {
+        PointType::Str(_) => Some(PointType::Str(registers)),
+        kind => {
+            if kind.registers() == u16::from(registers) {
+                Some(kind)
+            } else {
+                None
+            }
+        }
+    }
+}
+
+fn described(name: Name, device: Label, row: &Row) -> Option<Point>
+    ensures { result ≡ described name device (column row.now 3) (column row.now 4) (column row.now 5) (column row.now 6) (column row.now 7) (column row.now 8) (column row.now 9) }
+{
+    Some(Point {
+        name,
+        device,
+        table: table_of(value_at(row, 3))?,
+        address: address_of(value_at(row, 4))?,
+        kind: kind_of(value_at(row, 5), value_at(row, 6))?,
+        scale: small_of(value_at(row, 7))?,
+        role: role_of(value_at(row, 8))?,
+        roll: long_of(value_at(row, 9))?,
+    })
+}
+
+/// The point that a row of an answer stands for, if it is in the form.
+fn point_of(row: &Row) -> Option<PointRow>
+    ensures { result ≡ shown_point row.now }
+{
+    let number = number_of(value_at(row, 0))?;
+    let name = name_of(value_at(row, 1))?;
+    let device = label_of(value_at(row, 2))?;
+    let point = described(name, device, row)?;
+    Some(PointRow { number, point })
+}
+
+fn all_of(alloc: Global, rows: &Vec<Row>) -> Result<Vec<PointRow>, StoreFault>
+    ensures { IfOk result (λ points. map shown_point rows.now.items ≡ map Some points.items) }
+{
+    let mut points = Vec::new(alloc);
+    for row in rows {
+        points.push(point_of(row).ok_or(StoreFault::Other)?)?;
+    }
+    Ok(points)
+}
+
+/// The points, by their numbers.
+pub(crate) fn all_points<S: Alter>(
+    alloc: Global,
+    connection: &mut Connection<S>,
+) -> Result<Vec<PointRow>, StoreFault>
+    requires { connection.old.in_transaction ≡ false }
+    ensures value { HasCleanDisk (state S.Store connection.new) → (kept : Tables) → Holds (state S.Store connection.old) kept
+        → IfOk result (λ points. points.items ≡ kept.points) }
+    ensures keeps { Keeps (state S.Store connection.old) (state S.Store connection.new) }
+    ensures idle { connection.new.in_transaction ≡ false }
+{
+    match ask(
+        connection,
+        "SELECT number, name, device, tab, addr, kind, len, scale, role, roll FROM point ORDER BY number",
+        &[],
+    ) {
+        Ok(rows) => all_of(alloc, &rows),
+        Err(error) => Err(fault_of(error)),
+    }
+}

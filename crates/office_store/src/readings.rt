@@ -1,0 +1,145 @@
+//! The table of readings.
+
+ghost use Rattle.std.specs.Prelude.{◌≡◌, ◌≤◌, false, IfOk, IfSome, IsTrue, OnOk, Some, map};
+ghost use Rattle.sqlite.specs.Held.{state};
+ghost use Rattle.sqlite.specs.State.{HasCleanDisk};
+ghost use Rattle.poll_book.specs.Tables.{Tables, reading_at, readings_between};
+ghost use Rattle.poll_book.specs.Totals.{step_from, steps, total};
+ghost use Rattle.poll_book.specs.Changes.{as_row, as_rows};
+ghost use Rattle.office_store.specs.Kept.{Holds, Keeps};
+ghost use Rattle.office_store.specs.Rows.{shown_reading};
+ghost use Rattle.office_store.specs.Counting.{number_in, numbers_in};
+
+use crate::ask::ask;
+use crate::error::fault_of;
+use crate::values::{flag_of, number_of, value_at, words_of};
+use point_list::Point;
+use poll_book::{PointRow, Reading, ReadingRow, StoreFault, counted_number, step_between};
+use sqlite::{Alter, Connection, Row, params};
+use std::alloc::Global;
+
+/// The reading that a row of an answer stands for.
+fn reading_of(alloc: Global, row: &Row) -> Result<ReadingRow, StoreFault>
+    ensures { IfOk result (λ reading. shown_reading row.now ≡ Some (as_row reading)) }
+{
+    let point = number_of(value_at(row, 0)).ok_or(StoreFault::Other)?;
+    let slot = number_of(value_at(row, 1)).ok_or(StoreFault::Other)?;
+    let words = words_of(alloc, value_at(row, 2))?;
+    let counted = flag_of(value_at(row, 3)).ok_or(StoreFault::Other)?;
+    Ok(ReadingRow {
+        point,
+        slot,
+        words,
+        counted,
+    })
+}
+
+fn all_of(rows: &Vec<Row>) -> Result<Vec<ReadingRow>, StoreFault>
+    ensures { IfOk result (λ readings. map shown_reading rows.now.items ≡ map Some (as_rows readings.items)) }
+{
+    let alloc = *rows.allocator();
+    let mut readings = Vec::new(alloc);
+    for row in rows {
+        readings.push(reading_of(alloc, row)?)?;
+    }
+    Ok(readings)
+}
+
+/// The readings of a point in the slots from the one to the other, by slot.
+pub(crate) fn readings_between<S: Alter>(
+    connection: &mut Connection<S>,
+    point: u32,
+    from: u32,
+    to: u32,
+) -> Result<Vec<ReadingRow>, StoreFault>
+    requires { connection.old.in_transaction ≡ false }
+    ensures value { HasCleanDisk (state S.Store connection.new) → (kept : Tables) → Holds (state S.Store connection.old) kept
+        → IfOk result (λ rows. as_rows rows.items ≡ readings_between point from to kept.readings) }
+    ensures open { HasCleanDisk (state S.Store connection.new) → OnOk result (IsTrue (state S.Store connection.old).is_open) }
+    ensures keeps { Keeps (state S.Store connection.old) (state S.Store connection.new) }
+    ensures idle { connection.new.in_transaction ≡ false }
+{
+    match ask(
+        connection,
+        "SELECT point, slot, words, counted FROM reading WHERE point = ?1 AND slot >= ?2 AND slot <= ?3 ORDER BY slot",
+        params![point, from, to],
+    ) {
+        Ok(rows) => all_of(&rows),
+        Err(error) => Err(fault_of(error)),
+    }
+}
+
+/// The reading of a point in a slot, if there is one.
+pub(crate) fn reading_at<S: Alter>(
+    connection: &mut Connection<S>,
+    point: u32,
+    slot: u32,
+) -> Result<Option<Reading>, StoreFault>
+    requires { connection.old.in_transaction ≡ false }
+    ensures value { HasCleanDisk (state S.Store connection.new) → (kept : Tables) → Holds (state S.Store connection.old) kept
+        → IfOk result (λ found. found ≡ reading_at kept.readings (point, slot)) }
+    ensures keeps { Keeps (state S.Store connection.old) (state S.Store connection.new) }
+    ensures idle { connection.new.in_transaction ≡ false }
+{
+    let mut rows = readings_between(connection, point, slot, slot)?;
+    rows.truncate(1);
+    Ok(match rows.pop() {
+        Some(row) => Some(Reading {
+            words: row.words,
+            counted: row.counted,
+        }),
+        None => None,
+    })
+}
+
+/// How far a counter went by these readings of it, by slot.
+fn total_of(point: &Point, rows: &[ReadingRow]) -> u128
+    ensures { result ≡ steps point.now.roll (numbers_in point.now rows.now) }
+{
+    let mut last = None;
+    let mut sum = 0;
+    for row in rows {
+        if let Some(number) = number_in(point, row) {
+            sum += step_to(last, number, point.roll) as u128;
+            last = Some(number);
+        }
+    }
+    sum
+}
+
+fn number_in(point: &Point, row: &ReadingRow) -> Option<u64>
+    ensures number { result ≡ number_in point.now row.now }
+    ensures bound { IfSome result (λ number. number ≤ point.now.roll) }
+{
+    if row.counted {
+        counted_number(point, row.words.as_slice())
+    } else {
+        None
+    }
+}
+
+fn step_to(last: Option<u64>, number: u64, roll: u64) -> u64
+    requires before { IfSome last (λ before. before ≤ roll) }
+    requires bound { number ≤ roll }
+    ensures { result ≡ step_from roll last number }
+{
+    match last {
+        Some(before) => step_between(before, number, roll),
+        None => 0,
+    }
+}
+
+/// How far a counter went by its counted readings; 0 for a point that is no counter.
+pub(crate) fn total<S: Alter>(
+    connection: &mut Connection<S>,
+    point: &PointRow,
+) -> Result<u128, StoreFault>
+    requires { connection.old.in_transaction ≡ false }
+    ensures value { HasCleanDisk (state S.Store connection.new) → (kept : Tables) → Holds (state S.Store connection.old) kept
+        → IfOk result (λ sum. sum ≡ total point.now kept.readings) }
+    ensures keeps { Keeps (state S.Store connection.old) (state S.Store connection.new) }
+    ensures idle { connection.new.in_transaction ≡ false }
+{
+    let rows = readings_between(connection, point.number, 0, u32::MAX)?;
+    Ok(total_of(&point.point, &rows))
+}
