@@ -12,3 +12,6 @@ mod Slots
 mod ByNumber
 mod Counts
 mod Connections
+mod Putting
+mod PutReading
+mod NewRows

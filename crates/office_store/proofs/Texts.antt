@@ -5,7 +5,7 @@ use Rattle.sqlite.specs.Listing.{understood}
 use Rattle.sqlite.proofs.Callers.{IsPlain, command_of, statement_of}
 use Rattle.sqlite_tied.specs.Compute.{everything}
 use Rattle.sqlite_value.specs.declared.value.Value.TheVariants.{Null, Int, Text}
-use Rattle.sqlite_sql.specs.Term.{Term, lit}
+use Rattle.sqlite_sql.specs.Term.{Term, lit, col}
 use Rattle.sqlite_schema.specs.declared.command.Command.TheVariants.{CreateTable, Insert}
 use Rattle.sqlite_schema.specs.declared.command.Source.TheVariants.{Values}
 use Rattle.sqlite_schema.specs.declared.schema.Schema.{Schema}
@@ -58,3 +58,13 @@ numbers_terms = lit Null ∷ lit (Text (codes "version")) ∷ lit (Int (pos 1)) 
 pub numbers_are : (command_of (understood office_schema numbers_text) ≡ Insert 0 (Values numbers_terms 3)) × IsPlain (understood office_schema numbers_text)
 unfolding understood everything
 numbers_are = (refl, (refl, refl))
+
+abbrev pub put_reading_text : List ℕ
+put_reading_text = codes "INSERT INTO reading(point, slot, words, counted) VALUES (?1, ?2, ?3, ?4)"
+
+abbrev pub put_reading_terms : List Term
+put_reading_terms = lit Null ∷ col 0 0 ∷ col 0 1 ∷ col 0 2 ∷ col 0 3 ∷ []
+
+pub put_reading_is : (command_of (understood office_schema put_reading_text) ≡ Insert 2 (Values put_reading_terms 5)) × IsPlain (understood office_schema put_reading_text)
+unfolding understood everything
+put_reading_is = (refl, (refl, refl))

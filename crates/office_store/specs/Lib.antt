@@ -5,3 +5,4 @@ pub mod Faults
 pub mod Blank
 pub mod Texts
 pub mod Counting
+pub mod Writing

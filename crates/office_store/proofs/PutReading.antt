@@ -1,0 +1,112 @@
+-- What the insert of a reading adds.
+use Rattle.std.proofs.Common.{◌≡◌, ◌≢◌, ◌⊎◌, inl, inr, ℕ, ℤ, pos, ◌+◌, ◌*◌, ◌<◌, ◌≤◌, ◌^◌, List, [], ◌∷◌, length, Bool, true, false, not, ◌&&◌, None, Some, Ok, Err, Option, Result, refl, sym, ap, ap₂, subst, ◌∙◌, arith, IfOk, OnOk, IsTrue, map, if◌then◌else◌, T}
+use Rattle.std.specs.List.Sorted.{IsPermutation}
+use Rattle.std.specs.FinMap.Entries as rows
+use Rattle.std.proofs.lemmas.Bool.{lt-ltb}
+use Rattle.sqlite_value.specs.declared.value.Value.{Value}
+use Rattle.sqlite_value.specs.declared.value.Value.TheVariants.{Int, Blob}
+use Rattle.sqlite_value.specs.Order.{Row}
+use Rattle.sqlite_trees.specs.Tree.{Trees, put_row}
+use Rattle.sqlite_sql.specs.Term.{eval_all}
+use Rattle.sqlite_schema.specs.declared.schema.Table.{Table}
+use Rattle.sqlite_schema.specs.declared.schema.Keys.TheVariants.{Enforced}
+use Rattle.sqlite_schema.specs.declared.command.Source.TheVariants.{Values}
+use Rattle.sqlite_schema.specs.declared.command.Command.TheVariants.{Insert}
+use Rattle.sqlite_rules.specs.declared.error.Rowids.TheVariants.{Chosen}
+use Rattle.sqlite_rules.specs.Edit.{Edit, edit_of, next_rowid, is_taken, are_fresh, put_all}
+use Rattle.sqlite_rules.specs.Action.{Writes}
+use Rattle.sqlite.specs.declared.error.Error.{Error}
+use Rattle.sqlite.specs.Listing.{understood}
+use Rattle.sqlite.specs.Effect.{Database}
+use Rattle.sqlite.specs.Rows.{Written}
+use Rattle.sqlite.specs.Does.{Tally, Does}
+use Rattle.sqlite.specs.State.{State, mode_of, Executes, Shows}
+use Rattle.sqlite.proofs.Callers.{runs_as, one_step, statement_of}
+use Rattle.poll_book.specs.declared.rows.Reading.{Reading}
+use Rattle.poll_book.specs.Tables.{Key, Tables, key_cmp, reading_at, with_row}
+use Rattle.office_store.specs.Schema.{reading, office_schema}
+use Rattle.office_store.specs.Rows.{stored_reading, stored_point, stored_setting, stored_request, stored_number, flag_of, words_of, register_bytes}
+use Rattle.office_store.specs.Kept.{StandFor}
+use Rattle.office_store.specs.Writing.{Within}
+use Rattle.office_store.proofs.Texts.{put_reading_text, put_reading_terms, put_reading_is}
+use Rattle.office_store.proofs.Tables.{went, same_value}
+use Rattle.office_store.proofs.FirstRows.{cast_null, cast_int}
+use Rattle.office_store.proofs.Putting.{put_entry, put_same}
+use Rattle.office_store.proofs.Registers.{words_back}
+use Rattle.office_store.proofs.Slots.{keys_total}
+
+abbrev reading_table : Table
+reading_table = record reading { tree = 4 }
+
+pub only_free : (b : Bool) → (not b && true) ≡ true → b ≡ false
+only_free true h = absurd (cc)
+only_free false h = refl
+
+module _ (p s : ℕ) (words : List ℕ) (flag : Bool) where
+  abbrev pub values : Row
+  values = Int (pos p) ∷ Int (pos s) ∷ Blob (register_bytes words) ∷ Int (if flag then pos 1 else pos 0) ∷ []
+
+  abbrev added : List Row → Row
+  added all = Int (next_rowid all) ∷ values
+
+  abbrev entry : Key × Reading
+  entry = ((p, s), record { words = words; counted = flag })
+
+  flag_back : (c : Bool) → flag_of (Int (if c then pos 1 else pos 0)) ≡ Some c
+  flag_back true = refl
+  flag_back false = refl
+
+  -- what is written reads back
+  pub entry_added : (all : List Row) → p < 2 ^ 32 → s < 2 ^ 32 → 0 < length words → length words ≤ 125 → stored_reading (added all) ≡ Some entry
+  entry_added all a b some few = rw (lt-ltb p 4294967296 a, lt-ltb s 4294967296 b, words_back words some few, flag_back flag) refl
+
+  pub adds : (old new : State) (base : Database) (kept : Tables) (count : ℕ) → p < 2 ^ 32 → s < 2 ^ 32 → 0 < length words → length words ≤ 125 → Within old base kept → reading_at kept.readings (p, s) ≡ None
+      → Executes put_reading_text values old new (Ok count) → Shows old new new.now old.committed true → Within new base (record kept { readings = with_row (p, s) entry.1 kept.readings })
+  adds old new base kept count a b some few within none h shows =
+      let db = old.now.trees in
+      let command = Insert 2 (Values put_reading_terms 5) in
+      let w = runs_as put_reading_text values old new office_schema within.schema command put_reading_is.0 put_reading_is.1 count h in
+      let text = statement_of put_reading_text (understood office_schema put_reading_text) in
+      let done = went (subst (λ x. Does old.step_limit (mode_of old) values (record old.now { schema = x }) text None command (Ok (w.tally, new.now))) within.schema w.changed) in
+      let now = ap (λ (x : Tally × Database). x.1) (same_value (went (went done.2).2).2) in
+      let given = went done.1 in
+      let written = went (went given.2).2 in
+      let counted = went written.2 in
+      let trees : done.0.trees ≡ written.0 = ap (λ (it : Written). it.trees) (same_value counted.2) ∙ same_value counted.1 in
+      let edit = λ (all : List Row). edit_of db reading_table [] Chosen 0 all in
+      let source : List Row = eval_all put_reading_terms (values ∷ []) ∷ [] in
+      let made = one_step office_schema Enforced db written.0 (edit source) refl (subst (λ all. Writes office_schema Enforced db (edit all) (Ok written.0)) given.1.1 written.1) in
+      let news : (edit source).news ≡ added (db 4) ∷ [] = rw (cast_null, cast_int (pos p), cast_int (pos s), cast_int (if flag then pos 1 else pos 0)) refl in
+      let at = λ (t : ℕ). ap (λ (d : Database). d.trees t) now ∙ ap (λ (x : Trees). x t) trees in
+      let at_four : new.now.trees 4 ≡ put_row (added (db 4)) (db 4) = at 4 ∙ made.rows ∙ ap (put_all (db 4)) news in
+      let free = only_free (is_taken (db 4) (added (db 4))) (subst (λ rs. are_fresh (db 4) rs ≡ true) news made.fresh) in
+      let others = made.tables in
+      let meta = at 0 ∙ others.0 (λ e. absurd (omega (arith, e))) in
+      let points = at 2 ∙ others.1.0 (λ e. absurd (omega (arith, e))) in
+      let settings = at 6 ∙ others.1.1.1.0 (λ e. absurd (omega (arith, e))) in
+      let requests = at 7 ∙ others.1.1.1.1.0 (λ e. absurd (omega (arith, e))) in
+      let was = within.stands in
+      let put = put_entry stored_reading (added (db 4)) entry (entry_added (db 4) a b some few) (db 4) was.readings.entries was.readings.stored free in
+      record {
+        is_open = shows.is_open;
+        inside = shows.mode;
+        schema = ap (λ (d : Database). d.schema) now;
+        committed = shows.committed_is ∙ within.committed;
+        stands = record {
+          points = record { stored = ap (map stored_point) points ∙ was.points.stored; sorted = was.points.sorted };
+          readings = record {
+            entries = put.entries;
+            stored = ap (map stored_reading) at_four ∙ put.stand;
+            same = put_same key_cmp (p, s) entry.1 was.readings.entries put.entries kept.readings was.readings.same none put.same;
+            sorted = rows.is_sorted-put key_cmp keys_total (p, s) entry.1 kept.readings was.readings.sorted;
+          };
+          settings = record { stored = ap (map stored_setting) settings ∙ was.settings.stored; sorted = was.settings.sorted };
+          requests = record { entries = was.requests.entries; stored = ap (map stored_request) requests ∙ was.requests.stored; same = was.requests.same; sorted = was.requests.sorted };
+          numbers = ap (map stored_number) meta ∙ was.numbers;
+        };
+      }
+
+  pub adds_if : (old new : State) (base : Database) (kept : Tables) (r : Result ℕ Error) → p < 2 ^ 32 → s < 2 ^ 32 → 0 < length words → length words ≤ 125 → Within old base kept → reading_at kept.readings (p, s) ≡ None
+      → IfOk r (λ n. Executes put_reading_text values old new (Ok n) × Shows old new new.now old.committed true) → OnOk r (Within new base (record kept { readings = with_row (p, s) entry.1 kept.readings }))
+  adds_if old new base kept (Ok n) a b some few within none h = adds old new base kept n a b some few within none h.0 h.1
+  adds_if old new base kept (Err e) a b some few within none h = tt
