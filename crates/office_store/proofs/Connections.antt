@@ -20,9 +20,9 @@ use Rattle.sqlite.proofs.Callers.{IsPlain, command_of, reads_as, one_permutation
 use Rattle.poll_book.specs.Tables.{Tables}
 use Rattle.office_store.specs.Schema.{office_schema, meta_tree}
 use Rattle.office_store.specs.Texts.{connections_text}
-use Rattle.office_store.specs.Rows.{stored_number, number_of, text_of}
+use Rattle.office_store.specs.Rows.{number_of}
 use Rattle.office_store.specs.Kept.{IsHeld}
-use Rattle.office_store.proofs.Comparing.{and_then_some, map_some, number_is}
+use Rattle.office_store.proofs.Comparing.{number_is}
 use Rattle.office_store.proofs.Showing.{same_some}
 
 abbrev connections_query : Query
@@ -42,32 +42,15 @@ connections_are : (command_of (understood office_schema connections_text) ≡ Se
 unfolding understood everything
 connections_are = (refl, refl, (refl, refl))
 
-text_is : (v : Value) (t : List ℕ) → text_of v ≡ Some t → v ≡ Text t
-text_is (Text s) t h = ap Text (same_some s t h)
-text_is _ t h = absurd (cc)
-
-named : (r : Row) (name : List ℕ) (n : ℕ) → stored_number r ≡ Some (name, n) → (column r 1 ≡ Text name) × (column r 2 ≡ Int (pos n))
-named r name n h =
-    let t = and_then_some _ (text_of (column r 1)) _ h in
-    let k = map_some _ (number_of (column r 2)) _ t.2 in
-    (text_is (column r 1) name (t.1 ∙ ap (λ (x : List ℕ × ℕ). Some x.0) k.2), number_is (2 ^ 32) (column r 2) n (k.1 ∙ ap (λ (x : List ℕ × ℕ). Some x.1) k.2))
-
--- the two rows of the table
-two_rows : (rows : List Row) (a b : List ℕ × ℕ) → map stored_number rows ≡ Some a ∷ Some b ∷ [] → (r : Row) × ((s : Row) × (rows ≡ r ∷ s ∷ []) × (stored_number r ≡ Some a) × (stored_number s ≡ Some b))
-two_rows [] a b h = absurd (cc)
-two_rows (r ∷ []) a b h = absurd (cc)
-two_rows (r ∷ s ∷ []) a b h = let first : stored_number r ≡ Some a = cc in let second : stored_number s ≡ Some b = cc in (r, (s, refl, first, second))
-two_rows (r ∷ s ∷ t ∷ rows) a b h = absurd (cc)
-
-passes_not : is_true (binary (Compare Eq Binary) (Text (codes "version")) (Text (codes "connections"))) ≡ false
+pub passes_not : is_true (binary (Compare Eq Binary) (Text (codes "version")) (Text (codes "connections"))) ≡ false
 unfolding binary
 passes_not = rw (value_cmp-Text (codes "version") (codes "connections")) refl
 
-passes_itself : is_true (binary (Compare Eq Binary) (Text (codes "connections")) (Text (codes "connections"))) ≡ true
+pub passes_itself : is_true (binary (Compare Eq Binary) (Text (codes "connections")) (Text (codes "connections"))) ≡ true
 unfolding binary
 passes_itself = rw (value_cmp-Text (codes "connections") (codes "connections")) refl
 
-second_alone : {X : Type 0} (x y : X) (a b : Bool) → a ≡ false → b ≡ true → (if a then x ∷ [] else []) ++ ((if b then y ∷ [] else []) ++ []) ≡ y ∷ []
+pub second_alone : {X : Type 0} (x y : X) (a b : Bool) → a ≡ false → b ≡ true → (if a then x ∷ [] else []) ++ ((if b then y ∷ [] else []) ++ []) ≡ y ∷ []
 second_alone x y true b h k = absurd (cc)
 second_alone x y false true h k = refl
 second_alone x y false false h k = absurd (cc)
@@ -75,20 +58,16 @@ second_alone x y false false h k = absurd (cc)
 module _ (old new : State) (kept : Tables) (held : IsHeld old kept) where
   pub shows_connections : (rows : List Row) → Shown connections_text [] old new rows → rows ≡ (Int (pos kept.connections) ∷ []) ∷ []
   shows_connections rows shown =
-      let it = two_rows (old.now.trees meta_tree) (codes "version", 1) (codes "connections", kept.connections) held.stands.numbers in
-      let r = it.0 in
-      let s = it.1.0 in
-      let one = named r (codes "version") 1 it.1.2 in
-      let two = named s (codes "connections") kept.connections it.1.3 in
+      let r : Row = Int (pos 1) ∷ Text (codes "version") ∷ Int (pos 1) ∷ [] in
+      let s : Row = Int (pos 2) ∷ Text (codes "connections") ∷ Int (pos kept.connections) ∷ [] in
       let a = (reads_as connections_text [] old new office_schema held.schema (Select (record { lets = []; body = connections_query }) (codes "value" ∷ [])) connections_are.0 connections_are.2 connections_are.1 rows shown).answer Null in
-      let test = λ (v : Value). is_true (binary (Compare Eq Binary) v (Text (codes "connections"))) && true in
-      let fails : test (column r 1) ≡ false = ap test one.0 ∙ ap (λ b. b && true) passes_not in
-      let passes : test (column s 1) ≡ true = ap test two.0 ∙ ap (λ b. b && true) passes_itself in
+      let fails = ap (λ b. b && true) passes_not in
+      let passes = ap (λ b. b && true) passes_itself in
       let all : List Row → List Env = λ rs. flat_map (λ r. if list_all (holds ([] ∷ r ∷ [])) connections_query.filter then ([] ∷ r ∷ []) ∷ [] else []) rs in
-      let staged : a.staged ≡ ([] ∷ s ∷ []) ∷ [] = a.grouped ∙ ap all it.1.1 ∙ second_alone ([] ∷ r ∷ []) ([] ∷ s ∷ []) (test (column r 1)) (test (column s 1)) fails passes in
+      let staged : a.staged ≡ ([] ∷ s ∷ []) ∷ [] = a.grouped ∙ ap all held.stands.numbers ∙ second_alone ([] ∷ r ∷ []) ([] ∷ s ∷ []) _ _ fails passes in
       let kept_is : a.kept ≡ output connections_query ([] ∷ s ∷ []) ∷ [] = a.distinct ∙ ap (map (output connections_query)) staged in
       let sorted = one_permutation (output connections_query ([] ∷ s ∷ [])) a.ordered (subst (λ k. IsPermutation k a.ordered) kept_is a.same) in
-      a.shown ∙ ap (map (λ (o : Output). o.1)) sorted ∙ ap (λ v. (v ∷ []) ∷ []) two.1
+      a.shown ∙ ap (map (λ (o : Output). o.1)) sorted
 
   pub last_is : (row : Row) → Shown connections_text [] old new (row ∷ []) → (n : ℕ) → number_of (column row 0) ≡ Some n → n ≡ kept.connections
   last_is row shown n some =

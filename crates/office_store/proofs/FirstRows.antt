@@ -25,8 +25,8 @@ use Rattle.sqlite.proofs.Callers.{runs_as, one_step, statement_of}
 use Rattle.poll_book.specs.Tables.{no_tables}
 use Rattle.office_store.specs.Schema.{meta, office_schema}
 use Rattle.office_store.specs.Blank.{AreBlank}
-use Rattle.office_store.specs.Rows.{stored_number, stored_point, stored_reading, stored_setting, stored_request}
-use Rattle.office_store.specs.Kept.{StandFor}
+use Rattle.office_store.specs.Rows.{stored_point, stored_reading, stored_setting, stored_request}
+use Rattle.office_store.specs.Kept.{StandFor, number_rows}
 use Rattle.office_store.proofs.Texts.{numbers_text, numbers_terms, numbers_are}
 use Rattle.office_store.proofs.Tables.{went, same_value}
 
@@ -43,7 +43,7 @@ unfolding unary
 cast_int n = either _ (Int n)
 
 abbrev first_rows : List Row
-first_rows = (Int (pos 1) ∷ Text (codes "version") ∷ Int (pos 1) ∷ []) ∷ (Int (pos 2) ∷ Text (codes "connections") ∷ Int (pos 0) ∷ []) ∷ []
+first_rows = number_rows 0
 
 abbrev source : List Row
 source = (Null ∷ Text (codes "version") ∷ Int (pos 1) ∷ []) ∷ (Null ∷ Text (codes "connections") ∷ Int (pos 0) ∷ []) ∷ []
@@ -87,6 +87,6 @@ puts_numbers old new (Ok count) blank h =
         readings = record { entries = []; stored = ap (map stored_reading) readings; same = IsPermutation-refl []; sorted = tt };
         settings = record { stored = ap (map stored_setting) settings; sorted = tt };
         requests = record { entries = []; stored = ap (map stored_request) requests; same = IsPermutation-refl []; sorted = tt };
-        numbers = ap (map stored_number) (at 0 ∙ made.rows ∙ filled db blank.meta);
+        numbers = at 0 ∙ made.rows ∙ filled db blank.meta;
       },
     )

@@ -15,3 +15,4 @@ mod Connections
 mod Putting
 mod PutReading
 mod NewRows
+mod PutNumber

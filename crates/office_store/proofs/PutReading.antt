@@ -25,7 +25,7 @@ use Rattle.sqlite.proofs.Callers.{runs_as, one_step, statement_of}
 use Rattle.poll_book.specs.declared.rows.Reading.{Reading}
 use Rattle.poll_book.specs.Tables.{Key, Tables, key_cmp, reading_at, with_row}
 use Rattle.office_store.specs.Schema.{reading, office_schema}
-use Rattle.office_store.specs.Rows.{stored_reading, stored_point, stored_setting, stored_request, stored_number, flag_of, words_of, register_bytes}
+use Rattle.office_store.specs.Rows.{stored_reading, stored_point, stored_setting, stored_request, flag_of, words_of, register_bytes}
 use Rattle.office_store.specs.Kept.{StandFor}
 use Rattle.office_store.specs.Writing.{Within}
 use Rattle.office_store.proofs.Texts.{put_reading_text, put_reading_terms, put_reading_is}
@@ -102,7 +102,7 @@ module _ (p s : ℕ) (words : List ℕ) (flag : Bool) where
           };
           settings = record { stored = ap (map stored_setting) settings ∙ was.settings.stored; sorted = was.settings.sorted };
           requests = record { entries = was.requests.entries; stored = ap (map stored_request) requests ∙ was.requests.stored; same = was.requests.same; sorted = was.requests.sorted };
-          numbers = ap (map stored_number) meta ∙ was.numbers;
+          numbers = meta ∙ was.numbers;
         };
       }
 

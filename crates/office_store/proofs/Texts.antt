@@ -1,12 +1,16 @@
 -- What the texts of the statements mean, by running the resolver on them.
-use Rattle.std.proofs.Common.{◌≡◌, Ok, refl, List, [], ◌∷◌, ℕ, codes, pos}
+use Rattle.std.proofs.Common.{◌≡◌, Ok, refl, List, [], ◌∷◌, ℕ, codes, pos, None, false, negsuc}
 use Rattle.sqlite.specs.Compile.{table_defined_by}
 use Rattle.sqlite.specs.Listing.{understood}
 use Rattle.sqlite.proofs.Callers.{IsPlain, command_of, statement_of}
 use Rattle.sqlite_tied.specs.Compute.{everything}
 use Rattle.sqlite_value.specs.declared.value.Value.TheVariants.{Null, Int, Text}
-use Rattle.sqlite_sql.specs.Term.{Term, lit, col}
-use Rattle.sqlite_schema.specs.declared.command.Command.TheVariants.{CreateTable, Insert}
+use Rattle.sqlite_sql.specs.Term.{Term, lit, col, op2}
+use Rattle.sqlite_sql.specs.Query.{Query, inner, end}
+use Rattle.sqlite_sql.specs.declared.ops.BinaryOp.TheVariants.{Compare}
+use Rattle.sqlite_sql.specs.declared.ops.CompareOp.TheVariants.{Eq}
+use Rattle.sqlite_value.specs.declared.keys.Collation.TheVariants.{Binary}
+use Rattle.sqlite_schema.specs.declared.command.Command.TheVariants.{CreateTable, Insert, Update}
 use Rattle.sqlite_schema.specs.declared.command.Source.TheVariants.{Values}
 use Rattle.sqlite_schema.specs.declared.schema.Schema.{Schema}
 use Rattle.sqlite_catalog.specs.Change.{created}
@@ -68,3 +72,23 @@ put_reading_terms = lit Null ∷ col 0 0 ∷ col 0 1 ∷ col 0 2 ∷ col 0 3 ∷
 pub put_reading_is : (command_of (understood office_schema put_reading_text) ≡ Insert 2 (Values put_reading_terms 5)) × IsPlain (understood office_schema put_reading_text)
 unfolding understood everything
 put_reading_is = (refl, (refl, refl))
+
+abbrev pub put_connection_text : List ℕ
+put_connection_text = codes "UPDATE meta SET value = ?1 WHERE name = 'connections'"
+
+abbrev pub put_connection_query : Query
+put_connection_query = record {
+  from = inner 0 end;
+  filter = op2 (Compare Eq Binary) (col 1 1) (lit (Text (codes "connections"))) ∷ [];
+  group = None;
+  project = col 1 0 ∷ col 1 0 ∷ col 1 1 ∷ col 0 0 ∷ [];
+  distinct = false;
+  collations = [];
+  order = [];
+  limit = lit (Int (negsuc 0));
+  offset = lit (Int (pos 0));
+}
+
+pub put_connection_is : (command_of (understood office_schema put_connection_text) ≡ Update 0 (record { lets = []; body = put_connection_query })) × IsPlain (understood office_schema put_connection_text)
+unfolding understood everything
+put_connection_is = (refl, (refl, refl))

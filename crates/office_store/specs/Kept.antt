@@ -1,9 +1,11 @@
 -- What tables of a store stand for, and what a crash leaves of them.
-use Rattle.std.specs.Prelude.{◌≡◌, ℕ, List, [], ◌∷◌, map, Some, None, Ok, IsTrue, T, IsPermutation, codes}
+use Rattle.std.specs.Prelude.{◌≡◌, ℕ, pos, List, [], ◌∷◌, map, Some, None, Ok, IsTrue, T, IsPermutation, codes}
 use Rattle.std.specs.FinMap.Entries.{is_sorted}
 use Rattle.std.specs.Ordering.{nat_cmp}
 use Rattle.sqlite_schema.specs.declared.schema.Schema.{Schema}
 use Rattle.sqlite_resolve.specs.declared.compiled.Compiled.{Compiled}
+use Rattle.sqlite_value.specs.declared.value.Value.TheVariants.{Int, Text}
+use Rattle.sqlite_value.specs.Order.{Row}
 use Rattle.sqlite_trees.specs.Tree.{Trees}
 use Rattle.sqlite.specs.Listing.{understood}
 use Rattle.sqlite.specs.State.{State, HasCleanDisk}
@@ -12,7 +14,7 @@ use Rattle.poll_book.specs.Tables.{Tables, Readings, key_cmp}
 use Rattle.poll_book.specs.Orders.{Settings}
 use Rattle.poll_book.specs.Requests.{Requests, request_cmp}
 use Rattle.office_store.specs.Schema.{office_schema, meta_tree, point_tree, reading_tree, setting_tree, request_tree}
-use Rattle.office_store.specs.Rows.{stored_point, stored_reading, stored_setting, stored_request, stored_number}
+use Rattle.office_store.specs.Rows.{stored_point, stored_reading, stored_setting, stored_request}
 
 -- each row of the table stands for its entry, and the map has these entries, in the order of their keys
 pub record AreReadings (db : Trees) (kept : Readings) : Type 0 where
@@ -37,8 +39,11 @@ pub record AreSettings (db : Trees) (kept : Settings) : Type 0 where
   pub sorted : T (is_sorted nat_cmp kept)
 
 -- the version, and the number of the last connection
+abbrev pub number_rows : ℕ → List Row
+number_rows connections = (Int (pos 1) ∷ Text (codes "version") ∷ Int (pos 1) ∷ []) ∷ (Int (pos 2) ∷ Text (codes "connections") ∷ Int (pos connections) ∷ []) ∷ []
+
 abbrev pub AreNumbers : Trees → ℕ → Type 0
-AreNumbers db connections = map stored_number (db meta_tree) ≡ Some (codes "version", 1) ∷ Some (codes "connections", connections) ∷ []
+AreNumbers db connections = db meta_tree ≡ number_rows connections
 
 -- the rows of the tables stand for these five parts, and nothing else is there
 pub record StandFor (db : Trees) (kept : Tables) : Type 0 where

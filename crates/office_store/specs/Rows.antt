@@ -52,10 +52,6 @@ abbrev pub flag_of : Value → Option Bool
 flag_of (Int (pos n)) = if n == 0 then Some false else (if n == 1 then Some true else None)
 flag_of _ = None
 
-abbrev pub text_of : Value → Option (List ℕ)
-text_of (Text t) = Some t
-text_of _ = None
-
 abbrev pub bytes_of : Value → Option (List ℕ)
 bytes_of (Blob b) = Some b
 bytes_of _ = None
@@ -190,8 +186,3 @@ request_from at r =
 
 abbrev pub stored_request : Row → Option (RequestKey × Request)
 stored_request = request_from 1
-
--- ---- numbers with names
-
-abbrev pub stored_number : Row → Option (List ℕ × ℕ)
-stored_number r = option_and_then (λ name. option_map (λ n. (name, n)) (number_of (column r 2))) (text_of (column r 1))

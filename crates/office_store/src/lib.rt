@@ -11,6 +11,7 @@ mod readings;
 mod run;
 mod settings;
 mod values;
+mod write_numbers;
 mod write_readings;
 
 pub use error::StoreError;

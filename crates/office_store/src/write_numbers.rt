@@ -1,0 +1,29 @@
+//! Numbers with names are written.
+
+ghost use Rattle.std.specs.Prelude.{◌≡◌, OnOk};
+ghost use Rattle.sqlite.specs.Effect.{Database};
+ghost use Rattle.sqlite.specs.Held.{state};
+ghost use Rattle.sqlite.specs.State.{HasCleanDisk, KeepsCommit, Survives};
+ghost use Rattle.poll_book.specs.Tables.{Tables};
+ghost use Rattle.office_store.specs.Writing.{Within};
+
+use crate::run::run;
+use sqlite::{Alter, Error, Transaction, params};
+
+/// Writes the number of the last connection.
+pub(crate) fn put_connection<S: Alter>(
+    tx: &mut Transaction<'_, S>,
+    number: u32,
+) -> Result<usize, Error>
+    ensures same_reference { tx.new.conn.ghost_name ≡ tx.old.conn.ghost_name }
+    ensures put { HasCleanDisk (state S.Store tx.new.conn.now) → (base : Database) → (kept : Tables) → Within (state S.Store tx.old.conn.now) base kept
+        → OnOk result (Within (state S.Store tx.new.conn.now) base (record kept { connections = number })) }
+    ensures kept { HasCleanDisk (state S.Store tx.new.conn.now) → KeepsCommit (state S.Store tx.old.conn.now) (state S.Store tx.new.conn.now) }
+    ensures survives { Survives (state S.Store tx.old.conn.now) (state S.Store tx.new.conn.now) (λ _. ⊥) }
+{
+    run(
+        tx,
+        "UPDATE meta SET value = ?1 WHERE name = 'connections'",
+        params![number],
+    )
+}
