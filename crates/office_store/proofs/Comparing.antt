@@ -21,7 +21,7 @@ truth_of : (b : Bool) → is_true (from_truth (Some b)) ≡ b
 truth_of true = refl
 truth_of false = refl
 
-ints : (a b : ℕ) → int_cmp (pos a) (pos b) ≡ nat_cmp a b
+pub ints : (a b : ℕ) → int_cmp (pos a) (pos b) ≡ nat_cmp a b
 ints a b = grind (arith, nat_tests)
 
 pub compares : (op : CompareOp) (a b : ℕ) → is_true (binary (Compare op Binary) (Int (pos a)) (Int (pos b))) ≡ test op (nat_cmp a b)

@@ -16,3 +16,5 @@ mod Putting
 mod PutReading
 mod NewRows
 mod PutNumber
+mod Appending
+mod PutSetting

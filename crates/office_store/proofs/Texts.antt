@@ -92,3 +92,13 @@ put_connection_query = record {
 pub put_connection_is : (command_of (understood office_schema put_connection_text) ≡ Update 0 (record { lets = []; body = put_connection_query })) × IsPlain (understood office_schema put_connection_text)
 unfolding understood everything
 put_connection_is = (refl, (refl, refl))
+
+abbrev pub put_setting_text : List ℕ
+put_setting_text = codes "INSERT INTO setting(number, point, words, state, code) VALUES (?1, ?2, ?3, ?4, ?5)"
+
+abbrev pub put_setting_terms : List Term
+put_setting_terms = col 0 0 ∷ lit Null ∷ col 0 1 ∷ col 0 2 ∷ col 0 3 ∷ col 0 4 ∷ []
+
+pub put_setting_is : (command_of (understood office_schema put_setting_text) ≡ Insert 3 (Values put_setting_terms 6)) × IsPlain (understood office_schema put_setting_text)
+unfolding understood everything
+put_setting_is = (refl, (refl, refl))

@@ -6,3 +6,4 @@ pub mod Blank
 pub mod Texts
 pub mod Counting
 pub mod Writing
+pub mod States

@@ -13,6 +13,7 @@ mod settings;
 mod values;
 mod write_numbers;
 mod write_readings;
+mod write_settings;
 
 pub use error::StoreError;
 pub use keeper::SqlKeeper;
