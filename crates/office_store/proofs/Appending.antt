@@ -15,13 +15,13 @@ use Rattle.poll_book.specs.declared.rows.Setting.{Setting}
 use Rattle.office_store.proofs.Comparing.{ints}
 use Rattle.office_store.proofs.Sorted.{true_T, all_map}
 
-less : (a b : ℕ) → a < b → nat_cmp a b ≡ Less
+pub less : (a b : ℕ) → a < b → nat_cmp a b ≡ Less
 less a b h = grind (arith, nat_tests)
 
-greater : (a b : ℕ) → b < a → nat_cmp a b ≡ Greater
+pub greater : (a b : ℕ) → b < a → nat_cmp a b ≡ Greater
 greater a b h = grind (arith, nat_tests)
 
-less_is : (a b : ℕ) → is_lt (nat_cmp a b) ≡ true → a < b
+pub less_is : (a b : ℕ) → is_lt (nat_cmp a b) ≡ true → a < b
 less_is a b h = grind (arith, nat_tests)
 
 module _ {X : Type 0} (stored : Row → Option (ℕ × X)) (key : (r : Row) (e : ℕ × X) → stored r ≡ Some e → column r 0 ≡ Int (pos e.0)) (new : Row) (n : ℕ) (v : X) (at : column new 0 ≡ Int (pos n)) where
@@ -44,11 +44,11 @@ module _ {X : Type 0} (stored : Row → Option (ℕ × X)) (key : (r : Row) (e :
       ap (map stored) (appended all es h low) ∙ map-append stored all (new ∷ []) ∙ ap₂ (λ (a b : List (Option (ℕ × X))). a ++ b) h (ap (λ (o : Option (ℕ × X)). o ∷ []) is)
       ∙ sym (map-append Some es ((n, v) ∷ [])) ∙ ap (map Some) (sym (put_last es low))
 
-first_T : (a b : Bool) → T (a && b) → T a
+pub first_T : (a b : Bool) → T (a && b) → T a
 first_T true b h = tt
 first_T false b h = absurd h
 
-second_T : (a b : Bool) → T (a && b) → T b
+pub second_T : (a b : Bool) → T (a && b) → T b
 second_T true b h = h
 second_T false b h = absurd h
 

@@ -73,7 +73,7 @@ setting_key r e h =
 abbrev sort : {X : Type 0} → ℕ × X → Row
 sort e = Int (pos e.0) ∷ []
 
-alone_and : (b : Bool) → (b && true) ≡ b
+pub alone_and : (b : Bool) → (b && true) ≡ b
 alone_and true = refl
 alone_and false = refl
 

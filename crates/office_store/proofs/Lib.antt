@@ -18,3 +18,5 @@ mod NewRows
 mod PutNumber
 mod Appending
 mod PutSetting
+mod Settling
+mod SettleOrder

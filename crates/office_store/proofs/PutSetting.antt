@@ -44,10 +44,10 @@ use Rattle.poll_book.specs.Orders.{last_order, with_setting}
 use Rattle.std.specs.Cmp.{nat_cmp_total}
 use Rattle.std.specs.Ordering.{nat_cmp}
 
-abbrev setting_table : Table
+abbrev pub setting_table : Table
 setting_table = record setting { tree = 6 }
 
-state_back : (s : OrderState) → code_number s < 256 → state_of (Int (pos (state_number s))) (Int (pos (code_number s))) ≡ Some s
+pub state_back : (s : OrderState) → code_number s < 256 → state_of (Int (pos (state_number s))) (Int (pos (code_number s))) ≡ Some s
 state_back Waiting low = refl
 state_back Done low = refl
 state_back (Refused code) low = rw (lt-ltb code 256 low) refl

@@ -102,3 +102,23 @@ put_setting_terms = col 0 0 ∷ lit Null ∷ col 0 1 ∷ col 0 2 ∷ col 0 3 ∷
 pub put_setting_is : (command_of (understood office_schema put_setting_text) ≡ Insert 3 (Values put_setting_terms 6)) × IsPlain (understood office_schema put_setting_text)
 unfolding understood everything
 put_setting_is = (refl, (refl, refl))
+
+abbrev pub settle_text : List ℕ
+settle_text = codes "UPDATE setting SET state = ?2, code = ?3 WHERE number = ?1"
+
+abbrev pub settle_query : Query
+settle_query = record {
+  from = inner 6 end;
+  filter = op2 (Compare Eq Binary) (col 1 0) (col 0 0) ∷ [];
+  group = None;
+  project = col 1 0 ∷ col 1 0 ∷ lit Null ∷ col 1 2 ∷ col 1 3 ∷ col 0 1 ∷ col 0 2 ∷ [];
+  distinct = false;
+  collations = [];
+  order = [];
+  limit = lit (Int (negsuc 0));
+  offset = lit (Int (pos 0));
+}
+
+pub settle_is : (command_of (understood office_schema settle_text) ≡ Update 3 (record { lets = []; body = settle_query })) × IsPlain (understood office_schema settle_text)
+unfolding understood everything
+settle_is = (refl, (refl, refl))

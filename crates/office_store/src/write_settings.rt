@@ -1,11 +1,12 @@
 //! Rows of settings are written.
 
-ghost use Rattle.std.specs.Prelude.{◌≡◌, ◌+◌, OnOk};
+ghost use Rattle.std.specs.Prelude.{◌≡◌, ◌+◌, OnOk, Some};
 ghost use Rattle.sqlite.specs.Effect.{Database};
 ghost use Rattle.sqlite.specs.Held.{state};
 ghost use Rattle.sqlite.specs.State.{HasCleanDisk, KeepsCommit, Survives};
+ghost use Rattle.poll_book.specs.declared.rows.Setting.{Setting};
 ghost use Rattle.poll_book.specs.Tables.{Tables};
-ghost use Rattle.poll_book.specs.Orders.{last_order, with_setting};
+ghost use Rattle.poll_book.specs.Orders.{last_order, setting_at, with_setting};
 ghost use Rattle.office_store.specs.States.{code_number, state_number};
 ghost use Rattle.office_store.specs.Writing.{Within};
 
@@ -57,6 +58,30 @@ pub(crate) fn put_setting<S: Alter>(
             number,
             point,
             &bytes[..len],
+            u32::from(state_number(standing)),
+            u32::from(code_number(standing))
+        ],
+    )
+}
+
+/// Writes how an order stands that is there.
+pub(crate) fn settle<S: Alter>(
+    tx: &mut Transaction<'_, S>,
+    number: u32,
+    standing: OrderState,
+) -> Result<usize, Error>
+    ensures same_reference { tx.new.conn.ghost_name ≡ tx.old.conn.ghost_name }
+    ensures put { HasCleanDisk (state S.Store tx.new.conn.now) → (base : Database) → (kept : Tables) → (before : Setting) → Within (state S.Store tx.old.conn.now) base kept
+        → setting_at kept.settings number ≡ Some before
+        → OnOk result (Within (state S.Store tx.new.conn.now) base (record kept { settings = with_setting number (record before { state = standing }) kept.settings })) }
+    ensures kept { HasCleanDisk (state S.Store tx.new.conn.now) → KeepsCommit (state S.Store tx.old.conn.now) (state S.Store tx.new.conn.now) }
+    ensures survives { Survives (state S.Store tx.old.conn.now) (state S.Store tx.new.conn.now) (λ _. ⊥) }
+{
+    run(
+        tx,
+        "UPDATE setting SET state = ?2, code = ?3 WHERE number = ?1",
+        params![
+            number,
             u32::from(state_number(standing)),
             u32::from(code_number(standing))
         ],
