@@ -1,9 +1,9 @@
 -- A row that is put after all rows of a table by numbers.
-use Rattle.std.proofs.Common.{◌≡◌, ℕ, pos, ◌+◌, ◌<◌, List, [], ◌∷◌, ◌++◌, map, Bool, true, false, ◌&&◌, None, Some, Option, refl, sym, ap, ap₂, subst, ◌∙◌, arith, T, nat_lt, ◌==◌, cond}
+use Rattle.std.proofs.Common.{◌≡◌, ℕ, pos, ◌+◌, ◌<◌, List, [], ◌∷◌, ◌++◌, map, Bool, true, false, ◌&&◌, Some, Option, refl, sym, ap, ap₂, ◌∙◌, arith, T}
 use Rattle.std.specs.List.{AllByRecursion}
 use Rattle.std.specs.FinMap.Entries as rows
-use Rattle.std.specs.declared.cmp.Ordering.TheVariants.{Less, Equal, Greater}
-use Rattle.std.specs.Ordering.{nat_cmp, is_lt, match_ordering}
+use Rattle.std.specs.declared.cmp.Ordering.TheVariants.{Less, Greater}
+use Rattle.std.specs.Ordering.{nat_cmp, is_lt}
 use Rattle.std.proofs.lemmas.Bool.Decides.{nat_tests}
 use Rattle.std.proofs.lemmas.List.{map-append}
 use Rattle.sqlite_value.specs.declared.value.Value.TheVariants.{Int}
@@ -13,7 +13,7 @@ use Rattle.sqlite_trees.specs.Tree.{put_row}
 use Rattle.poll_book.specs.Orders.{last_order}
 use Rattle.poll_book.specs.declared.rows.Setting.{Setting}
 use Rattle.office_store.proofs.Comparing.{ints}
-use Rattle.office_store.proofs.Sorted.{true_T, all_map}
+use Rattle.office_store.proofs.Sorted.{true_T}
 
 pub less : (a b : ℕ) → a < b → nat_cmp a b ≡ Less
 less a b h = grind (arith, nat_tests)

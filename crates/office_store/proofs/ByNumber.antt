@@ -54,7 +54,7 @@ setting_query = record {
   offset = lit (Int (pos 0));
 }
 
-abbrev setting_names : List (List ℕ)
+abbrev pub setting_names : List (List ℕ)
 setting_names = codes "number" ∷ codes "point" ∷ codes "words" ∷ codes "state" ∷ codes "code" ∷ []
 
 setting_is : (command_of (understood office_schema setting_text) ≡ Select (record { lets = []; body = setting_query }) setting_names) × (reads_listing office_schema setting_text ≡ false) × IsPlain (understood office_schema setting_text)
@@ -70,7 +70,7 @@ setting_key r e h =
     let s = map_some _ (state_of (column r 4) (column r 5)) _ w.2 in
     number_is (2 ^ 32) (column r 0) e.0 (n.1 ∙ ap (λ (x : ℕ × Setting). Some x.0) s.2)
 
-abbrev sort : {X : Type 0} → ℕ × X → Row
+abbrev pub sort : {X : Type 0} → ℕ × X → Row
 sort e = Int (pos e.0) ∷ []
 
 pub alone_and : (b : Bool) → (b && true) ≡ b
@@ -179,7 +179,7 @@ module _ (read : Row → Option PointRow) where
       let tail : map (λ r. option_map numbered (read r)) all ≡ map Some (map numbered points) = cc in
       ap₂ (λ (x : Option PointRow) (xs : List (Option PointRow)). x ∷ xs) (same_point (read r) p head) (as_points all points tail)
 
-all_kept : {X : Type 0} (xs : List X) → filter (λ x. true) xs ≡ xs
+pub all_kept : {X : Type 0} (xs : List X) → filter (λ x. true) xs ≡ xs
 all_kept [] = refl
 all_kept (x ∷ xs) = ap (λ ys. x ∷ ys) (all_kept xs)
 

@@ -59,3 +59,9 @@ and_then_some f None y h = absurd (cc)
 pub map_some : {A B : Type 0} (f : A → B) (o : Option A) (y : B) → option_map f o ≡ Some y → (x : A) × (o ≡ Some x) × (f x ≡ y)
 map_some f (Some x) y h = (x, refl, cc)
 map_some f None y h = absurd (cc)
+
+abbrev pub falling : Key
+falling = record { collation = Binary; descending = true }
+
+pub sorts_down : (s t : ℕ) → is_lt (key_cmp 0 (falling ∷ []) (Int (pos s) ∷ []) (Int (pos t) ∷ [])) ≡ is_lt (nat_cmp t s)
+sorts_down s t = rw (value_cmp-Int (pos t) (pos s)) (lt_then (int_cmp (pos t) (pos s)) ∙ ap is_lt (ints t s))

@@ -3,7 +3,6 @@ use Rattle.std.proofs.Common.{◌≡◌, ℕ, pos, negsuc, List, [], ◌∷◌, 
 use Rattle.std.specs.List.{list_all}
 use Rattle.std.specs.List.Sorted.{IsPermutation}
 use Rattle.sqlite_tied.specs.Compute.{everything}
-use Rattle.sqlite_value.specs.declared.value.Value.{Value}
 use Rattle.sqlite_value.specs.declared.value.Value.TheVariants.{Null, Int, Text}
 use Rattle.sqlite_value.specs.declared.keys.Collation.TheVariants.{Binary}
 use Rattle.sqlite_value.specs.Order.{Row, column}
@@ -18,12 +17,11 @@ use Rattle.sqlite.specs.Listing.{understood, reads_listing}
 use Rattle.sqlite.specs.State.{State, Shown}
 use Rattle.sqlite.proofs.Callers.{IsPlain, command_of, reads_as, one_permutation}
 use Rattle.poll_book.specs.Tables.{Tables}
-use Rattle.office_store.specs.Schema.{office_schema, meta_tree}
+use Rattle.office_store.specs.Schema.{office_schema}
 use Rattle.office_store.specs.Texts.{connections_text}
 use Rattle.office_store.specs.Rows.{number_of}
 use Rattle.office_store.specs.Kept.{IsHeld}
 use Rattle.office_store.proofs.Comparing.{number_is}
-use Rattle.office_store.proofs.Showing.{same_some}
 
 abbrev connections_query : Query
 connections_query = record {

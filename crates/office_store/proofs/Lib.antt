@@ -20,3 +20,4 @@ mod Appending
 mod PutSetting
 mod Settling
 mod SettleOrder
+mod LastOrder

@@ -1,12 +1,11 @@
 -- Readings that are put in from the last to the first.
-use Rattle.std.proofs.Common.{◌≡◌, ◌⊎◌, inl, inr, Bool, true, false, ℕ, zero, suc, ◌+◌, ◌<◌, List, [], ◌∷◌, None, Some, cond, refl, sym, ap, subst, ◌∙◌, drop, length, get_or, arith}
+use Rattle.std.proofs.Common.{◌≡◌, inl, inr, ℕ, zero, suc, List, [], ◌∷◌, None, ◌∙◌, drop}
 use Rattle.std.specs.FinMap.Entries as rows
 use Rattle.std.specs.Ordering.{eq_by_cmp}
 use Rattle.std.proofs.lemmas.Bool.{cases_Bool}
-
 use Rattle.poll_book.specs.declared.rows.ReadingRow.{ReadingRow}
 use Rattle.poll_book.specs.Tables.{Key, Readings, key_cmp, reading_at, with_rows}
-use Rattle.poll_book.specs.Changes.{AreNew, as_row, as_rows}
+use Rattle.poll_book.specs.Changes.{AreNew, as_rows}
 use Rattle.office_store.proofs.Slots.{keys_total}
 
 module _ (table : Readings) where

@@ -1,5 +1,5 @@
 -- What the update of the last connection's number changes.
-use Rattle.std.proofs.Common.{◌≡◌, ◌⊎◌, inl, inr, ℕ, ℤ, pos, List, [], ◌∷◌, ◌++◌, map, flat_map, length, codes, Bool, true, false, ◌&&◌, None, Some, Ok, Err, Option, Result, refl, sym, ap, subst, ◌∙◌, arith, IfOk, OnOk, IsTrue, if◌then◌else◌}
+use Rattle.std.proofs.Common.{◌≡◌, ℕ, pos, List, [], ◌∷◌, map, flat_map, codes, true, ◌&&◌, None, Ok, Err, Result, refl, ap, subst, ◌∙◌, arith, IfOk, OnOk, if◌then◌else◌}
 use Rattle.std.specs.List.{list_all}
 use Rattle.std.specs.List.Sorted.{IsPermutation}
 use Rattle.sqlite_value.specs.declared.value.Value.TheVariants.{Null, Int, Text}

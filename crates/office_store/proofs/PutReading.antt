@@ -1,9 +1,7 @@
 -- What the insert of a reading adds.
-use Rattle.std.proofs.Common.{◌≡◌, ◌≢◌, ◌⊎◌, inl, inr, ℕ, ℤ, pos, ◌+◌, ◌*◌, ◌<◌, ◌≤◌, ◌^◌, List, [], ◌∷◌, length, Bool, true, false, not, ◌&&◌, None, Some, Ok, Err, Option, Result, refl, sym, ap, ap₂, subst, ◌∙◌, arith, IfOk, OnOk, IsTrue, map, if◌then◌else◌, T}
-use Rattle.std.specs.List.Sorted.{IsPermutation}
+use Rattle.std.proofs.Common.{◌≡◌, ℕ, pos, ◌<◌, ◌≤◌, ◌^◌, List, [], ◌∷◌, length, Bool, true, false, not, ◌&&◌, None, Some, Ok, Err, Result, refl, ap, subst, ◌∙◌, arith, IfOk, OnOk, map, if◌then◌else◌}
 use Rattle.std.specs.FinMap.Entries as rows
 use Rattle.std.proofs.lemmas.Bool.{lt-ltb}
-use Rattle.sqlite_value.specs.declared.value.Value.{Value}
 use Rattle.sqlite_value.specs.declared.value.Value.TheVariants.{Int, Blob}
 use Rattle.sqlite_value.specs.Order.{Row}
 use Rattle.sqlite_trees.specs.Tree.{Trees, put_row}
@@ -13,7 +11,7 @@ use Rattle.sqlite_schema.specs.declared.schema.Keys.TheVariants.{Enforced}
 use Rattle.sqlite_schema.specs.declared.command.Source.TheVariants.{Values}
 use Rattle.sqlite_schema.specs.declared.command.Command.TheVariants.{Insert}
 use Rattle.sqlite_rules.specs.declared.error.Rowids.TheVariants.{Chosen}
-use Rattle.sqlite_rules.specs.Edit.{Edit, edit_of, next_rowid, is_taken, are_fresh, put_all}
+use Rattle.sqlite_rules.specs.Edit.{edit_of, next_rowid, is_taken, are_fresh, put_all}
 use Rattle.sqlite_rules.specs.Action.{Writes}
 use Rattle.sqlite.specs.declared.error.Error.{Error}
 use Rattle.sqlite.specs.Listing.{understood}
@@ -25,8 +23,7 @@ use Rattle.sqlite.proofs.Callers.{runs_as, one_step, statement_of}
 use Rattle.poll_book.specs.declared.rows.Reading.{Reading}
 use Rattle.poll_book.specs.Tables.{Key, Tables, key_cmp, reading_at, with_row}
 use Rattle.office_store.specs.Schema.{reading, office_schema}
-use Rattle.office_store.specs.Rows.{stored_reading, stored_point, stored_setting, stored_request, flag_of, words_of, register_bytes}
-use Rattle.office_store.specs.Kept.{StandFor}
+use Rattle.office_store.specs.Rows.{stored_reading, stored_point, stored_setting, stored_request, flag_of, register_bytes}
 use Rattle.office_store.specs.Writing.{Within}
 use Rattle.office_store.proofs.Texts.{put_reading_text, put_reading_terms, put_reading_is}
 use Rattle.office_store.proofs.Tables.{went, same_value}

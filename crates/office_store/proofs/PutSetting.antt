@@ -1,12 +1,10 @@
 -- What the insert of the next order adds.
-use Rattle.std.proofs.Common.{◌≡◌, ◌≢◌, ◌⊎◌, inl, inr, ℕ, ℤ, pos, ◌+◌, ◌*◌, ◌<◌, ◌≤◌, ◌^◌, List, [], ◌∷◌, length, Bool, true, false, not, ◌&&◌, None, Some, Ok, Err, Option, Result, refl, sym, ap, ap₂, subst, ◌∙◌, arith, IfOk, OnOk, IsTrue, map, if◌then◌else◌, T}
+use Rattle.std.proofs.Common.{◌≡◌, ℕ, pos, ◌+◌, ◌<◌, ◌≤◌, ◌^◌, List, [], ◌∷◌, length, true, None, Some, Ok, Err, Result, refl, sym, ap, subst, ◌∙◌, arith, IfOk, OnOk, map}
 use Rattle.std.specs.List.{AllByRecursion}
-use Rattle.std.specs.List.Sorted.{IsPermutation}
 use Rattle.std.specs.FinMap.Entries as rows
 use Rattle.std.proofs.lemmas.Bool.{lt-ltb}
-use Rattle.sqlite_value.specs.declared.value.Value.{Value}
 use Rattle.sqlite_value.specs.declared.value.Value.TheVariants.{Null, Int, Blob}
-use Rattle.sqlite_value.specs.Order.{Row, column}
+use Rattle.sqlite_value.specs.Order.{Row}
 use Rattle.sqlite_trees.specs.Tree.{Trees, put_row}
 use Rattle.sqlite_sql.specs.Term.{eval_all}
 use Rattle.sqlite_schema.specs.declared.schema.Table.{Table}
@@ -14,7 +12,7 @@ use Rattle.sqlite_schema.specs.declared.schema.Keys.TheVariants.{Enforced}
 use Rattle.sqlite_schema.specs.declared.command.Source.TheVariants.{Values}
 use Rattle.sqlite_schema.specs.declared.command.Command.TheVariants.{Insert}
 use Rattle.sqlite_rules.specs.declared.error.Rowids.TheVariants.{Chosen}
-use Rattle.sqlite_rules.specs.Edit.{Edit, edit_of, next_rowid, is_taken, are_fresh, put_all}
+use Rattle.sqlite_rules.specs.Edit.{edit_of, put_all}
 use Rattle.sqlite_rules.specs.Action.{Writes}
 use Rattle.sqlite.specs.declared.error.Error.{Error}
 use Rattle.sqlite.specs.Listing.{understood}
@@ -23,16 +21,13 @@ use Rattle.sqlite.specs.Rows.{Written}
 use Rattle.sqlite.specs.Does.{Tally, Does}
 use Rattle.sqlite.specs.State.{State, mode_of, Executes, Shows}
 use Rattle.sqlite.proofs.Callers.{runs_as, one_step, statement_of}
-use Rattle.poll_book.specs.declared.rows.Reading.{Reading}
 use Rattle.poll_book.specs.Tables.{Tables}
 use Rattle.office_store.specs.Schema.{setting, office_schema}
-use Rattle.office_store.specs.Rows.{stored_reading, stored_point, stored_setting, stored_request, state_of, words_of, register_bytes}
-use Rattle.office_store.specs.Kept.{StandFor}
+use Rattle.office_store.specs.Rows.{stored_reading, stored_point, stored_setting, stored_request, state_of, register_bytes}
 use Rattle.office_store.specs.Writing.{Within}
 use Rattle.office_store.proofs.Texts.{put_setting_text, put_setting_terms, put_setting_is}
 use Rattle.office_store.proofs.Tables.{went, same_value}
 use Rattle.office_store.proofs.FirstRows.{cast_null, cast_int}
-use Rattle.office_store.proofs.Putting.{put_entry}
 use Rattle.office_store.proofs.Registers.{words_back}
 use Rattle.office_store.proofs.ByNumber.{setting_key}
 use Rattle.office_store.proofs.Appending.{stands_last, below_next}

@@ -1,11 +1,10 @@
 -- What the update of an order changes.
-use Rattle.std.proofs.Common.{◌≡◌, ◌^◌, ◌<◌, ◌⊎◌, inl, inr, ℕ, ℤ, pos, List, [], ◌∷◌, ◌++◌, map, flat_map, length, codes, Bool, true, false, ◌&&◌, None, Some, Ok, Err, Option, Result, refl, sym, ap, subst, ◌∙◌, arith, IfOk, OnOk, IsTrue, if◌then◌else◌, option_and_then, option_map}
+use Rattle.std.proofs.Common.{◌≡◌, ◌^◌, ◌<◌, ℕ, pos, List, [], ◌∷◌, map, flat_map, Bool, true, ◌&&◌, None, Some, Ok, Err, Option, Result, refl, sym, ap, subst, ◌∙◌, arith, IfOk, OnOk, if◌then◌else◌, option_and_then, option_map}
 use Rattle.std.specs.List.{list_all}
 use Rattle.std.specs.List.Sorted.{IsPermutation}
-use Rattle.sqlite_value.specs.declared.value.Value.TheVariants.{Null, Int, Text}
+use Rattle.sqlite_value.specs.declared.value.Value.TheVariants.{Null, Int}
 use Rattle.sqlite_value.specs.Order.{Row, column}
-use Rattle.sqlite_value.proofs.OrderLemmas.{value_cmp-Int}
-use Rattle.sqlite_trees.specs.Tree.{Trees, put_row, without_rowid}
+use Rattle.sqlite_trees.specs.Tree.{Trees, without_rowid}
 use Rattle.sqlite_sql.specs.Term.{Env, holds}
 use Rattle.sqlite_sql.specs.Query.{IsAnswer, Output, output}
 use Rattle.sqlite_sql.specs.Program.{overlay}
@@ -13,7 +12,7 @@ use Rattle.sqlite_schema.specs.declared.program.Program.{Program}
 use Rattle.sqlite_schema.specs.declared.schema.Keys.TheVariants.{Enforced}
 use Rattle.sqlite_schema.specs.declared.command.Command.TheVariants.{Update}
 use Rattle.sqlite_rules.specs.declared.error.Rowids.TheVariants.{Given}
-use Rattle.sqlite_rules.specs.Edit.{Edit, edit_of, edited, put_all}
+use Rattle.sqlite_rules.specs.Edit.{Edit, edit_of, put_all}
 use Rattle.sqlite_rules.specs.Calls.{ids_of}
 use Rattle.sqlite_rules.specs.Action.{Writes}
 use Rattle.sqlite.specs.declared.error.Error.{Error}
@@ -33,7 +32,7 @@ use Rattle.office_store.proofs.FirstRows.{cast_null, cast_int}
 use Rattle.office_store.proofs.PutSetting.{setting_table, state_back}
 use Rattle.office_store.proofs.ByNumber.{setting_key, alone_and}
 use Rattle.office_store.proofs.Comparing.{compares, and_then_some, map_some, number_is}
-use Rattle.office_store.proofs.Settling.{over, Over}
+use Rattle.office_store.proofs.Settling.{over}
 use Rattle.office_store.specs.States.{state_number, code_number}
 use Rattle.poll_book.specs.declared.rows.Setting.{Setting}
 use Rattle.poll_book.specs.declared.rows.OrderState.{OrderState}
@@ -90,12 +89,14 @@ module _ (n : ℕ) (standing : OrderState) where
         let second = number_is (2 ^ 32) (column r 2) before.point point in
         let again = ap number_of (sym first) ∙ number in
         let there = ap number_of (sym second) ∙ point in
-        let state = state_back standing low in
-        (first, second,
+        let state = state_back standing low in (
+          first,
+          second,
           ap (λ o. made_of o (number_of (Int (pos before.point))) (words_of (column r 3)) (state_of (Int (pos (state_number standing))) (Int (pos (code_number standing))))) again
-          ∙ ap (λ o. made_of (Some n) o (words_of (column r 3)) (state_of (Int (pos (state_number standing))) (Int (pos (code_number standing))))) there
-          ∙ ap (λ o. made_of (Some n) (Some before.point) o (state_of (Int (pos (state_number standing))) (Int (pos (code_number standing))))) words
-          ∙ ap (made_of (Some n) (Some before.point) (Some before.words)) state)
+              ∙ ap (λ o. made_of (Some n) o (words_of (column r 3)) (state_of (Int (pos (state_number standing))) (Int (pos (code_number standing))))) there
+              ∙ ap (λ o. made_of (Some n) (Some before.point) o (state_of (Int (pos (state_number standing))) (Int (pos (code_number standing))))) words
+              ∙ ap (made_of (Some n) (Some before.point) (Some before.words)) state,
+        )
 
     abbrev edit : Trees → List Row → Edit
     edit db rows = edit_of db setting_table (ids_of rows) Given 1 rows

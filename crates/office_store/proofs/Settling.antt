@@ -1,17 +1,16 @@
 -- A row of a table by numbers that is written over.
-use Rattle.std.proofs.Common.{◌≡◌, ℕ, pos, ◌<◌, List, [], ◌∷◌, ◌++◌, map, flat_map, Bool, true, false, not, ◌&&◌, None, Some, Option, refl, sym, ap, ap₂, subst, ◌∙◌, arith, T, cond, if◌then◌else◌}
+use Rattle.std.proofs.Common.{◌≡◌, ℕ, pos, ◌<◌, List, [], ◌∷◌, map, flat_map, Bool, None, Some, Option, refl, sym, ap, ap₂, subst, ◌∙◌, arith, T, if◌then◌else◌}
 use Rattle.std.specs.List.{AllByRecursion}
 use Rattle.std.specs.FinMap.Entries as rows
 use Rattle.std.specs.declared.cmp.Ordering.{Ordering}
 use Rattle.std.specs.declared.cmp.Ordering.TheVariants.{Less, Equal, Greater}
-use Rattle.std.specs.Ordering.{nat_cmp, is_eq, is_lt, match_ordering}
-use Rattle.std.specs.Cmp.{nat_cmp_total}
+use Rattle.std.specs.Ordering.{nat_cmp, is_eq, is_lt}
 use Rattle.std.proofs.lemmas.Bool.Decides.{nat_tests}
 use Rattle.sqlite_value.specs.declared.value.Value.TheVariants.{Int}
 use Rattle.sqlite_value.specs.Order.{Row, column, value_cmp}
 use Rattle.sqlite_value.proofs.OrderLemmas.{value_cmp-Int}
 use Rattle.sqlite_sql.specs.Term.{Env}
-use Rattle.sqlite_trees.specs.Tree.{put_row, without_rowid, has_rowid}
+use Rattle.sqlite_trees.specs.Tree.{put_row, without_rowid}
 use Rattle.office_store.proofs.Comparing.{ints}
 use Rattle.office_store.proofs.Sorted.{true_T}
 use Rattle.office_store.proofs.Appending.{less_is, less, greater, first_T, second_T}
@@ -60,8 +59,8 @@ module _ {X : Type 0} (stored : Row → Option (ℕ × X)) (key : (r : Row) (e :
         none = rw fails rest.none;
         left = rw cmp (ap (λ xs. r ∷ xs) rest.left);
         put = λ changed is.
-        let here = ap (value_cmp (column r 0)) is.0 ∙ cmp in
-        rw here (ap₂ (λ (o : Option (ℕ × X)) (os : List (Option (ℕ × X))). o ∷ os) is.1 (ap₂ (λ (o : Option (ℕ × X)) (os : List (Option (ℕ × X))). o ∷ os) head tail));
+            let here = ap (value_cmp (column r 0)) is.0 ∙ cmp in
+            rw here (ap₂ (λ (o : Option (ℕ × X)) (os : List (Option (ℕ × X))). o ∷ os) is.1 (ap₂ (λ (o : Option (ℕ × X)) (os : List (Option (ℕ × X))). o ∷ os) head tail));
       }
 
   pub record Over (all : List Row) (es : List (ℕ × X)) (before : X) : Type 0 where
@@ -92,8 +91,8 @@ module _ {X : Type 0} (stored : Row → Option (ℕ × X)) (key : (r : Row) (e :
             is = it.is;
             hit = rw fails it.hit;
             put = λ changed is.
-            let here = ap (value_cmp (column r 0)) is.0 ∙ cmp in
-            rw (cmp, here, turned) (ap₂ (λ (x : Option (ℕ × X)) (xs : List (Option (ℕ × X))). x ∷ xs) head (it.put changed is));
+                let here = ap (value_cmp (column r 0)) is.0 ∙ cmp in
+                rw (cmp, here, turned) (ap₂ (λ (x : Option (ℕ × X)) (xs : List (Option (ℕ × X))). x ∷ xs) head (it.put changed is));
           }
       go head tail Equal o rest found =
           let same = equal_is e.0 n o in
@@ -108,16 +107,16 @@ module _ {X : Type 0} (stored : Row → Option (ℕ × X)) (key : (r : Row) (e :
             is = head ∙ ap₂ (λ (k : ℕ) (x : X). Some (k, x)) same one;
             hit = rw passed (ap (λ envs. env r ∷ envs) all_above.none);
             put = λ changed is.
-            rw (cmp, turned) (ap (λ xs. map stored (put_row changed xs)) all_above.left ∙ all_above.put changed is ∙ ap (λ k. Some (k, after) ∷ map Some es) (sym same));
+                rw (cmp, turned) (ap (λ xs. map stored (put_row changed xs)) all_above.left ∙ all_above.put changed is ∙ ap (λ k. Some (k, after) ∷ map Some es) (sym same));
           }
       go head tail Greater o rest found = absurd (
-        let low = greater_is e.0 n o in
-        let turned = less n e.0 low in
-        let gone = rw turned at found in
-        let never : (xs : List (ℕ × X)) → AllByRecursion (λ x. e.0 < x.0) xs → rows.find nat_cmp n xs ≡ None = never_found low in
-        let bad = sym (never es (above e.0 es (first_T _ _ sorted))) ∙ gone in
-        cc
-      )
+          let low = greater_is e.0 n o in
+          let turned = less n e.0 low in
+          let gone = rw turned at found in
+          let never : (xs : List (ℕ × X)) → AllByRecursion (λ x. e.0 < x.0) xs → rows.find nat_cmp n xs ≡ None = never_found low in
+          let bad = sym (never es (above e.0 es (first_T _ _ sorted))) ∙ gone in
+          cc
+          )
         where
           never_found : n < e.0 → (xs : List (ℕ × X)) → AllByRecursion (λ x. e.0 < x.0) xs → rows.find nat_cmp n xs ≡ None
           never_found low [] h = refl

@@ -35,11 +35,11 @@ eq_is Less h = absurd (cc)
 eq_is Equal h = refl
 eq_is Greater h = absurd (cc)
 
-both_T : (a b : Bool) → T (a && b) → T a × T b
+pub both_T : (a b : Bool) → T (a && b) → T a × T b
 both_T true b h = (tt, h)
 both_T false b h = absurd h
 
-pair_T : (a b : Bool) → T a → T b → T (a && b)
+pub pair_T : (a b : Bool) → T a → T b → T (a && b)
 pair_T true b p q = q
 pair_T false b p q = absurd p
 
@@ -61,7 +61,7 @@ module _ {K : Type 0} (R : K → K → Ordering) (o : IsTotalOrder R) where
       turned Greater = refl
 
 module _ {K X : Type 0} (R : K → K → Ordering) (o : IsTotalOrder R) where
-  each_above : (k : K) (es : List (K × X)) → T (rows.below_all R k es) → AllByRecursion (λ e. R k e.0 ≡ Less) es
+  pub each_above : (k : K) (es : List (K × X)) → T (rows.below_all R k es) → AllByRecursion (λ e. R k e.0 ≡ Less) es
   each_above k [] h = tt
   each_above k (e ∷ es) h = let both = both_T _ _ h in (lt_is _ (true_T _ both.0), each_above k es both.1)
 

@@ -15,3 +15,6 @@ setting_text = codes "SELECT number, point, words, state, code FROM setting WHER
 
 abbrev pub connections_text : List ℕ
 connections_text = codes "SELECT value FROM meta WHERE name = 'connections'"
+
+abbrev pub last_text : List ℕ
+last_text = codes "SELECT number, point, words, state, code FROM setting ORDER BY number DESC LIMIT 1"

@@ -1,5 +1,5 @@
 -- Tables inside a transaction.
-use Rattle.std.specs.Prelude.{◌≡◌, IsTrue, List, ℕ, codes}
+use Rattle.std.specs.Prelude.{◌≡◌, IsTrue}
 use Rattle.sqlite.specs.Effect.{Database}
 use Rattle.sqlite.specs.State.{State}
 use Rattle.poll_book.specs.Tables.{Tables}

@@ -5,7 +5,7 @@ ghost use Rattle.sqlite.specs.Held.{state};
 ghost use Rattle.sqlite.specs.State.{HasCleanDisk};
 ghost use Rattle.sqlite_value.specs.Value.{owned};
 ghost use Rattle.poll_book.specs.Tables.{Tables};
-ghost use Rattle.poll_book.specs.Orders.{as_setting, setting_at};
+ghost use Rattle.poll_book.specs.Orders.{as_setting, last_order, setting_at};
 ghost use Rattle.office_store.specs.Kept.{Holds, Keeps};
 ghost use Rattle.office_store.specs.Rows.{shown_setting, state_of};
 
@@ -75,6 +75,32 @@ pub(crate) fn setting_at<S: Alter>(
                 state: found.state,
             }))
         }
+        _ => Err(StoreFault::Other),
+    }
+}
+
+/// The number of the last order, 0 before the first.
+pub(crate) fn last_order<S: Alter>(connection: &mut Connection<S>) -> Result<u32, StoreFault>
+    requires { connection.old.in_transaction ≡ false }
+    ensures value { HasCleanDisk (state S.Store connection.new) → (kept : Tables) → Holds (state S.Store connection.old) kept
+        → IfOk result (λ number. number ≡ last_order kept.settings) }
+    ensures keeps { Keeps (state S.Store connection.old) (state S.Store connection.new) }
+    ensures idle { connection.new.in_transaction ≡ false }
+{
+    let rows = match ask(
+        connection,
+        "SELECT number, point, words, state, code FROM setting ORDER BY number DESC LIMIT 1",
+        &[],
+    ) {
+        Ok(rows) => rows,
+        Err(error) => return Err(fault_of(error)),
+    };
+    match rows.as_slice() {
+        [] => Ok(0),
+        [row] => match number_of(value_at(row, 0)) {
+            Some(number) => Ok(number),
+            None => Err(StoreFault::Other),
+        },
         _ => Err(StoreFault::Other),
     }
 }

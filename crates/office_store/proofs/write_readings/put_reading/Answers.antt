@@ -1,6 +1,4 @@
-use Rattle.std.proofs.Common.{◌≡◌, sym, ap, subst, ◌∙◌, arith}
 use Rattle.sqlite.specs.Held.{state}
-use Rattle.office_store.specs.Rows.{register_bytes}
 use Rattle.office_store.proofs.PutReading.{adds_if}
 use Rattle.office_store.proofs.write_readings.put_reading.Goals as goal
 

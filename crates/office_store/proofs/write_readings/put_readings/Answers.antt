@@ -1,10 +1,9 @@
-use Rattle.std.proofs.Common.{◌≡◌, ℕ, suc, ◌+◌, ◌-◌, List, [], ◌∷◌, drop, length, get_or, inl, refl, sym, ap, subst, ◌∙◌, arith, drop_of_length-le}
+use Rattle.std.proofs.Common.{◌≡◌, suc, ◌-◌, List, [], ◌∷◌, drop, length, inl, refl, sym, ap, subst, ◌∙◌, arith, drop_of_length-le}
 use Rattle.std.proofs.Math.Seq.{drop-cons}
 use Rattle.sqlite.specs.Held.{state}
-use Rattle.sqlite.specs.State.{HasCleanDisk}
 use Rattle.sqlite.proofs.StateLemmas.{survives_then}
 use Rattle.poll_book.specs.declared.rows.ReadingRow.{ReadingRow}
-use Rattle.poll_book.specs.Tables.{Tables, with_rows}
+use Rattle.poll_book.specs.Tables.{with_rows}
 use Rattle.poll_book.specs.Changes.{AreNew, as_rows}
 use Rattle.office_store.specs.Writing.{Within}
 use Rattle.office_store.proofs.NewRows.{new_left, new_here}
@@ -17,9 +16,9 @@ loop-left-init g c = record {
   kept = λ clean. record { was_open = λ now_open. now_open; committed = λ now_open. refl };
   in_range = omega arith;
   put = λ clean base kept within fresh.
-  let rows = c.args.rows.now in
-  let none : drop (length rows) rows ≡ [] = drop_of_length-le rows (omega arith) in
-  subst (λ (l : List ReadingRow). Within (state g.S.Store c.args.tx.now.conn.now) base (record kept { readings = with_rows (as_rows l) kept.readings })) (sym none) within;
+      let rows = c.args.rows.now in
+      let none : drop (length rows) rows ≡ [] = drop_of_length-le rows (omega arith) in
+      subst (λ (l : List ReadingRow). Within (state g.S.Store c.args.tx.now.conn.now) base (record kept { readings = with_rows (as_rows l) kept.readings })) (sym none) within;
 }
 
 pub loop-left-preserved : goal.loop-left-preserved
@@ -38,13 +37,13 @@ loop-left-preserved g c =
       same_reference = made.same_reference ∙ past.same_reference;
       survives = survives_then start before after _ _ _ (λ _ db h. h) (λ _ db h. h) past.survives made.survives;
       kept = λ clean.
-      let a = past.kept (omega (arith, clean, made.survives.clean)) in
-      let b = made.kept clean in
-      record { was_open = λ now_open. a.was_open (b.was_open now_open); committed = λ now_open. b.committed now_open ∙ a.committed (b.was_open now_open) };
+          let a = past.kept (omega (arith, clean, made.survives.clean)) in
+          let b = made.kept clean in
+          record { was_open = λ now_open. a.was_open (b.was_open now_open); committed = λ now_open. b.committed now_open ∙ a.committed (b.was_open now_open) };
       in_range = omega (arith, past.in_range);
       put = λ clean base kept within fresh.
-      let it = past.put (omega (arith, clean, made.survives.clean)) base kept within fresh in
-      let new = subst (λ (l : List ReadingRow). AreNew kept.readings (as_rows l)) split (new_left kept.readings rows i fresh) in
-      let put = made.put clean base (record kept { readings = with_rows (as_rows (drop c.loop-left.left rows)) kept.readings }) it (new_here kept.readings row (drop c.loop-left.left rows) new) in
-      subst (λ (l : List ReadingRow). Within after base (record kept { readings = with_rows (as_rows l) kept.readings })) (sym split) put;
+          let it = past.put (omega (arith, clean, made.survives.clean)) base kept within fresh in
+          let new = subst (λ (l : List ReadingRow). AreNew kept.readings (as_rows l)) split (new_left kept.readings rows i fresh) in
+          let put = made.put clean base (record kept { readings = with_rows (as_rows (drop c.loop-left.left rows)) kept.readings }) it (new_here kept.readings row (drop c.loop-left.left rows) new) in
+          subst (λ (l : List ReadingRow). Within after base (record kept { readings = with_rows (as_rows l) kept.readings })) (sym split) put;
     }

@@ -1,4 +1,4 @@
-use Rattle.std.proofs.Common.{◌≡◌, ◌+◌, ◌<◌, ◌/◌, ◌%◌, ◌∙◌, length, slice_set, arith, slice_index_or}
+use Rattle.std.proofs.Common.{◌+◌, ◌<◌, ◌/◌, ◌%◌, ◌∙◌, length, slice_set, arith, slice_index_or}
 use Rattle.std.proofs.lemmas.List.{length-set}
 use Rattle.office_store.proofs.Registers.{written_more}
 use Rattle.office_store.proofs.write_readings.put_words.Goals as goal

@@ -1,4 +1,4 @@
-use Rattle.std.proofs.Common.{◌≡◌, arith}
+use Rattle.std.proofs.Common.{arith}
 use Rattle.sqlite.specs.Held.{state}
 use Rattle.office_store.proofs.PutSetting.{adds}
 use Rattle.office_store.proofs.write_settings.put_setting.Goals as goal
