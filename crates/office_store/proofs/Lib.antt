@@ -15,6 +15,8 @@ mod Connections
 mod Putting
 mod PutReading
 mod NewRows
+mod Spoken
+mod ByKey
 mod PutNumber
 mod Appending
 mod PutSetting

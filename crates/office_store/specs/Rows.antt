@@ -186,3 +186,6 @@ request_from at r =
 
 abbrev pub stored_request : Row → Option (RequestKey × Request)
 stored_request = request_from 1
+
+abbrev pub shown_request : Row → Option (RequestKey × Request)
+shown_request = request_from 0

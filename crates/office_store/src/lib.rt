@@ -8,6 +8,7 @@ mod making;
 mod numbers;
 mod points;
 mod readings;
+mod requests;
 mod run;
 mod settings;
 mod values;
