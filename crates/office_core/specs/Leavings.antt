@@ -10,7 +10,7 @@ use Rattle.office_core.specs.Standing.{Sees, is_store}
 -- ---- after one event
 
 -- What a crash may leave after an event, from what it might leave before it, the tables before it and with it, and
--- whether the store refused it. A refused event adds the tables that it would have made. One that is acknowledged
+-- whether the store refused it. A refused event adds the tables that it would have made. One that it did not refuse
 -- leaves its tables alone where it changed any, and adds nothing where it changed none
 abbrev pub LeftAfter : (Tables → Type 0) → Tables → Tables → Bool → Tables → Type 0
 LeftAfter may old new true left = may left ⊎ (left ≡ new)
