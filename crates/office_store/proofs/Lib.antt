@@ -23,3 +23,5 @@ mod PutSetting
 mod Settling
 mod SettleOrder
 mod LastOrder
+mod Sixteen
+mod PutRequest

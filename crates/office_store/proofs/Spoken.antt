@@ -1,7 +1,8 @@
 -- Texts in values: names of callers and keys, and the names of points behind an order's value.
-use Rattle.std.proofs.Common.{◌≡◌, ◌<◌, ◌+◌, ◌&&◌, ℕ, ℤ, List, [], ◌∷◌, length, take, drop, Bool, true, false, Option, Some, None, refl, sym, ap, ap₂, subst, ◌∙◌, arith, if◌then◌else◌}
+use Rattle.std.proofs.Common.{◌≡◌, ◌<◌, ◌+◌, ◌&&◌, ℕ, ℤ, List, [], ◌∷◌, ◌++◌, length, take, drop, Bool, true, false, Option, Some, None, refl, sym, ap, ap₂, subst, ◌∙◌, arith, if◌then◌else◌}
 use Rattle.std.specs.Prelude.{nat_le}
-use Rattle.std.specs.Int.{w128, from_be_bytes, cast_signed}
+use Rattle.std.specs.Int.{w128, from_be_bytes, to_be_bytes, cast_signed, cast_unsigned}
+use Rattle.std.specs.Int.RustNames.{FitsSigned}
 use Rattle.std.specs.List.{list_all}
 use Rattle.std.specs.Str.{IsAscii, IsUtf8, is_utf8}
 use Rattle.std.proofs.lemmas.Bool.{and_parts}
@@ -13,6 +14,7 @@ use Rattle.sqlite_value.specs.declared.value.Value.TheVariants.{Null, Int, Real,
 use Rattle.poll_book.specs.Callers.{is_key_byte, is_word_within}
 use Rattle.poll_book.specs.declared.requests.Body.TheVariants.{Order}
 use Rattle.office_store.specs.Rows.{body_coded, text_that}
+use Rattle.office_store.proofs.Sixteen.{signed_back}
 
 key_byte : (b : ℕ) → is_key_byte b ≡ true → b < 128
 key_byte b h = grind (arith, nat_tests)
@@ -73,3 +75,9 @@ order_coded bytes first name point value first_is name_is long text point_is val
     let is : is_utf8 (drop 16 bytes) ≡ true = is_utf8-from_IsUtf8 (drop 16 bytes) (subst IsUtf8 name_is text) in
     ap₂ (λ (a b : Bool). if a && b then Some (Order (drop 16 bytes) (cast_signed w128 (from_be_bytes w128 (take 16 bytes)))) else None) low is
     ∙ ap₂ (λ (p : List ℕ) (v : ℤ). Some (Order p v)) (sym (point_is ∙ name_is)) (ap (λ (x : List ℕ). cast_signed w128 (from_be_bytes w128 x)) (sym first_is) ∙ sym value_is)
+
+-- what is written so reads back
+pub order_written : (bytes point : List ℕ) (value : ℤ) → FitsSigned w128 value → IsUtf8 point → bytes ≡ to_be_bytes w128 (cast_unsigned w128 value) ++ point → body_coded 2 bytes ≡ Some (Order point value)
+order_written bytes point value fits text is =
+    let first = to_be_bytes w128 (cast_unsigned w128 value) in
+    ap (body_coded 2) is ∙ order_coded (first ++ point) first point point value refl refl (omega arith) text refl (sym (signed_back value fits))

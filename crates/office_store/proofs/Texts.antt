@@ -122,3 +122,13 @@ settle_query = record {
 pub settle_is : (command_of (understood office_schema settle_text) ≡ Update 3 (record { lets = []; body = settle_query })) × IsPlain (understood office_schema settle_text)
 unfolding understood everything
 settle_is = (refl, (refl, refl))
+
+abbrev pub put_request_text : List ℕ
+put_request_text = codes "INSERT INTO request(caller, rkey, kind, body, answer, a, b, c) VALUES (?1, ?2, ?3, ?4, ?5, ?6, ?7, ?8)"
+
+abbrev pub put_request_terms : List Term
+put_request_terms = lit Null ∷ col 0 0 ∷ col 0 1 ∷ col 0 2 ∷ col 0 3 ∷ col 0 4 ∷ col 0 5 ∷ col 0 6 ∷ col 0 7 ∷ []
+
+pub put_request_is : (command_of (understood office_schema put_request_text) ≡ Insert 4 (Values put_request_terms 9)) × IsPlain (understood office_schema put_request_text)
+unfolding understood everything
+put_request_is = (refl, (refl, refl))

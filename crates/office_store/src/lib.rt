@@ -14,6 +14,7 @@ mod settings;
 mod values;
 mod write_numbers;
 mod write_readings;
+mod write_requests;
 mod write_settings;
 
 pub use error::StoreError;
