@@ -1,5 +1,5 @@
 -- What the queries of the tables by number show.
-use Rattle.std.proofs.Common.{◌≡◌, ℕ, pos, negsuc, List, [], ◌∷◌, map, Bool, true, false, ◌&&◌, None, Some, Ok, Err, Option, Result, Vec, Global, IfOk, refl, sym, ap, ap₂, subst, ◌∙◌, codes, ◌^◌, option_map}
+use Rattle.std.proofs.Common.{◌≡◌, ℕ, pos, negsuc, List, [], ◌∷◌, map, Bool, true, false, cond, ◌&&◌, ◌==◌, None, Some, Ok, Err, Option, Result, Vec, Global, IfOk, refl, sym, ap, ap₂, subst, ◌∙◌, codes, ◌^◌, option_map}
 use Rattle.std.specs.List.{filter, list_all}
 use Rattle.std.specs.List.Sorted.{IsPermutation}
 use Rattle.std.specs.Ordering.{is_lt, nat_cmp, eq_by_cmp}
@@ -30,12 +30,12 @@ use Rattle.poll_book.specs.declared.rows.PointRow.{PointRow}
 use Rattle.poll_book.specs.declared.rows.Setting.{Setting}
 use Rattle.poll_book.specs.declared.rows.OrderState.TheVariants.{Waiting}
 use Rattle.poll_book.specs.Tables.{Tables}
-use Rattle.poll_book.specs.Orders.{setting_at}
+use Rattle.poll_book.specs.Orders.{setting_at, point_at}
 use Rattle.office_store.specs.Schema.{office_schema, setting_tree, point_tree}
-use Rattle.office_store.specs.Texts.{setting_text, points_text}
+use Rattle.office_store.specs.Texts.{setting_text, points_text, point_text}
 use Rattle.office_store.specs.Rows.{stored_setting, shown_setting, stored_point, shown_point, number_of, words_of, state_of, text_that, described}
 use Rattle.office_store.specs.Kept.{IsHeld}
-use Rattle.office_store.proofs.Comparing.{compares, rising, sorts, number_is, and_then_some, map_some}
+use Rattle.office_store.proofs.Comparing.{compares, equals, rising, sorts, number_is, and_then_some, map_some}
 use Rattle.office_store.proofs.Showing.{picked, answers, same_list, same_some}
 use Rattle.office_store.proofs.Sorted.{flips, finds_none, finds_first}
 
@@ -220,3 +220,71 @@ module _ (old new : State) (kept : Tables) (held : IsHeld old kept) (rows : List
   pub all_points : {E : Type 0} (made : Result (Vec PointRow Global) E) → IfOk made (λ points. map shown_point rows ≡ map Some points.items) → IfOk made (λ points. points.items ≡ kept.points)
   all_points (Ok points) is = same_list points.items kept.points (sym is ∙ points_shown)
   all_points (Err e) is = tt
+
+-- ---- a point by its number
+
+abbrev point_query : Query
+point_query = record points_query { filter = op2 (Compare Eq Binary) (col 1 0) (col 0 0) ∷ [] }
+
+point_is : (command_of (understood office_schema point_text) ≡ Select (record { lets = []; body = point_query }) points_names) × (reads_listing office_schema point_text ≡ false) × IsPlain (understood office_schema point_text)
+unfolding understood everything
+point_is = (refl, refl, (refl, refl))
+
+module _ (number : ℕ) where
+  abbrev has_number : ℕ × Point → Bool
+  has_number e = e.0 == number
+
+  point_agrees : (r : Row) (e : ℕ × Point) → stored_entry r ≡ Some e
+      → (list_all (holds (given number ∷ r ∷ [])) point_query.filter ≡ has_number e) × (shown_entry (output point_query (given number ∷ r ∷ [])).1 ≡ Some e) × ((output point_query (given number ∷ r ∷ [])).0 ≡ sort e)
+  point_agrees r e h =
+      let it = entry_key r e h in
+      let tests = λ (a : Value). is_true (binary (Compare Eq Binary) a (Int (pos number))) && true in
+      (ap tests it ∙ alone_and _ ∙ compares Eq e.0 number ∙ equals e.0 number, h, ap (λ v. v ∷ []) it)
+
+  finds_no_point : (points : List PointRow) → filter has_number (map numbered points) ≡ [] → point_at points number ≡ None
+  finds_no_point [] h = refl
+  finds_no_point (q ∷ points) h = step (q.number == number) h (finds_no_point points)
+    where
+      step : (b : Bool) → cond b (numbered q ∷ filter has_number (map numbered points)) (filter has_number (map numbered points)) ≡ []
+          → (filter has_number (map numbered points) ≡ [] → point_at points number ≡ None) → cond b (Some q) (point_at points number) ≡ None
+      step true h more = absurd (cc)
+      step false h more = more h
+
+  finds_point : (points : List PointRow) (found : PointRow) (rest : List (ℕ × Point)) → filter has_number (map numbered points) ≡ numbered found ∷ rest → point_at points number ≡ Some found
+  finds_point [] found rest h = absurd (cc)
+  finds_point (q ∷ points) found rest h = step (q.number == number) h (finds_point points found rest)
+    where
+      step : (b : Bool) → cond b (numbered q ∷ filter has_number (map numbered points)) (filter has_number (map numbered points)) ≡ numbered found ∷ rest
+          → (filter has_number (map numbered points) ≡ numbered found ∷ rest → point_at points number ≡ Some found) → cond b (Some q) (point_at points number) ≡ Some found
+      step true h more = let same : numbered q ≡ numbered found = cc in same_point stored_point (Some q) found (ap (λ (x : ℕ × Point). Some x) same)
+      step false h more = more h
+
+  module _ (old new : State) (kept : Tables) (held : IsHeld old kept) where
+    shows_point : (rows : List Row) → Shown point_text (given number) old new rows → map shown_entry rows ≡ map Some (filter has_number (map numbered kept.points))
+    shows_point rows shown =
+        let read = held.stands.points in
+        let table = map numbered kept.points in
+        let a = (reads_as point_text (given number) old new office_schema held.schema (Select (record { lets = []; body = point_query }) points_names) point_is.0 point_is.2 point_is.1 rows shown).answer Null in
+        let staged = picked stored_entry shown_entry has_number sort blank (λ r. list_all (holds (given number ∷ r ∷ [])) point_query.filter) (λ r. given number ∷ r ∷ []) (output point_query) point_agrees (old.now.trees point_tree) table (as_entries stored_point (old.now.trees point_tree) kept.points read.stored) in
+        let is : a.kept ≡ _ = a.distinct ∙ ap (map (output point_query)) a.grouped in
+        let done = answers stored_entry shown_entry has_number sort blank nat_cmp nat_cmp_total exact_unsigned point_query (natural_sorts has_number) table table _ a.ordered read.sorted (IsPermutation-refl table) staged (subst (λ k. IsPermutation k a.ordered) is a.same) a.sorted in
+        ap (map shown_entry) a.shown ∙ done
+
+    pub no_point : Shown point_text (given number) old new [] → None ≡ point_at kept.points number
+    no_point shown = sym (finds_no_point kept.points (empty (filter has_number (map numbered kept.points)) (shows_point [] shown)))
+      where
+        empty : (xs : List (ℕ × Point)) → ◌≡◌ {A = List (Option (ℕ × Point))} [] (map Some xs) → xs ≡ []
+        empty [] h = refl
+        empty (x ∷ xs) h = absurd (cc)
+
+    pub one_point : (row : Row) → Shown point_text (given number) old new (row ∷ []) → (found : PointRow) → shown_point row ≡ Some found → Some found ≡ point_at kept.points number
+    one_point row shown found is =
+        let it = first (filter has_number (map numbered kept.points)) (shows_point (row ∷ []) shown) in
+        sym (finds_point kept.points found it.0 it.1)
+      where
+        first : (xs : List (ℕ × Point)) → map shown_entry (row ∷ []) ≡ map Some xs → (rest : List (ℕ × Point)) × (xs ≡ numbered found ∷ rest)
+        first [] h = absurd (cc)
+        first (x ∷ xs) h =
+            let head : shown_entry row ≡ Some x = cc in
+            let same : ◌≡◌ {A = Option (ℕ × Point)} (Some (numbered found)) (Some x) = sym (ap (option_map numbered) is) ∙ head in
+            (xs, ap (λ (e : ℕ × Point). e ∷ xs) (sym (same_some (numbered found) x same)))

@@ -10,6 +10,9 @@ readings_text = codes "SELECT point, slot, words, counted FROM reading WHERE poi
 abbrev pub points_text : List ℕ
 points_text = codes "SELECT number, name, device, tab, addr, kind, len, scale, role, roll FROM point ORDER BY number"
 
+abbrev pub point_text : List ℕ
+point_text = codes "SELECT number, name, device, tab, addr, kind, len, scale, role, roll FROM point WHERE number = ?1 ORDER BY number"
+
 abbrev pub setting_text : List ℕ
 setting_text = codes "SELECT number, point, words, state, code FROM setting WHERE number = ?1 ORDER BY number"
 

@@ -7,6 +7,7 @@ ghost use Rattle.sqlite_value.specs.Value.{owned};
 ghost use Rattle.sqlite_value.specs.Order.{column};
 ghost use Rattle.point_list.specs.Name.{is_name};
 ghost use Rattle.point_list.specs.Label.{is_label};
+ghost use Rattle.poll_book.specs.Orders.{point_at};
 ghost use Rattle.poll_book.specs.Tables.{Tables};
 ghost use Rattle.office_store.specs.Kept.{Holds, Keeps};
 ghost use Rattle.office_store.specs.Rows.{described, kind_of, number_below, role_coded, shown_point, table_coded, text_that};
@@ -18,7 +19,7 @@ use mb_pdu::Table;
 use point_list::{Label, Name, Point, Role};
 use poll_book::{PointRow, StoreFault};
 use sqlite::types::ValueRef;
-use sqlite::{Alter, Connection, Row};
+use sqlite::{Alter, Connection, Row, params};
 use std::alloc::Global;
 use sunspec::PointType;
 
@@ -134,5 +135,34 @@ pub(crate) fn all_points<S: Alter>(
     ) {
         Ok(rows) => all_of(alloc, &rows),
         Err(error) => Err(fault_of(error)),
+    }
+}
+
+/// The point of a number, if it is known.
+pub(crate) fn point_at<S: Alter>(
+    connection: &mut Connection<S>,
+    number: u32,
+) -> Result<Option<PointRow>, StoreFault>
+    requires { connection.old.in_transaction ≡ false }
+    ensures value { HasCleanDisk (state S.Store connection.new) → (kept : Tables) → Holds (state S.Store connection.old) kept
+        → IfOk result (λ found. found ≡ point_at kept.points number) }
+    ensures keeps { Keeps (state S.Store connection.old) (state S.Store connection.new) }
+    ensures idle { connection.new.in_transaction ≡ false }
+{
+    let rows = match ask(
+        connection,
+        "SELECT number, name, device, tab, addr, kind, len, scale, role, roll FROM point WHERE number = ?1 ORDER BY number",
+        params![number],
+    ) {
+        Ok(rows) => rows,
+        Err(error) => return Err(fault_of(error)),
+    };
+    match rows.as_slice() {
+        [] => Ok(None),
+        [row] => {
+            let found = point_of(row).ok_or(StoreFault::Other)?;
+            Ok(Some(found))
+        }
+        _ => Err(StoreFault::Other),
     }
 }
