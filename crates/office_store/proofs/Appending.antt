@@ -24,6 +24,11 @@ greater a b h = grind (arith, nat_tests)
 pub less_is : (a b : ℕ) → is_lt (nat_cmp a b) ≡ true → a < b
 less_is a b h = grind (arith, nat_tests)
 
+module _ {X : Type 0} (n : ℕ) (v : X) where
+  pub put_last : (es : List (ℕ × X)) → AllByRecursion (λ e. e.0 < n) es → rows.put nat_cmp n v es ≡ es ++ (n, v) ∷ []
+  put_last [] low = refl
+  put_last (e ∷ es) low = let after = greater n e.0 low.0 in rw after (ap (λ xs. e ∷ xs) (put_last es low.1))
+
 module _ {X : Type 0} (stored : Row → Option (ℕ × X)) (key : (r : Row) (e : ℕ × X) → stored r ≡ Some e → column r 0 ≡ Int (pos e.0)) (new : Row) (n : ℕ) (v : X) (at : column new 0 ≡ Int (pos n)) where
   appended : (all : List Row) (es : List (ℕ × X)) → map stored all ≡ map Some es → AllByRecursion (λ e. e.0 < n) es → put_row new all ≡ all ++ new ∷ []
   appended [] es h low = refl
@@ -34,15 +39,11 @@ module _ {X : Type 0} (stored : Row → Option (ℕ × X)) (key : (r : Row) (e :
       let before : value_cmp (column r 0) (column new 0) ≡ Less = ap₂ value_cmp (key r e head) at ∙ value_cmp-Int (pos e.0) (pos n) ∙ ints e.0 n ∙ less e.0 n low.0 in
       rw before (ap (λ xs. r ∷ xs) (appended all es tail low.1))
 
-  put_last : (es : List (ℕ × X)) → AllByRecursion (λ e. e.0 < n) es → rows.put nat_cmp n v es ≡ es ++ (n, v) ∷ []
-  put_last [] low = refl
-  put_last (e ∷ es) low = let after = greater n e.0 low.0 in rw after (ap (λ xs. e ∷ xs) (put_last es low.1))
-
   -- the row stands for an entry after all others
   pub stands_last : stored new ≡ Some (n, v) → (all : List Row) (es : List (ℕ × X)) → map stored all ≡ map Some es → AllByRecursion (λ e. e.0 < n) es → map stored (put_row new all) ≡ map Some (rows.put nat_cmp n v es)
   stands_last is all es h low =
       ap (map stored) (appended all es h low) ∙ map-append stored all (new ∷ []) ∙ ap₂ (λ (a b : List (Option (ℕ × X))). a ++ b) h (ap (λ (o : Option (ℕ × X)). o ∷ []) is)
-      ∙ sym (map-append Some es ((n, v) ∷ [])) ∙ ap (map Some) (sym (put_last es low))
+      ∙ sym (map-append Some es ((n, v) ∷ [])) ∙ ap (map Some) (sym (put_last n v es low))
 
 pub first_T : (a b : Bool) → T (a && b) → T a
 first_T true b h = tt

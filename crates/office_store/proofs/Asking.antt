@@ -48,6 +48,7 @@ module _ (sql : List ℕ) (params : Row) (old new : State) (query : IsQuery sql)
       → Survives old new (CommitsShowing sql params old) → Keeps old new
   keeps items r ok err survives = record {
     clean = λ clean. omega (arith, survives.clean);
+    was_open = λ clean now_open. elim (ending items r (ok clean) (err clean)) [ inl same ↦ same.0.was_open | inr back ↦ back.was_open now_open ];
     holds = λ kept held clean now_open. held_after kept now_open (held (omega (arith, survives.clean))) (ending items r (ok clean) (err clean));
     crash = λ clean db left. elim (survives.crash clean db left) [ inl was ↦ was | inr made ↦ absurd (no_commit db made) ];
   }

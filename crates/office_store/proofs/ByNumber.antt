@@ -145,17 +145,17 @@ unfolding understood everything
 points_are = (refl, refl, (refl, refl))
 
 -- points as entries, by their numbers
-abbrev numbered : PointRow → ℕ × Point
+abbrev pub numbered : PointRow → ℕ × Point
 numbered p = (p.number, p.point)
 
-abbrev stored_entry : Row → Option (ℕ × Point)
+abbrev pub stored_entry : Row → Option (ℕ × Point)
 stored_entry r = option_map numbered (stored_point r)
 
 abbrev shown_entry : Row → Option (ℕ × Point)
 shown_entry r = option_map numbered (shown_point r)
 
 module _ (read : Row → Option PointRow) where
-  as_entries : (all : List Row) (points : List PointRow) → map read all ≡ map Some points → map (λ r. option_map numbered (read r)) all ≡ map Some (map numbered points)
+  pub as_entries : (all : List Row) (points : List PointRow) → map read all ≡ map Some points → map (λ r. option_map numbered (read r)) all ≡ map Some (map numbered points)
   as_entries [] [] h = refl
   as_entries [] (p ∷ points) h = absurd (cc)
   as_entries (r ∷ all) [] h = absurd (cc)
@@ -170,7 +170,7 @@ module _ (read : Row → Option PointRow) where
       let same : numbered q ≡ numbered p = same_some (numbered q) (numbered p) h in
       ap₂ (λ (n : ℕ) (x : Point). Some (record { number = n; point = x })) (ap (λ (e : ℕ × Point). e.0) same) (ap (λ (e : ℕ × Point). e.1) same)
 
-  as_points : (all : List Row) (points : List PointRow) → map (λ r. option_map numbered (read r)) all ≡ map Some (map numbered points) → map read all ≡ map Some points
+  pub as_points : (all : List Row) (points : List PointRow) → map (λ r. option_map numbered (read r)) all ≡ map Some (map numbered points) → map read all ≡ map Some points
   as_points [] [] h = refl
   as_points [] (p ∷ points) h = absurd (cc)
   as_points (r ∷ all) [] h = absurd (cc)
@@ -192,7 +192,7 @@ point_key r p h =
     let rest = map_some _ (described name.0 device.0 (column r 4) (column r 5) (column r 6) (column r 7) (column r 8) (column r 9) (column r 10)) _ device.2 in
     number_is (2 ^ 32) (column r 0) p.number (n.1 ∙ ap (λ (x : PointRow). Some x.number) rest.2)
 
-entry_key : (r : Row) (e : ℕ × Point) → stored_entry r ≡ Some e → column r 0 ≡ Int (pos e.0)
+pub entry_key : (r : Row) (e : ℕ × Point) → stored_entry r ≡ Some e → column r 0 ≡ Int (pos e.0)
 entry_key r e h = let it = map_some numbered (stored_point r) e h in point_key r it.0 it.1 ∙ ap (λ (x : ℕ × Point). Int (pos x.0)) it.2
 
 points_agree : (r : Row) (e : ℕ × Point) → stored_entry r ≡ Some e → (true ≡ true) × (shown_entry (output points_query ([] ∷ r ∷ [])).1 ≡ Some e) × ((output points_query ([] ∷ r ∷ [])).0 ≡ sort e)

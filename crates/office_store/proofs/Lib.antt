@@ -25,3 +25,8 @@ mod SettleOrder
 mod LastOrder
 mod Sixteen
 mod PutRequest
+mod Once
+mod Committing
+mod SettingStates
+mod PutPoint
+mod NewPoints

@@ -89,6 +89,7 @@ module _ (p s : ℕ) (words : List ℕ) (flag : Bool) where
         inside = shows.mode;
         schema = ap (λ (d : Database). d.schema) now;
         committed = shows.committed_is ∙ within.committed;
+        sound = w.sound;
         stands = record {
           points = record { stored = ap (map stored_point) points ∙ was.points.stored; sorted = was.points.sorted };
           readings = record {

@@ -94,6 +94,7 @@ module _ (n p : ℕ) (words : List ℕ) (standing : OrderState) where
         inside = h.1.mode;
         schema = ap (λ (d : Database). d.schema) now;
         committed = h.1.committed_is ∙ within.committed;
+        sound = w.sound;
         stands = record {
           points = record { stored = ap (map stored_point) points ∙ was.points.stored; sorted = was.points.sorted };
           readings = record { entries = was.readings.entries; stored = ap (map stored_reading) readings ∙ was.readings.stored; same = was.readings.same; sorted = was.readings.sorted };

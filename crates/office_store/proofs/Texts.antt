@@ -132,3 +132,13 @@ put_request_terms = lit Null ∷ col 0 0 ∷ col 0 1 ∷ col 0 2 ∷ col 0 3 ∷
 pub put_request_is : (command_of (understood office_schema put_request_text) ≡ Insert 4 (Values put_request_terms 9)) × IsPlain (understood office_schema put_request_text)
 unfolding understood everything
 put_request_is = (refl, (refl, refl))
+
+abbrev pub put_point_text : List ℕ
+put_point_text = codes "INSERT INTO point(number, name, device, tab, addr, kind, len, scale, role, roll) VALUES (?1, ?2, ?3, ?4, ?5, ?6, ?7, ?8, ?9, ?10)"
+
+abbrev pub put_point_terms : List Term
+put_point_terms = col 0 0 ∷ lit Null ∷ col 0 1 ∷ col 0 2 ∷ col 0 3 ∷ col 0 4 ∷ col 0 5 ∷ col 0 6 ∷ col 0 7 ∷ col 0 8 ∷ col 0 9 ∷ []
+
+pub put_point_is : (command_of (understood office_schema put_point_text) ≡ Insert 1 (Values put_point_terms 11)) × IsPlain (understood office_schema put_point_text)
+unfolding understood everything
+put_point_is = (refl, (refl, refl))

@@ -7,6 +7,8 @@ use Rattle.sqlite_resolve.specs.declared.compiled.Compiled.{Compiled}
 use Rattle.sqlite_value.specs.declared.value.Value.TheVariants.{Int, Text}
 use Rattle.sqlite_value.specs.Order.{Row}
 use Rattle.sqlite_trees.specs.Tree.{Trees}
+use Rattle.sqlite_trees.specs.Objects.{catalog_tree}
+use Rattle.sqlite_catalog.specs.Listing.{Lists}
 use Rattle.sqlite.specs.Listing.{understood}
 use Rattle.sqlite.specs.State.{State, HasCleanDisk}
 use Rattle.poll_book.specs.declared.rows.PointRow.{PointRow}
@@ -63,13 +65,21 @@ pub record IsHeld (s : State) (kept : Tables) : Type 0 where
 abbrev pub Holds : State → Tables → Type 0
 Holds s kept = HasCleanDisk s → IsTrue s.is_open → IsHeld s kept
 
--- what a crash at this moment may leave
+-- tables of the office's schema that stand for what some office keeps
+pub record IsOffice (db : Trees) : Type 0 where
+  pub listed : Lists (db catalog_tree) office_schema
+  pub some : Tables
+  pub stands : StandFor db some
+
+-- What a crash at this moment may leave. Tables that are no office's would stand for anything: so whoever
+-- knows a bound of what a crash may leave knows that it leaves an office's.
 abbrev pub MayLeave : State → Tables → Type 0
-MayLeave s kept = (db : Trees) × s.may_leave db × StandFor db kept
+MayLeave s kept = (db : Trees) × s.may_leave db × (IsOffice db → StandFor db kept)
 
 -- no call of it changes what a later call reads, or what a crash leaves
 pub record Keeps (old new : State) : Type 0 where
   pub clean : HasCleanDisk new → HasCleanDisk old
+  pub was_open : HasCleanDisk new → IsTrue new.is_open → IsTrue old.is_open
   pub holds : (kept : Tables) → Holds old kept → Holds new kept
   pub crash : HasCleanDisk new → (db : Trees) → new.may_leave db → old.may_leave db
 

@@ -7,3 +7,5 @@ pub mod Texts
 pub mod Counting
 pub mod Writing
 pub mod States
+pub mod Waiting
+pub mod PointNumbers

@@ -1,6 +1,7 @@
 //! The tables of an office in a database of SQLite.
 #![tactic(auto)]
 
+mod apply;
 mod ask;
 mod error;
 mod keeper;
@@ -12,7 +13,9 @@ mod requests;
 mod run;
 mod settings;
 mod values;
+mod waiting;
 mod write_numbers;
+mod write_points;
 mod write_readings;
 mod write_requests;
 mod write_settings;

@@ -41,8 +41,7 @@ pub(crate) fn put_reading<S: Alter>(
     ensures put { HasCleanDisk (state S.Store tx.new.conn.now) → (base : Database) → (kept : Tables) → Within (state S.Store tx.old.conn.now) base kept
         → reading_at kept.readings (point, slot) ≡ None
         → OnOk result (Within (state S.Store tx.new.conn.now) base (record kept { readings = with_row (point, slot) (record { words = words.now; counted = counted }) kept.readings })) }
-    ensures open { HasCleanDisk (state S.Store tx.new.conn.now) → IsTrue (state S.Store tx.old.conn.now).in_transaction
-        → OnOk result (IsTrue (state S.Store tx.old.conn.now).is_open × IsTrue (state S.Store tx.new.conn.now).in_transaction) }
+    ensures inside { HasCleanDisk (state S.Store tx.new.conn.now) → IsTrue (state S.Store tx.old.conn.now).in_transaction → OnOk result (IsTrue (state S.Store tx.new.conn.now).in_transaction) }
     ensures kept { HasCleanDisk (state S.Store tx.new.conn.now) → KeepsCommit (state S.Store tx.old.conn.now) (state S.Store tx.new.conn.now) }
     ensures survives { Survives (state S.Store tx.old.conn.now) (state S.Store tx.new.conn.now) (λ _. ⊥) }
 {
@@ -64,6 +63,7 @@ pub(crate) fn put_readings<S: Alter>(
     ensures put { HasCleanDisk (state S.Store tx.new.conn.now) → (base : Database) → (kept : Tables) → Within (state S.Store tx.old.conn.now) base kept
         → AreNew kept.readings (as_rows rows.now)
         → OnOk result (Within (state S.Store tx.new.conn.now) base (record kept { readings = with_rows (as_rows rows.now) kept.readings })) }
+    ensures inside { HasCleanDisk (state S.Store tx.new.conn.now) → IsTrue (state S.Store tx.old.conn.now).in_transaction → OnOk result (IsTrue (state S.Store tx.new.conn.now).in_transaction) }
     ensures kept { HasCleanDisk (state S.Store tx.new.conn.now) → KeepsCommit (state S.Store tx.old.conn.now) (state S.Store tx.new.conn.now) }
     ensures survives { Survives (state S.Store tx.old.conn.now) (state S.Store tx.new.conn.now) (λ _. ⊥) }
 {

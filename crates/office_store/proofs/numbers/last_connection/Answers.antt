@@ -23,3 +23,10 @@ returns-in-Some-clause-value g c clean kept holds =
     let all = only rows c.as_slice.result.now row c.as_slice.ensures.value c.in-len1.len_at_least c.in-len1.len_below c.row-item.is in
     let some = sym (c.number_of.ensures ∙ ap number_of c.value_at.ensures) ∙ c.in-Some.is in
     last_is old new kept held row (subst (Shown connections_text [] old new) all shown) c.in-Some.number some
+
+pub returns-in-Some-clause-open : goal.returns-in-Some-clause-open
+returns-in-Some-clause-open g c clean =
+    let old = state g.S.Store c.args.connection.now in
+    let new = state g.S.Store c.ask.new.connection in
+    let same = (after_ok connections_text [] old new connections_is_query c.in-Ok.rows.items (c.in-Ok.ensures.rows clean)).0 in
+    (same.was_open, same.is_open)

@@ -1,4 +1,4 @@
-use Rattle.std.proofs.Common.{◌≡◌, suc, ◌-◌, List, [], ◌∷◌, drop, length, inl, refl, sym, ap, subst, ◌∙◌, arith, drop_of_length-le}
+use Rattle.std.proofs.Common.{◌≡◌, ℕ, suc, ◌-◌, List, [], ◌∷◌, drop, length, inl, refl, sym, ap, subst, ◌∙◌, arith, drop_of_length-le}
 use Rattle.std.proofs.Math.Seq.{drop-cons}
 use Rattle.sqlite.specs.Held.{state}
 use Rattle.sqlite.proofs.StateLemmas.{survives_then}
@@ -14,6 +14,7 @@ loop-left-init g c = record {
   same_reference = refl;
   survives = record { clean = omega arith; shield = λ x. x; counts = omega arith; limit = refl; closes = λ clean now_open. inl now_open; crash = λ clean db may. inl may };
   kept = λ clean. record { was_open = λ now_open. now_open; committed = λ now_open. refl };
+  inside = λ clean inside. inside;
   in_range = omega arith;
   put = λ clean base kept within fresh.
       let rows = c.args.rows.now in
@@ -40,6 +41,7 @@ loop-left-preserved g c =
           let a = past.kept (omega (arith, clean, made.survives.clean)) in
           let b = made.kept clean in
           record { was_open = λ now_open. a.was_open (b.was_open now_open); committed = λ now_open. b.committed now_open ∙ a.committed (b.was_open now_open) };
+      inside = λ clean inside. made.inside clean (past.inside (omega (arith, clean, made.survives.clean)) inside);
       in_range = omega (arith, past.in_range);
       put = λ clean base kept within fresh.
           let it = past.put (omega (arith, clean, made.survives.clean)) base kept within fresh in
@@ -47,3 +49,10 @@ loop-left-preserved g c =
           let put = made.put clean base (record kept { readings = with_rows (as_rows (drop c.loop-left.left rows)) kept.readings }) it (new_here kept.readings row (drop c.loop-left.left rows) new) in
           subst (λ (l : List ReadingRow). Within after base (record kept { readings = with_rows (as_rows l) kept.readings })) (sym split) put;
     }
+
+pub returns-clause-put : goal.returns-clause-put
+returns-clause-put g c clean base kept within fresh =
+    let rows = c.args.rows.now in
+    let done : c.loop-left.left ≡ 0 = omega (arith, c.loop-left-test.false) in
+    subst (λ (n : ℕ). Within (state g.S.Store c.loop-left.tx.conn.now) base (record kept { readings = with_rows (as_rows (drop n rows)) kept.readings })) done
+    (c.loop-left.invariant.put clean base kept within fresh)

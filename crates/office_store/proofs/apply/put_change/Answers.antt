@@ -1,0 +1,19 @@
+use Rattle.std.proofs.Common.{◌++◌, sym, subst, arith}
+use Rattle.sqlite.specs.Held.{state}
+use Rattle.sqlite.specs.State.{HasCleanDisk}
+use Rattle.poll_book.specs.Changes.{AreNew, AreNumbered, as_rows}
+use Rattle.office_store.proofs.apply.put_change.Goals as goal
+
+pub returns-clause-put : goal.returns-clause-put
+returns-clause-put g c clean base kept within new =
+    let asked : HasCleanDisk (state g.S.Store c.put_asked.new.tx.conn.now) = omega (arith, clean, c.put_connections.ensures.survives.clean) in
+    let ordered : HasCleanDisk (state g.S.Store c.put_order.new.tx.conn.now) = omega (arith, asked, c.put_asked.ensures.survives.clean) in
+    let read : HasCleanDisk (state g.S.Store c.put_readings.new.tx.conn.now) = omega (arith, ordered, c.put_order.ensures.survives.clean) in
+    let pointed : HasCleanDisk (state g.S.Store c.put_points.new.tx.conn.now) = omega (arith, read, c.put_readings.ensures.survives.clean) in
+    let points = c.as_slice.ensures in
+    let readings = c.as_slice-2.ensures in
+    let one = rw points at (c.in_ok-put_points.ensures.put pointed base kept within (subst (λ ps. AreNumbered 0 (kept.points ++ ps)) (sym points) new.points)) in
+    let two = rw readings at (c.in_ok-put_readings.ensures.put read base _ one (subst (λ rs. AreNew kept.readings (as_rows rs)) (sym readings) new.readings)) in
+    let three = c.in_ok-put_order.ensures.put ordered base _ two new.setting in
+    let four = c.in_ok-put_asked.ensures.put asked base _ three new.request in
+    c.put_connections.ensures.put clean base _ four
