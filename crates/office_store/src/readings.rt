@@ -4,7 +4,7 @@ ghost use Rattle.std.specs.Prelude.{◌≡◌, ◌≤◌, false, IfOk, IfSome, I
 ghost use Rattle.sqlite.specs.Held.{state};
 ghost use Rattle.sqlite.specs.State.{HasCleanDisk};
 ghost use Rattle.poll_book.specs.Tables.{Tables, reading_at, readings_between};
-ghost use Rattle.poll_book.specs.Totals.{step_from, steps, total};
+ghost use Rattle.poll_book.specs.Totals.{steps, total};
 ghost use Rattle.poll_book.specs.Changes.{as_row, as_rows};
 ghost use Rattle.office_store.specs.Kept.{Holds, Keeps};
 ghost use Rattle.office_store.specs.Rows.{shown_reading};
@@ -14,7 +14,7 @@ use crate::ask::ask;
 use crate::error::fault_of;
 use crate::values::{flag_of, number_of, value_at, words_of};
 use point_list::Point;
-use poll_book::{PointRow, Reading, ReadingRow, StoreFault, counted_number, step_between};
+use poll_book::{PointRow, Reading, ReadingRow, StoreFault, counted_number, step_to};
 use sqlite::{Alter, Connection, Row, params};
 use std::alloc::Global;
 
@@ -115,17 +115,6 @@ fn number_in(point: &Point, row: &ReadingRow) -> Option<u64>
         counted_number(point, row.words.as_slice())
     } else {
         None
-    }
-}
-
-fn step_to(last: Option<u64>, number: u64, roll: u64) -> u64
-    requires before { IfSome last (λ before. before ≤ roll) }
-    requires bound { number ≤ roll }
-    ensures { result ≡ step_from roll last number }
-{
-    match last {
-        Some(before) => step_between(before, number, roll),
-        None => 0,
     }
 }
 

@@ -25,10 +25,22 @@ pub fn counted_number(point: &Point, words: &[u16]) -> Option<u64>
 
 /// How far a counter that begins again at 0 after `roll` went from a to b at least: (b - a) modulo
 /// roll + 1.
-pub fn step_between(a: u64, b: u64, roll: u64) -> u64
+fn step_between(a: u64, b: u64, roll: u64) -> u64
     requires first { a ≤ roll }
     requires second { b ≤ roll }
     ensures { result ≡ (b + (roll + 1) - a) % (roll + 1) }
 {
     if a <= b { b - a } else { roll - (a - b) + 1 }
+}
+
+/// How far a counter went to a number from the one that counted before it; 0 at the first.
+pub fn step_to(last: Option<u64>, number: u64, roll: u64) -> u64
+    requires before { IfSome last (λ before. before ≤ roll) }
+    requires bound { number ≤ roll }
+    ensures { result ≡ counting.step_from roll last number }
+{
+    match last {
+        Some(before) => step_between(before, number, roll),
+        None => 0,
+    }
 }

@@ -21,7 +21,7 @@ mod rows;
 mod words;
 
 pub use caller::{Caller, Key};
-pub use counting::{counted_number, step_between};
+pub use counting::{counted_number, step_to};
 pub use fault::StoreFault;
 pub use keeper::{Keeper, Neighbours};
 pub use mem_keeper::MemKeeper;

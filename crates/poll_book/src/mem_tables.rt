@@ -8,11 +8,11 @@ ghost use Rattle.poll_book.specs.Orders as book;
 ghost use Rattle.poll_book.specs.Orders.{as_setting, last_order, oldest_waiting};
 ghost use Rattle.poll_book.specs.Requests as asked;
 ghost use Rattle.poll_book.specs.Totals as totals;
-ghost use Rattle.poll_book.specs.Totals.{step_from, steps};
+ghost use Rattle.poll_book.specs.Totals.{steps};
 
 use crate::asked::{copy_of_request, put_request, request_at};
 use crate::caller::{Caller, Key};
-use crate::counting::{counted_number, step_between};
+use crate::counting::{counted_number, step_to};
 use crate::histories::{make_histories, put_all, slots_in, staged};
 use crate::history::{History, SlotRow, slot_place};
 use crate::marks::{Mark, forget_for, next_waiting, past_of, set_mark};
@@ -218,17 +218,6 @@ fn total_of(point: &Point, slots: &[SlotRow]) -> u128
         }
     }
     sum
-}
-
-fn step_to(last: Option<u64>, number: u64, roll: u64) -> u64
-    requires before { IfSome last (λ before. before ≤ roll) }
-    requires bound { number ≤ roll }
-    ensures { result ≡ step_from roll last number }
-{
-    match last {
-        Some(before) => step_between(before, number, roll),
-        None => 0,
-    }
 }
 
 fn rows_between(
