@@ -42,7 +42,7 @@ fn str_of(value: ValueRef<'_>) -> Option<&str>
     }
 }
 
-pub(crate) fn caller_of(value: ValueRef<'_>) -> Option<Caller>
+fn caller_of(value: ValueRef<'_>) -> Option<Caller>
     ensures { result ≡ text_that is_caller (owned value.entry) }
 {
     match str_of(value) {
@@ -51,7 +51,7 @@ pub(crate) fn caller_of(value: ValueRef<'_>) -> Option<Caller>
     }
 }
 
-pub(crate) fn key_of(value: ValueRef<'_>) -> Option<Key>
+fn key_of(value: ValueRef<'_>) -> Option<Key>
     ensures { result ≡ text_that is_key (owned value.entry) }
 {
     match str_of(value) {

@@ -1,18 +1,16 @@
 //! Rows of requests are written.
 
-ghost use Rattle.std.specs.Prelude.{◌≡◌, ◌⊎◌, IfOk, IfSome, IsTrue, None, OnOk, Some, pos, true};
+ghost use Rattle.std.specs.Prelude.{◌≡◌, ◌⊎◌, IfOk, IfSome, IsTrue, None, OnOk, Some, pos};
 ghost use Rattle.sqlite.specs.Effect.{Database};
 ghost use Rattle.sqlite.specs.Held.{state};
 ghost use Rattle.sqlite.specs.State.{HasCleanDisk, KeepsCommit, Survives};
 ghost use Rattle.sqlite_value.specs.declared.value.Value.TheVariants.{Blob, Int};
-ghost use Rattle.poll_book.specs.Callers.{is_caller, is_key};
 ghost use Rattle.poll_book.specs.Changes.{IsUnused, with_asked};
 ghost use Rattle.poll_book.specs.Requests.{as_request, request_at, with_request};
 ghost use Rattle.poll_book.specs.Tables.{Tables};
 ghost use Rattle.office_store.specs.Rows.{body_coded, body_of, outcome_of, reason_coded};
 ghost use Rattle.office_store.specs.Writing.{Within};
 
-use crate::requests::{caller_of, key_of};
 use crate::run::run;
 use point_list::ListFault::{
     self, BadAddress, BadCsv, BadHeader, BadLength, BadName, BadRole, BadRoll, BadScale, BadSite,
@@ -98,15 +96,6 @@ fn order_bytes(alloc: Global, point: &str, value: i128) -> Result<Vec<u8>, Alloc
     Ok(bytes)
 }
 
-/// Whether the names of a row read back as they are written. Its types keep them so, which isn't
-/// known outside of their crate.
-fn has_names(row: &RequestRow) -> bool
-    ensures { IsTrue result → (is_caller row.now.caller ≡ true) × (is_key row.now.key ≡ true) }
-{
-    caller_of(ValueRef::Text(row.caller.as_bytes())).is_some()
-        && key_of(ValueRef::Text(row.key.as_bytes())).is_some()
-}
-
 /// Adds the row of a request whose body and outcome are in the form of the table.
 fn put_coded<S: Alter>(
     tx: &mut Transaction<'_, S>,
@@ -115,8 +104,6 @@ fn put_coded<S: Alter>(
     body: &[u8],
     outcome: OutcomeNumbers,
 ) -> Result<usize, Error>
-    requires caller { is_caller row.now.caller ≡ true }
-    requires key { is_key row.now.key ≡ true }
     requires body { body_of (Int (pos kind)) (Blob body.now) ≡ Some row.now.body }
     requires outcome { outcome_of (Int (pos outcome.answer)) (Int (pos outcome.a)) (Int (pos outcome.b)) (Int (pos outcome.c)) ≡ Some row.now.outcome }
     ensures same_reference { tx.new.conn.ghost_name ≡ tx.old.conn.ghost_name }
@@ -157,9 +144,8 @@ pub(crate) fn put_request<S: Alter>(
     ensures kept { HasCleanDisk (state S.Store tx.new.conn.now) → KeepsCommit (state S.Store tx.old.conn.now) (state S.Store tx.new.conn.now) }
     ensures survives { Survives (state S.Store tx.old.conn.now) (state S.Store tx.new.conn.now) (λ _. ⊥) }
 {
-    let outcome = match outcome_numbers(row.outcome) {
-        Some(outcome) if has_names(row) => outcome,
-        _ => return Err(Error::SqliteFailure(ErrorCode::TypeMismatch)),
+    let Some(outcome) = outcome_numbers(row.outcome) else {
+        return Err(Error::SqliteFailure(ErrorCode::TypeMismatch));
     };
     match &row.body {
         Body::List(bytes) => put_coded(tx, row, 1, bytes.as_slice(), outcome),

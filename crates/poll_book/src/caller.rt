@@ -1,5 +1,5 @@
 //! Who asks, and under which key: short words in the value itself.
-ghost use Rattle.std.specs.Prelude.{◌≡◌, if◌then◌else◌, Some, None};
+ghost use Rattle.std.specs.Prelude.{◌≡◌, if◌then◌else◌, Some, None, true};
 ghost use Rattle.std.specs.List.{list_all};
 ghost use Rattle.poll_book.specs.Callers.{is_caller, is_key, is_key_byte, is_word_within};
 
@@ -80,7 +80,8 @@ impl Caller {
 
     /// The bytes of the name, all of them ASCII.
     pub fn as_bytes(&self) -> &[u8]
-        ensures { result.now ≡ self.now }
+        ensures value { result.now ≡ self.now }
+        ensures caller { is_caller self.now ≡ true }
     {
         self.text.as_bytes()
     }
@@ -102,7 +103,8 @@ impl Key {
 
     /// The bytes of the key, all of them ASCII.
     pub fn as_bytes(&self) -> &[u8]
-        ensures { result.now ≡ self.now }
+        ensures value { result.now ≡ self.now }
+        ensures key { is_key self.now ≡ true }
     {
         self.text.as_bytes()
     }

@@ -18,7 +18,7 @@ returns-in-empty-clause-value g c clean kept holds =
     let new = state g.S.Store c.ask.new.connection in
     let rows = c.in-Ok.rows.items in
     let keys = given c.args.caller.now c.args.key.now in
-    let shown = rw (c.as_bytes.ensures, c.as_bytes-2.ensures) at (c.in-Ok.ensures.rows clean) in
+    let shown = rw (c.as_bytes.ensures.value, c.as_bytes-2.ensures.value) at (c.in-Ok.ensures.rows clean) in
     let held = holds (c.ask.ensures.keeps.clean clean) (after_ok request_text keys old new request_is_query rows shown).0.was_open in
     let none = nothing rows c.as_slice.result.now c.as_slice.ensures.value c.in-empty.len_below in
     no_request c.args.caller.now c.args.key.now old new kept held (subst (Shown request_text keys old new) none shown)
@@ -30,7 +30,7 @@ returns-in-len1-clause-value g c clean kept holds =
     let rows = c.in-Ok.rows.items in
     let row = c.row-item.result in
     let keys = given c.args.caller.now c.args.key.now in
-    let shown = rw (c.as_bytes.ensures, c.as_bytes-2.ensures) at (c.in-Ok.ensures.rows clean) in
+    let shown = rw (c.as_bytes.ensures.value, c.as_bytes-2.ensures.value) at (c.in-Ok.ensures.rows clean) in
     let held = holds (c.ask.ensures.keeps.clean clean) (after_ok request_text keys old new request_is_query rows shown).0.was_open in
     let all = only rows c.as_slice.result.now row c.as_slice.ensures.value c.in-len1.len_at_least c.in-len1.len_below c.row-item.is in
     one_request c.args.caller.now c.args.key.now old new kept held row [] (subst (Shown request_text keys old new) all shown) (as_request c.in_ok-found-in-len1.found) c.in_ok-found-in-len1.ensures
