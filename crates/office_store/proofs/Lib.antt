@@ -30,3 +30,7 @@ mod Committing
 mod SettingStates
 mod PutPoint
 mod NewPoints
+mod Deciding
+mod Keeping
+mod Searching
+mod Marking

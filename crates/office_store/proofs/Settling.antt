@@ -15,7 +15,7 @@ use Rattle.office_store.proofs.Comparing.{ints}
 use Rattle.office_store.proofs.Sorted.{true_T}
 use Rattle.office_store.proofs.Appending.{less_is, less, greater, first_T, second_T}
 
-greater_is : (a b : ℕ) → nat_cmp a b ≡ Greater → b < a
+pub greater_is : (a b : ℕ) → nat_cmp a b ≡ Greater → b < a
 greater_is a b h = grind (arith, nat_tests)
 
 equal_is : (a b : ℕ) → nat_cmp a b ≡ Equal → a ≡ b

@@ -83,7 +83,7 @@ module _ {K X : Type 0} (R : K → K → Ordering) (o : IsTotalOrder R) where
   sorted_keys [] h = tt
   sorted_keys (e ∷ es) h = pair_T _ _ (all_above e.0 es h.0) (sorted_keys es h.1)
 
-  pub IsFoundIn : List (K × X) → K × X → Type 0
+  unfoldable pub IsFoundIn : List (K × X) → K × X → Type 0
   IsFoundIn es e = rows.find R e.0 es ≡ Some e.1
 
   later : (e x : K × X) (es : List (K × X)) → R e.0 x.0 ≡ Less → IsFoundIn es x → IsFoundIn (e ∷ es) x

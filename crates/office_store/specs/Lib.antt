@@ -9,3 +9,4 @@ pub mod Writing
 pub mod States
 pub mod Waiting
 pub mod PointNumbers
+pub mod Keepers

@@ -64,6 +64,7 @@ fn write<S: Alter>(
     ensures ok { (kept : Tables) → Holds (state S.Store connection.old) kept → IsNew change.now kept → OnOk result (Holds (state S.Store connection.new) (applied change.now kept)) }
     ensures err { OnErr result (book.Within (Holds (state S.Store connection.old)) (Holds (state S.Store connection.new))) }
     ensures clean { HasCleanDisk (state S.Store connection.new) → HasCleanDisk (state S.Store connection.old) }
+    ensures was_open { HasCleanDisk (state S.Store connection.new) → IsTrue (state S.Store connection.new).is_open → IsTrue (state S.Store connection.old).is_open }
     ensures crash { HasCleanDisk (state S.Store connection.new) → (kept : Tables) → Holds (state S.Store connection.old) kept → IsNew change.now kept
         → (left : Tables) → MayLeave (state S.Store connection.new) left → MayLeave (state S.Store connection.old) left ⊎ (left ≡ applied change.now kept) }
     ensures durable { HasCleanDisk (state S.Store connection.new) → (kept : Tables) → Holds (state S.Store connection.old) kept → IsNew change.now kept
@@ -90,6 +91,7 @@ pub(crate) fn apply<S: Alter>(
     ensures ok { (kept : Tables) → Holds (state S.Store connection.old) kept → IsNew change.now kept → OnOk result (Holds (state S.Store connection.new) (applied change.now kept)) }
     ensures err { OnErr result (book.Within (Holds (state S.Store connection.old)) (Holds (state S.Store connection.new))) }
     ensures clean { HasCleanDisk (state S.Store connection.new) → HasCleanDisk (state S.Store connection.old) }
+    ensures was_open { HasCleanDisk (state S.Store connection.new) → IsTrue (state S.Store connection.new).is_open → IsTrue (state S.Store connection.old).is_open }
     ensures crash { HasCleanDisk (state S.Store connection.new) → (kept : Tables) → Holds (state S.Store connection.old) kept → IsNew change.now kept
         → (left : Tables) → MayLeave (state S.Store connection.new) left → MayLeave (state S.Store connection.old) left ⊎ (left ≡ applied change.now kept) }
     ensures durable { HasCleanDisk (state S.Store connection.new) → (kept : Tables) → Holds (state S.Store connection.old) kept → IsNew change.now kept

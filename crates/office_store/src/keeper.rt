@@ -1,40 +1,54 @@
 //! A keeper over tables of a database.
 
-ghost use Rattle.std.specs.Prelude.{◌≡◌, ◌≢◌, ◌⊎◌, [], ◌∷◌, false, IfOk, IfErr, Some};
+ghost use Rattle.std.specs.Prelude.{◌≡◌, ◌≢◌, ◌⊎◌, [], ◌∷◌, false, IfOk, IfErr, IsTrue, Some};
 ghost use Rattle.sqlite.specs.Held.{state};
 ghost use Rattle.sqlite.specs.State.{HasCleanDisk, Shown, FailsToQuery};
 ghost use Rattle.sqlite_value.specs.Order.{Row, column};
 ghost use Rattle.poll_book.specs.declared.fault.StoreFault.{StoreFault};
 ghost use Rattle.office_store.specs.Faults.{fault_of};
-ghost use Rattle.office_store.specs.Kept.{Keeps};
+ghost use Rattle.office_store.specs.Kept.{Holds, Keeps};
+ghost use Rattle.poll_book.specs.Tables.{Tables};
 ghost use Rattle.office_store.specs.Rows.{number_of};
 ghost use Rattle.office_store.specs.Texts.{version_text};
 ghost use Rattle.poll_book.specs.Fault.{CountsRefusal};
 
+use crate::apply::apply;
 use crate::ask::ask;
 use crate::error::{StoreError, fault_of};
-use crate::readings;
 use crate::values::{number_of, value_at};
-use poll_book::{Neighbours, PointRow, Reading, StoreFault};
+use crate::waiting::Mark;
+use crate::{numbers, points, readings, requests, settings, waiting};
+use poll_book::{
+    Caller, Change, Keeper, Key, Neighbours, PointRow, Reading, ReadingRow, Request, Setting,
+    SettingRow, StoreFault,
+};
 use sqlite::{Alter, Connection};
+use std::alloc::Global;
 
 /// A keeper over the tables of a database, which no transaction changes but its own.
 #[derive(Drop)]
 pub struct SqlKeeper<S: Alter> {
-    pub(crate) connection: Connection<S>,
-    pub(crate) refusals: u64,
+    connection: Connection<S>,
+    marks: Vec<Mark>,
+    // How many calls were refused, up to the greatest count.
+    refusals: u64,
     ghost idle: { connection.in_transaction ≡ false },
 }
 
 impl<S: Alter> SqlKeeper<S> {
+    ghost use Rattle.office_store.specs.Keepers.{IsKeptBy, connection_of, refused_by};
+
     /// The keeper of the tables, if they are of version 1. It reads the version alone and changes
     /// nothing. An error gives the connection back.
     pub fn open(mut connection: Connection<S>) -> Result<SqlKeeper<S>, (StoreError, Connection<S>)>
-        ensures kept { IfOk result (λ keeper. Keeps (state S.Store connection) (state S.Store keeper.connection)) }
+        ensures kept { IfOk result (λ keeper. Keeps (state S.Store connection) (state S.Store (connection_of keeper))) }
+        ensures holds { IfOk result (λ keeper. (kept : Tables) → Holds (state S.Store connection) kept → IsKeptBy keeper kept) }
+        ensures was_open { IfOk result (λ keeper. HasCleanDisk (state S.Store (connection_of keeper)) → IsTrue (state S.Store connection).is_open) }
+        ensures settled { IfOk result (λ _. IsTrue (state S.Store connection).is_open → (state S.Store connection).now ≡ (state S.Store connection).committed) }
         ensures given_back { IfErr result (λ error. Keeps (state S.Store connection) (state S.Store error.1)) }
-        ensures counted { IfOk result (λ keeper. keeper.refusals ≡ 0) }
-        ensures known { IfOk result (λ keeper. HasCleanDisk (state S.Store keeper.connection)
-            → (row : Row) × Shown version_text [] (state S.Store connection) (state S.Store keeper.connection) (row ∷ []) × (number_of (column row 0) ≡ Some 1)) }
+        ensures counted { IfOk result (λ keeper. refused_by keeper ≡ 0) }
+        ensures known { IfOk result (λ keeper. HasCleanDisk (state S.Store (connection_of keeper))
+            → (row : Row) × Shown version_text [] (state S.Store connection) (state S.Store (connection_of keeper)) (row ∷ []) × (number_of (column row 0) ≡ Some 1)) }
         ensures bad_version { IfErr result (λ error. error.0 ≡ StoreError.BadVersion → HasCleanDisk (state S.Store error.1)
             → (row : Row) × Shown version_text [] (state S.Store connection) (state S.Store error.1) (row ∷ []) × (number_of (column row 0) ≢ Some 1)) }
         ensures not_office { IfErr result (λ error. error.0 ≡ StoreError.NotOffice → HasCleanDisk (state S.Store error.1)
@@ -60,12 +74,14 @@ impl<S: Alter> SqlKeeper<S> {
                 return Err((told, connection));
             }
         };
+        let alloc = *rows.allocator();
         match rows.as_slice() {
             [] => Err((StoreError::NotOffice, connection)),
             [row] => {
                 if number_of(value_at(row, 0)) == Some(1) {
                     Ok(SqlKeeper {
                         connection,
+                        marks: Vec::new(alloc),
                         refusals: 0,
                     })
                 } else {
@@ -78,7 +94,7 @@ impl<S: Alter> SqlKeeper<S> {
 
     /// The connection again.
     pub fn into_connection(self) -> Connection<S>
-        ensures { result ≡ self.connection }
+        ensures { result ≡ connection_of self }
     {
         self.connection
     }
@@ -98,29 +114,87 @@ fn counted<T>(refusals: &mut u64, answer: Result<T, StoreFault>) -> Result<T, St
 impl<S: Alter> Neighbours for SqlKeeper<S> {
     ghost use Rattle.sqlite.specs.Held.{state};
     ghost use Rattle.sqlite.specs.State.{HasCleanDisk};
-    ghost use Rattle.office_store.specs.Kept.{Holds, MayLeave};
+    ghost use Rattle.office_store.specs.Kept.{MayLeave};
+    ghost use Rattle.office_store.specs.Keepers.{IsKeptBy, connection_of, refused_by};
 
-    ghost holds = { λ k. Holds (state S.Store k.connection) };
+    ghost holds = { IsKeptBy };
 
-    ghost is_clean = { λ k. HasCleanDisk (state S.Store k.connection) };
+    ghost is_clean = { λ k. HasCleanDisk (state S.Store (connection_of k)) };
 
-    ghost may_leave = { λ k. MayLeave (state S.Store k.connection) };
+    ghost may_leave = { λ k. MayLeave (state S.Store (connection_of k)) };
 
     ghost may_refuse = { λ _. Unit {0} };
 
-    ghost refused = { λ k. k.refusals };
+    ghost refused = { refused_by };
 
     fn reading(&mut self, point: &PointRow, slot: u32) -> Result<Option<Reading>, StoreFault> {
-        let found = readings::reading_at(&mut self.connection, point.number, slot);
+        let alloc = *self.marks.allocator();
+        let found = readings::reading_at(alloc, &mut self.connection, point.number, slot);
         counted(&mut self.refusals, found)
     }
 
     fn total(&mut self, point: &PointRow) -> Result<u128, StoreFault> {
-        let sum = readings::total(&mut self.connection, point);
+        let alloc = *self.marks.allocator();
+        let sum = readings::total(alloc, &mut self.connection, point);
         counted(&mut self.refusals, sum)
     }
 
     fn refusals(&self) -> u64 {
         self.refusals
+    }
+}
+
+impl<S: Alter> Keeper for SqlKeeper<S> {
+    fn points(&mut self, alloc: Global) -> Result<Vec<PointRow>, StoreFault> {
+        let found = points::all_points(alloc, &mut self.connection);
+        counted(&mut self.refusals, found)
+    }
+
+    fn readings(
+        &mut self,
+        alloc: Global,
+        point: u32,
+        from: u32,
+        to: u32,
+    ) -> Result<Vec<ReadingRow>, StoreFault> {
+        let found = readings::readings_between(alloc, &mut self.connection, point, from, to);
+        counted(&mut self.refusals, found)
+    }
+
+    fn request(
+        &mut self,
+        alloc: Global,
+        caller: &Caller,
+        key: &Key,
+    ) -> Result<Option<Request>, StoreFault> {
+        let found = requests::request_at(alloc, &mut self.connection, caller, key);
+        counted(&mut self.refusals, found)
+    }
+
+    fn setting(&mut self, number: u32) -> Result<Option<Setting>, StoreFault> {
+        let found = settings::setting_at(&mut self.connection, number);
+        counted(&mut self.refusals, found)
+    }
+
+    fn oldest_waiting(&mut self, device: &str) -> Result<Option<SettingRow>, StoreFault> {
+        let found = waiting::oldest_waiting(&mut self.connection, &mut self.marks, device);
+        counted(&mut self.refusals, found)
+    }
+
+    fn orders(&mut self) -> Result<u32, StoreFault> {
+        let last = settings::last_order(&mut self.connection);
+        counted(&mut self.refusals, last)
+    }
+
+    fn connections(&mut self) -> Result<u32, StoreFault> {
+        let last = numbers::last_connection(&mut self.connection);
+        counted(&mut self.refusals, last)
+    }
+
+    fn apply(&mut self, change: &Change) -> Result<(), StoreFault> {
+        waiting::forget_for(&mut self.marks, change.points.as_slice());
+        let alloc = *self.marks.allocator();
+        let written = apply(alloc, &mut self.connection, change);
+        counted(&mut self.refusals, written)
     }
 }

@@ -5,6 +5,7 @@ mod apply;
 mod ask;
 mod error;
 mod keeper;
+pub mod laws;
 mod making;
 mod numbers;
 mod points;

@@ -34,10 +34,9 @@ fn reading_of(alloc: Global, row: &Row) -> Result<ReadingRow, StoreFault>
     })
 }
 
-fn all_of(rows: &Vec<Row>) -> Result<Vec<ReadingRow>, StoreFault>
+fn all_of(alloc: Global, rows: &Vec<Row>) -> Result<Vec<ReadingRow>, StoreFault>
     ensures { IfOk result (λ readings. map shown_reading rows.now.items ≡ map Some (as_rows readings.items)) }
 {
-    let alloc = *rows.allocator();
     let mut readings = Vec::new(alloc);
     for row in rows {
         readings.push(reading_of(alloc, row)?)?;
@@ -47,6 +46,7 @@ fn all_of(rows: &Vec<Row>) -> Result<Vec<ReadingRow>, StoreFault>
 
 /// The readings of a point in the slots from the one to the other, by slot.
 pub(crate) fn readings_between<S: Alter>(
+    alloc: Global,
     connection: &mut Connection<S>,
     point: u32,
     from: u32,
@@ -64,13 +64,14 @@ pub(crate) fn readings_between<S: Alter>(
         "SELECT point, slot, words, counted FROM reading WHERE point = ?1 AND slot >= ?2 AND slot <= ?3 ORDER BY slot",
         params![point, from, to],
     ) {
-        Ok(rows) => all_of(&rows),
+        Ok(rows) => all_of(alloc, &rows),
         Err(error) => Err(fault_of(error)),
     }
 }
 
 /// The reading of a point in a slot, if there is one.
 pub(crate) fn reading_at<S: Alter>(
+    alloc: Global,
     connection: &mut Connection<S>,
     point: u32,
     slot: u32,
@@ -81,7 +82,7 @@ pub(crate) fn reading_at<S: Alter>(
     ensures keeps { Keeps (state S.Store connection.old) (state S.Store connection.new) }
     ensures idle { connection.new.in_transaction ≡ false }
 {
-    let mut rows = readings_between(connection, point, slot, slot)?;
+    let mut rows = readings_between(alloc, connection, point, slot, slot)?;
     rows.truncate(1);
     Ok(match rows.pop() {
         Some(row) => Some(Reading {
@@ -120,6 +121,7 @@ fn number_in(point: &Point, row: &ReadingRow) -> Option<u64>
 
 /// How far a counter went by its counted readings; 0 for a point that is no counter.
 pub(crate) fn total<S: Alter>(
+    alloc: Global,
     connection: &mut Connection<S>,
     point: &PointRow,
 ) -> Result<u128, StoreFault>
@@ -129,6 +131,6 @@ pub(crate) fn total<S: Alter>(
     ensures keeps { Keeps (state S.Store connection.old) (state S.Store connection.new) }
     ensures idle { connection.new.in_transaction ≡ false }
 {
-    let rows = readings_between(connection, point.number, 0, u32::MAX)?;
+    let rows = readings_between(alloc, connection, point.number, 0, u32::MAX)?;
     Ok(total_of(&point.point, &rows))
 }

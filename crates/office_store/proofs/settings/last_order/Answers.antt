@@ -24,6 +24,18 @@ returns-in-Some-clause-value g c clean kept holds =
     let some = sym (c.number_of.ensures ∙ ap number_of c.value_at.ensures) ∙ c.in-Some.is in
     one_order old new kept held row (subst (Shown last_text [] old new) all shown) c.in-Some.number some
 
+pub returns-in-Some-clause-open : goal.returns-in-Some-clause-open
+returns-in-Some-clause-open g c clean =
+    let old = state g.S.Store c.args.connection.now in
+    let new = state g.S.Store c.ask.new.connection in
+    (after_ok last_text [] old new last_is_query c.in-Ok.rows.items (c.in-Ok.ensures.rows clean)).0.was_open
+
+pub returns-in-empty-clause-open : goal.returns-in-empty-clause-open
+returns-in-empty-clause-open g c clean =
+    let old = state g.S.Store c.args.connection.now in
+    let new = state g.S.Store c.ask.new.connection in
+    (after_ok last_text [] old new last_is_query c.in-Ok.rows.items (c.in-Ok.ensures.rows clean)).0.was_open
+
 pub returns-in-empty-clause-value : goal.returns-in-empty-clause-value
 returns-in-empty-clause-value g c clean kept holds =
     let old = state g.S.Store c.args.connection.now in

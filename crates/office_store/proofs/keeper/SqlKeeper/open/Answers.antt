@@ -3,6 +3,7 @@ use Rattle.sqlite.specs.Held.{state}
 use Rattle.sqlite.specs.State.{Shown}
 use Rattle.office_store.specs.Texts.{version_text}
 use Rattle.office_store.specs.Rows.{number_of}
+use Rattle.office_store.proofs.Asking.{after_ok}
 use Rattle.office_store.proofs.Queries.{version_is_query}
 use Rattle.office_store.proofs.Only.{nothing, only}
 use Rattle.office_store.proofs.keeper.SqlKeeper.open.Goals.{then-eq, else-eq}
@@ -38,3 +39,7 @@ returns-in-len1-clause-bad_version g c told clean =
           let is : c.number_of.result ≡ Some 1 = c.number_of.ensures ∙ ap number_of c.value_at.ensures ∙ h in
           absurd (let bad = rw is at c.if-eq-2.ensures in cc),
     )
+
+pub returns-then-eq-2-clause-was_open : goal.returns-then-eq-2-clause-was_open
+returns-then-eq-2-clause-was_open g c clean =
+    (after_ok version_text [] (state g.S.Store c.args.connection) (state g.S.Store c.ask.new.connection) version_is_query c.in-Ok.rows.items (c.in-Ok.ensures.rows clean)).0.was_open
