@@ -12,16 +12,16 @@ use poll_match::Conn;
 use read_planner::Read;
 use std::alloc::Global;
 
-pub(crate) const MEMORY: OfficeError = OfficeError::Store(StoreFault::Memory);
+pub const MEMORY: OfficeError = OfficeError::Store(StoreFault::Memory);
 
 const HEADER: &str = "name,device,table,address,type,length,scale,role,roll\n";
 
 /// Two lines, each with a device of its own.
-pub(crate) const TWO: &str =
+pub const TWO: &str =
     "[[line]]\nname = \"roof\"\naddress = \"127.0.0.1:502\"\n[[line]]\nname = \"cellar\"\naddress = \"127.0.0.1:503\"\n[[device]]\nname = \"m1\"\nline = \"roof\"\nunit = 17\ngap = 8\n[[device]]\nname = \"m2\"\nline = \"cellar\"\nunit = 17\n";
 
 /// The roof without its device.
-pub(crate) const BARE: &str =
+pub const BARE: &str =
     "[[line]]\nname = \"roof\"\naddress = \"127.0.0.1:502\"\n[[device]]\nname = \"m2\"\nline = \"roof\"\nunit = 17\n";
 
 fn site(alloc: Global, text: &str) -> Result<Site, OfficeError>
@@ -35,7 +35,7 @@ fn site(alloc: Global, text: &str) -> Result<Site, OfficeError>
 }
 
 /// An office of a site over a keeper, or its refusal. Refused memory ends the attempt.
-pub(crate) fn begun<K: Keeper + Drop>(
+pub fn begun<K: Keeper + Drop>(
     alloc: Global,
     keeper: K,
     text: &str,
@@ -44,15 +44,12 @@ pub(crate) fn begun<K: Keeper + Drop>(
 }
 
 /// An office of the two lines over a keeper.
-pub(crate) fn office_over<K: Keeper + Drop>(
-    alloc: Global,
-    keeper: K,
-) -> Result<Office<K>, OfficeError> {
+pub fn office_over<K: Keeper + Drop>(alloc: Global, keeper: K) -> Result<Office<K>, OfficeError> {
     begun(alloc, keeper, TWO)?.map_err(|(error, _)| error)
 }
 
 /// The caller of all requests, and a key of it.
-pub(crate) fn named(key: &str) -> Result<(Caller, Key), OfficeError> {
+pub fn named(key: &str) -> Result<(Caller, Key), OfficeError> {
     match (Caller::new("ann"), Key::new(key)) {
         (Some(caller), Some(key)) => Ok((caller, key)),
         _ => Err(OfficeError::NoRead),
@@ -71,11 +68,11 @@ fn order(alloc: Global, key: &str, point: &str, value: i128) -> Result<Event, Of
     Ok(Event::Order(caller, key, text(alloc, point)?, value))
 }
 
-fn text(alloc: Global, name: &str) -> Result<Text, OfficeError> {
+pub fn text(alloc: Global, name: &str) -> Result<Text, OfficeError> {
     Ok(Text::from_string(String::from_str(alloc, name)?))
 }
 
-pub(crate) fn frame(transaction: u16, unit_id: u8, bytes: &[u8]) -> Result<Frame, OfficeError> {
+pub fn frame(transaction: u16, unit_id: u8, bytes: &[u8]) -> Result<Frame, OfficeError> {
     let unit = Unit::from_bytes(bytes).ok_or(OfficeError::WrongReply)?;
     Ok(Frame {
         transaction,
@@ -84,17 +81,7 @@ pub(crate) fn frame(transaction: u16, unit_id: u8, bytes: &[u8]) -> Result<Frame
     })
 }
 
-/// The frame of an ask of a device that has the unit identifier 17.
-pub(crate) fn query(happens: &Happens, transaction: u16) -> Result<Frame, OfficeError> {
-    let Happens::Ask(_, _, _, (function, start, quantity)) = *happens else {
-        return Err(OfficeError::NoQuery);
-    };
-    let [high, low] = start.to_be_bytes();
-    let [above, below] = quantity.to_be_bytes();
-    frame(transaction, 17, &[function, high, low, above, below])
-}
-
-pub(crate) fn event_of(alloc: Global, happens: &Happens) -> Result<Event, OfficeError> {
+pub fn event_of(alloc: Global, happens: &Happens) -> Result<Event, OfficeError> {
     match *happens {
         Happens::List(key, bytes) => list(alloc, key, bytes, ""),
         Happens::Load(key, records) => list(alloc, key, HEADER, records),
@@ -115,7 +102,7 @@ pub(crate) fn event_of(alloc: Global, happens: &Happens) -> Result<Event, Office
 }
 
 /// The events of happenings, in their order.
-pub(crate) fn events_of(alloc: Global, all: &[Happens]) -> Result<Vec<Event>, OfficeError> {
+pub fn events_of(alloc: Global, all: &[Happens]) -> Result<Vec<Event>, OfficeError> {
     let mut events = Vec::with_capacity(alloc, all.len())?;
     for happens in all {
         let _ = events.push(event_of(alloc, happens)?);
@@ -124,10 +111,7 @@ pub(crate) fn events_of(alloc: Global, all: &[Happens]) -> Result<Vec<Event>, Of
 }
 
 /// An office's points, readings, totals and orders as text.
-pub(crate) fn shown<K: Keeper>(
-    alloc: Global,
-    office: &mut Office<K>,
-) -> Result<String, OfficeError> {
+pub fn shown<K: Keeper>(alloc: Global, office: &mut Office<K>) -> Result<String, OfficeError> {
     let mut text = String::new(alloc);
     for point in ["a", "b", "c", "e", "f"] {
         let rows = rows(office, point, 0, u32::MAX)?;

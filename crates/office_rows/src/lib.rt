@@ -1,11 +1,12 @@
-//! What an office keeps, answers and refuses, by scripts: rows, totals, refusals of each call, memory
-//! that is refused, and a keeper that refuses.
+//! What an office keeps, answers and refuses, by scripts over a keeper in memory and one over a
+//! database: rows, totals, refusals of each call, memory that is refused, and a keeper that refuses.
+//! What happens to an office, keepers over a database, and a keeper's tables as text serve other tests
+//! too.
 #![tactic(auto)]
 
 #[cfg(test)]
 mod asserting;
-#[cfg(test)]
-mod builders;
+pub mod builders;
 #[cfg(test)]
 mod calls;
 #[cfg(test)]
@@ -17,8 +18,11 @@ mod orders;
 #[cfg(test)]
 mod refusing;
 #[cfg(test)]
-mod scripts;
+mod scripted;
 #[cfg(test)]
-mod steps;
+mod scripts;
+pub mod steps;
+pub mod stores;
+pub mod tables;
 #[cfg(test)]
 mod totals;

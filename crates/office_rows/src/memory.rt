@@ -1,14 +1,16 @@
 //! Memory that is refused to a call is told, changes nothing, and the call succeeds once more.
 use crate::asserting::assert_told;
 use crate::builders::{MEMORY, event_of, office_over, shown};
-use crate::scripts::{GAUGES, THREE};
-use crate::steps::Happens::{self, Arrive, Ask, Load, Open, Order, Send};
-use crate::steps::Told::{
+use crate::scripted::Told::{
     self, Loaded, Opened, Ordered, OrderedBefore, Recorded, Sent, Settled, Wrote,
 };
-use crate::steps::{answered, expected, is_refused};
+use crate::scripted::expected;
+use crate::scripts::{GAUGES, THREE};
+use crate::steps::Happens::{self, Arrive, Ask, Load, Open, Order, Send};
+use crate::steps::{answered, is_refused};
+use crate::stores::stored;
 use office_core::{Event, EventAnswer, Office, OfficeError};
-use poll_book::{MemKeeper, StoreFault};
+use poll_book::{Keeper, MemKeeper, StoreFault};
 use std::alloc::{AllocError, Global};
 use std::process::Abort;
 use std::test::Fail;
@@ -44,10 +46,10 @@ const ROUNDS: &[(Happens, Told)] = &[
 ];
 
 /// What is answered to an event, once more where memory was refused to it and nothing changed.
-fn taken(
+fn taken<K: Keeper>(
     rt: &impl Abort,
     alloc: Global,
-    office: &mut Office<MemKeeper>,
+    office: &mut Office<K>,
     happens: &Happens,
 ) -> Result<EventAnswer, OfficeError> {
     let event = event_of(alloc, happens)?;
@@ -60,10 +62,10 @@ fn taken(
     Ok(answered(office, &event))
 }
 
-fn assert_taken(
+fn assert_taken<K: Keeper>(
     rt: &impl Abort,
     alloc: Global,
-    office: &mut Office<MemKeeper>,
+    office: &mut Office<K>,
 ) -> Result<(), OfficeError> {
     for (happens, told) in ROUNDS {
         let answer = taken(rt, alloc, office, happens)?;
@@ -73,7 +75,8 @@ fn assert_taken(
 }
 
 fn assert_all_taken(rt: &impl Abort, alloc: Global) -> Result<(), OfficeError> {
-    assert_taken(rt, alloc, &mut office_over(alloc, MemKeeper::new(alloc))?)
+    assert_taken(rt, alloc, &mut office_over(alloc, MemKeeper::new(alloc))?)?;
+    assert_taken(rt, alloc, &mut office_over(alloc, stored(alloc)?)?)
 }
 
 /// Run under `rt try --test --fail-alloc N`, this one sees each allocation of a call refused.

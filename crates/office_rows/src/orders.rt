@@ -1,12 +1,12 @@
 //! Requests that come again, and orders: sent, answered, sent again, settled.
-use crate::scripts::GAUGES;
-use crate::steps::Happens::{Arrive, Load, Open, Order, Restart, Send};
-use crate::steps::Step::{Is, Order as Stands, Points, Waiting};
-use crate::steps::Told::{
+use crate::scripted::Step::{Is, Order as Stands, Points, Waiting};
+use crate::scripted::Told::{
     Excepted, KeyReused, Loaded, LoadedBefore, Opened, Ordered, OrderedBefore, Refused,
     RefusedBefore, RefusedFor, Restarted, Settled, Wrote,
 };
-use crate::steps::{Step, assert_script};
+use crate::scripted::{Step, assert_script};
+use crate::scripts::GAUGES;
+use crate::steps::Happens::{Arrive, Load, Open, Order, Restart, Send};
 use office_core::OfficeError::{
     self, NoConnection, NoOrder, NotNext, Repeat, WrongLine, WrongReply,
 };

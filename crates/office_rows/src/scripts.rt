@@ -1,10 +1,10 @@
 //! What replies record, and each refusal of each call.
-use crate::steps::Happens::{Arrive, Ask, List, Load, Open, Restart};
-use crate::steps::Step::{Is, Points, Total, Unknown, Words};
-use crate::steps::Told::{
+use crate::scripted::Step::{Is, Points, Total, Unknown, Words};
+use crate::scripted::Told::{
     Excepted, Loaded, Opened, Recorded, Refused, RefusedFor, Restarted, Sent,
 };
-use crate::steps::{Step, assert_script};
+use crate::scripted::{Step, assert_script};
+use crate::steps::Happens::{Arrive, Ask, List, Load, Open, Restart};
 use office_core::OfficeError::{
     NoConnection, NoQuery, NoRead, Repeat, WrongLine, WrongReply, WrongUnit,
 };

@@ -3,8 +3,9 @@ use crate::asserting::assert_told;
 use crate::builders::office_over;
 use crate::steps::Happens::{Arrive, Ask, Load, Open};
 use crate::steps::{rows, take_happening, total};
+use crate::stores::stored;
 use office_core::{Office, OfficeError};
-use poll_book::MemKeeper;
+use poll_book::{Keeper, MemKeeper};
 use std::alloc::Global;
 use std::process::Abort;
 use std::test::Fail;
@@ -73,9 +74,9 @@ const CASES: &[Case] = &[
 ];
 
 /// Asks for a counter in three slots, and takes these replies.
-fn take_replies(
+fn take_replies<K: Keeper>(
     alloc: Global,
-    office: &mut Office<MemKeeper>,
+    office: &mut Office<K>,
     counter: Counter,
     replies: &[Reply],
 ) -> Result<(), OfficeError> {
@@ -91,19 +92,23 @@ fn take_replies(
     Ok(())
 }
 
-fn counted_flags(alloc: Global, office: &mut Office<MemKeeper>) -> Result<Vec<bool>, OfficeError> {
+fn counted_flags<K: Keeper>(
+    alloc: Global,
+    office: &mut Office<K>,
+) -> Result<Vec<bool>, OfficeError> {
     let rows = rows(office, "e", 0, 9)?.ok_or(OfficeError::NoRead)?;
     Ok(rows.iter().map(|row| row.counted).collect(alloc)?)
 }
 
-fn assert_case(
+fn assert_case<K: Keeper + Drop>(
     rt: &impl Abort,
     alloc: Global,
+    keeper: K,
     place: usize,
     case: Case,
 ) -> Result<(), OfficeError> {
     let (counter, replies, counted, sum) = case;
-    let mut office = office_over(alloc, MemKeeper::new(alloc))?;
+    let mut office = office_over(alloc, keeper)?;
     take_replies(alloc, &mut office, counter, replies)?;
     let told = counted_flags(alloc, &mut office)?;
     assert_told(rt, &place, &told.as_slice(), &counted);
@@ -111,11 +116,22 @@ fn assert_case(
     Ok(())
 }
 
+/// Asserts a case over each keeper.
+fn assert_both(
+    rt: &impl Abort,
+    alloc: Global,
+    place: usize,
+    case: Case,
+) -> Result<(), OfficeError> {
+    assert_case(rt, alloc, MemKeeper::new(alloc), place, case)?;
+    assert_case(rt, alloc, stored(alloc)?, place, case)
+}
+
 #[test]
 fn totals_of_counters(rt: HostRuntime) -> Result<(), Fail> {
     for (place, case) in CASES.iter().enumerate() {
-        if assert_case(&rt, rt.alloc(), place, *case).is_err() {
-            assert_case(&rt, rt.alloc(), place, *case)?;
+        if assert_both(&rt, rt.alloc(), place, *case).is_err() {
+            assert_both(&rt, rt.alloc(), place, *case)?;
         }
     }
     Ok(())

@@ -1,8 +1,8 @@
 //! What happened, as events of an office.
-use crate::builders::{frame, text};
 use crate::model::{Brought, Happened, Wanted, is_faulty, rows_of};
 use mb_pdu::Span;
 use office_core::{Event, OfficeError};
+use office_rows::builders::{frame, text};
 use point_list::{Items, Role};
 use poll_book::{Caller, Key};
 use poll_match::Conn;

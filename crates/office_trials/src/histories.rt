@@ -1,10 +1,12 @@
 //! An office beside the slow model.
 use crate::asserting::assert_told;
-use crate::builders::{MEMORY, office_over};
 use crate::draws::{Chance, SLOTS, draw};
 use crate::events::event_of;
 use crate::model::{Book, Given, Happened, Placed, Row, total};
 use office_core::{Arrival, EventAnswer, Office, OfficeError};
+use office_rows::builders::{MEMORY, office_over};
+use office_rows::stores::stored;
+use office_rows::tables::text_of;
 use point_list::Role;
 use poll_book::{Keeper, MemKeeper, OrderState, PointRow, ReadingRow};
 use std::alloc::Global;
@@ -14,6 +16,12 @@ use std::test::Fail;
 const HISTORIES: u64 = 150;
 
 const EVENTS: u32 = 40;
+
+/// The keys under which anything is drawn.
+const KEYS: &[&str] = &[
+    "k0", "k1", "k2", "k3", "k4", "k5", "k6", "k7", "k8", "k9", "k10", "k11", "k12", "k13", "k14",
+    "k15", "k16", "k17", "k18", "k19", "k20", "k21", "k22", "k23", "k30",
+];
 
 fn rows_of<K: Keeper>(office: &mut Office<K>, point: &str) -> Result<Vec<ReadingRow>, OfficeError> {
     office
@@ -178,34 +186,56 @@ fn assert_answer<K: Keeper>(
 // The office and the book are made in one function and used in another, by reference: each early
 // exit of a function that owns them has to be proved to give back all that they hold.
 
-/// Asserts each answer of an office, and its tables after each, and tells how many frames were taken.
+/// Asserts each answer of an office, and its tables after each if they are to be looked at, and tells
+/// how many frames were taken.
 fn assert_answers<K: Keeper>(
     rt: &impl Abort,
     alloc: Global,
     office: &mut Office<K>,
     book: &mut Book,
     seed: u64,
+    looks: bool,
 ) -> Result<Taken, OfficeError> {
     let mut chance = Chance { state: seed };
     let mut taken = Taken::none();
     for place in 0..EVENTS {
         let happened = draw(alloc, &mut chance, book, place)?;
         taken = taken.and(assert_answer(rt, alloc, office, book, happened)?);
-        assert_tables(rt, office, book)?;
+        if looks {
+            assert_tables(rt, office, book)?;
+        }
     }
     Ok(taken)
 }
 
-/// The same of an office over an empty keeper.
+fn refusals<K: Keeper>(keeper: &K) -> u64 {
+    keeper.refusals()
+}
+
+/// The same of an office over an empty keeper, which refuses nothing and whose tables are given as text.
 fn assert_history<K: Keeper + Drop>(
     rt: &impl Abort,
     alloc: Global,
     keeper: K,
     seed: u64,
-) -> Result<Taken, OfficeError> {
+    looks: bool,
+) -> Result<(Taken, String), OfficeError> {
+    let before = refusals(&keeper);
     let mut office = office_over(alloc, keeper)?;
     let mut book = Book::new(alloc);
-    assert_answers(rt, alloc, &mut office, &mut book, seed)
+    let taken = assert_answers(rt, alloc, &mut office, &mut book, seed, looks)?;
+    let mut keeper = office.into_keeper();
+    assert_told(rt, &seed, &refusals(&keeper), &before);
+    Ok((taken, text_of(alloc, &mut keeper, KEYS)?))
+}
+
+/// The same over each keeper, and both hold the same at its end. What is in a database takes long to
+/// look at, so it is looked at there alone.
+fn assert_both(rt: &impl Abort, alloc: Global, seed: u64) -> Result<Taken, OfficeError> {
+    let (_, stored) = assert_history(rt, alloc, stored(alloc)?, seed, false)?;
+    let (taken, kept) = assert_history(rt, alloc, MemKeeper::new(alloc), seed, true)?;
+    assert_told(rt, &seed, &stored, &kept);
+    Ok(taken)
 }
 
 #[test]
@@ -213,9 +243,9 @@ fn answers_and_tables_of_histories(rt: HostRuntime) -> Result<(), Fail> {
     let alloc = rt.alloc();
     let mut taken = Taken::none();
     for seed in 0..HISTORIES {
-        let more = match assert_history(&rt, alloc, MemKeeper::new(alloc), seed) {
+        let more = match assert_both(&rt, alloc, seed) {
             Ok(more) => more,
-            Err(_) => assert_history(&rt, alloc, MemKeeper::new(alloc), seed)?,
+            Err(_) => assert_both(&rt, alloc, seed)?,
         };
         taken = taken.and(more);
     }

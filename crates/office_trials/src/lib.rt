@@ -1,5 +1,5 @@
-//! Trials of an office over any keeper: generated histories beside a slow model, which works out
-//! each answer and each table anew from all that happened.
+//! Trials of an office over a keeper in memory and one over a database: generated histories beside a
+//! slow model, which works out each answer and each table anew from all that happened.
 #![tactic(auto)]
 
 #[cfg(test)]

@@ -1,7 +1,8 @@
 //! What an office holds and answers, by a book that keeps all that ever happened: every query, and
 //! what each reply gave, with nothing left out.
-use crate::builders::{frame, push};
+use crate::builders::push;
 use office_core::{Arrival, EventAnswer, OfficeError, RequestAnswer};
+use office_rows::builders::frame;
 use point_list::{ListFault, Role};
 use poll_book::{OrderState, Outcome, Reason, RequestFault};
 use poll_match::Conn;
