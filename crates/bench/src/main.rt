@@ -1,6 +1,7 @@
 //! Measures the speed of the office's crates. Each word of the command line is one measure, but for
 //! `script` and `script-1000`, which write a script for `office replay` of 100 or 1,000 slots.
-//! Without words the program ends at once and prints nothing.
+//! `store-file` makes the files `bench-10.db` and `bench-100.db` in the folder that it runs in, and
+//! leaves them there. Without words the program ends at once and prints nothing.
 #![tactic(auto)]
 
 use anyhow::{Result, bail};
@@ -14,9 +15,12 @@ mod orders;
 mod pace;
 mod plans;
 mod script;
+mod store;
 mod units;
+mod waiting;
 
-const WORDS: &str = "units frames map lists plans office orders script script-1000";
+const WORDS: &str =
+    "units frames map lists plans office orders store store-file waiting script script-1000";
 
 fn main(rt: HostRuntime) -> Result<()> {
     for word in env::args(&rt)?.skip(1) {
@@ -28,6 +32,9 @@ fn main(rt: HostRuntime) -> Result<()> {
             "plans" => plans::measure(&rt)?,
             "office" => office::measure(&rt)?,
             "orders" => orders::measure(&rt)?,
+            "store" => store::measure(&rt)?,
+            "store-file" => store::measure_file(&rt)?,
+            "waiting" => waiting::measure(&rt)?,
             "script" => script::write(&rt, 100)?,
             "script-1000" => script::write(&rt, 1_000)?,
             other => bail!("no measure '{other}'; there are: {WORDS}"),

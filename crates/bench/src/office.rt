@@ -7,14 +7,14 @@ use mb_mbap::Frame;
 use mb_pdu::{Span, Unit};
 use office_core::{Office, OfficeError};
 use point_list::{Site, read_site};
-use poll_book::{Caller, Key, MemKeeper, StoreFault};
+use poll_book::{Caller, Keeper, Key, MemKeeper, StoreFault};
 use read_planner::Read;
 use std::alloc::{AllocError, Global};
 use std::io;
 use std::rt::Clock;
 use std::time::{Duration, Instant};
 
-const POINTS: u32 = 1_000;
+pub const POINTS: u32 = 1_000;
 
 const SITE: &str =
     "[[line]]\nname = \"roof\"\naddress = \"127.0.0.1:1502\"\n[[device]]\nname = \"m1\"\nline = \"roof\"\nunit = 17\ngap = 8\n";
@@ -44,8 +44,12 @@ fn list_text(alloc: Global) -> Result<String, AllocError> {
 }
 
 /// An office of the roof that knows the points of a list, its caller's first.
-pub fn loaded(alloc: Global, list: &str) -> Result<Office<MemKeeper>, OfficeError> {
-    let mut office = match Office::new(alloc, MemKeeper::new(alloc), site(alloc)?) {
+pub fn loaded<K: Keeper + Drop>(
+    alloc: Global,
+    keeper: K,
+    list: &str,
+) -> Result<Office<K>, OfficeError> {
+    let mut office = match Office::new(alloc, keeper, site(alloc)?) {
         Ok(office) => office,
         Err((error, _)) => return Err(error),
     };
@@ -57,13 +61,13 @@ pub fn loaded(alloc: Global, list: &str) -> Result<Office<MemKeeper>, OfficeErro
     Ok(office)
 }
 
-fn counters(alloc: Global) -> Result<Office<MemKeeper>, OfficeError> {
+fn counters<K: Keeper + Drop>(alloc: Global, keeper: K) -> Result<Office<K>, OfficeError> {
     let text = list_text(alloc)?;
-    loaded(alloc, text.as_str())
+    loaded(alloc, keeper, text.as_str())
 }
 
 /// Asks for all points in each of so many slots, and brings each reply.
-fn poll(office: &mut Office<MemKeeper>, slots: u32, unit: &Unit) -> Result<(), OfficeError> {
+fn poll<K: Keeper>(office: &mut Office<K>, slots: u32, unit: &Unit) -> Result<(), OfficeError> {
     let conn = office.open_line("roof")?;
     for slot in 0..slots {
         for start in [0, 125, 250, 375, 500, 625, 750, 875] {
@@ -83,15 +87,20 @@ fn poll(office: &mut Office<MemKeeper>, slots: u32, unit: &Unit) -> Result<(), O
     Ok(())
 }
 
-/// How long the readings of so many slots take; `None` where one was refused.
-fn time<R: Clock + AllocGlobal>(rt: &R, slots: u32) -> io::Result<Option<Duration>> {
+/// How long the readings of so many slots take over an empty keeper, and the keeper that has them;
+/// `None` where one was refused.
+pub fn filled<R: Clock + AllocGlobal, K: Keeper + Drop>(
+    rt: &R,
+    keeper: K,
+    slots: u32,
+) -> io::Result<Option<(Duration, K)>> {
     let mut answer = [7u8; 252];
     answer[0] = 3;
     answer[1] = 250;
     let Some(unit) = Unit::from_bytes(&answer) else {
         return Ok(None);
     };
-    let Ok(mut office) = counters(rt.alloc()) else {
+    let Ok(mut office) = counters(rt.alloc(), keeper) else {
         return Ok(None);
     };
     let start = Instant::now(rt)?;
@@ -102,7 +111,7 @@ fn time<R: Clock + AllocGlobal>(rt: &R, slots: u32) -> io::Result<Option<Duratio
         _ => false,
     };
     Ok(if polled.is_ok() && kept {
-        Some(took)
+        Some((took, office.into_keeper()))
     } else {
         None
     })
@@ -111,7 +120,7 @@ fn time<R: Clock + AllocGlobal>(rt: &R, slots: u32) -> io::Result<Option<Duratio
 pub fn measure<R: Print + Clock + AllocGlobal>(rt: &R) -> io::Result<()> {
     let mut first = None;
     for slots in [10u32, 100, 1_000] {
-        let Some(took) = time(rt, slots)? else {
+        let Some((took, _)) = filled(rt, MemKeeper::new(rt.alloc()), slots)? else {
             return println!(rt; "the office refused");
         };
         let count = POINTS.wrapping_mul(slots);

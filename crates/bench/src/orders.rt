@@ -2,7 +2,7 @@
 use crate::office::loaded;
 use crate::pace::print_each;
 use office_core::{Office, OfficeError};
-use poll_book::{Caller, Key, MemKeeper, OrderState};
+use poll_book::{Caller, Keeper, Key, MemKeeper, OrderState};
 use poll_match::Conn;
 use std::alloc::Global;
 use std::io;
@@ -13,12 +13,12 @@ const LIST: &str =
     "name,device,table,address,type,length,scale,role,roll\nlim,m1,holding,40,uint16,,,setting,\n";
 
 /// An order is ordered, sent, and its echo comes.
-const EVENTS: u32 = 3;
+pub const EVENTS: u32 = 3;
 
 /// The order of this number under a key of its own, from its request to its echo.
-fn carry_out(
+fn carry_out<K: Keeper>(
     alloc: Global,
-    office: &mut Office<MemKeeper>,
+    office: &mut Office<K>,
     conn: Conn,
     number: u32,
 ) -> Result<(), OfficeError> {
@@ -34,9 +34,9 @@ fn carry_out(
     Ok(())
 }
 
-fn carry_out_all(
+fn carry_out_all<K: Keeper>(
     alloc: Global,
-    office: &mut Office<MemKeeper>,
+    office: &mut Office<K>,
     count: u32,
 ) -> Result<(), OfficeError> {
     let conn = office.open_line("roof")?;
@@ -46,9 +46,14 @@ fn carry_out_all(
     Ok(())
 }
 
-/// How long so many orders take; `None` where one was refused.
-fn time<R: Clock + AllocGlobal>(rt: &R, count: u32) -> io::Result<Option<Duration>> {
-    let Ok(mut office) = loaded(rt.alloc(), LIST) else {
+/// How long so many orders take over an empty keeper, and the keeper that has them; `None` where one
+/// was refused.
+pub fn settled<R: Clock + AllocGlobal, K: Keeper + Drop>(
+    rt: &R,
+    keeper: K,
+    count: u32,
+) -> io::Result<Option<(Duration, K)>> {
+    let Ok(mut office) = loaded(rt.alloc(), keeper, LIST) else {
         return Ok(None);
     };
     let start = Instant::now(rt)?;
@@ -56,7 +61,7 @@ fn time<R: Clock + AllocGlobal>(rt: &R, count: u32) -> io::Result<Option<Duratio
     let took = start.elapsed(rt)?;
     let last = office.order_state(count);
     Ok(if done.is_ok() && last == Ok(Some(OrderState::Done)) {
-        Some(took)
+        Some((took, office.into_keeper()))
     } else {
         None
     })
@@ -65,7 +70,7 @@ fn time<R: Clock + AllocGlobal>(rt: &R, count: u32) -> io::Result<Option<Duratio
 pub fn measure<R: Print + Clock + AllocGlobal>(rt: &R) -> io::Result<()> {
     let mut first = None;
     for count in [10_000u32, 100_000] {
-        let Some(took) = time(rt, count)? else {
+        let Some((took, _)) = settled(rt, MemKeeper::new(rt.alloc()), count)? else {
             return println!(rt; "the office refused");
         };
         let events = count.wrapping_mul(EVENTS);
