@@ -25,7 +25,7 @@ fn search<R: Clock, K: Keeper>(rt: &R, keeper: &mut K, times: u32) -> io::Result
 }
 
 /// Prints how long searches take over a keeper that has made none.
-fn measure_searches<R: Print + Clock, S: Alter>(
+fn measure_searches<R: Print + Clock, S: Alter + Drop>(
     rt: &R,
     mut keeper: SqlKeeper<S>,
     count: u32,
