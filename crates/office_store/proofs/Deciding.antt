@@ -77,7 +77,6 @@ same_coded coded a b = elim (same_gv (coded.code a) (coded.code b)) [
 
 -- ---- rows that are all in their form
 
-
 module _ {E : Type 0} (f : Row → Option E) where
   all_some : (all : List Row) → Decided ((es : List E) × (map f all ≡ map Some es))
   all_some [] = inl ([], refl)
