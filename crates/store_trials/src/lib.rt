@@ -1,16 +1,7 @@
-//! What an office over a database keeps: which databases and sites open, what a stop at each write
-//! leaves, files that are full, that fail once, and that have a damaged byte.
+//! What an office over a database keeps: which databases and sites open.
 #![tactic(auto)]
 
 #[cfg(test)]
 mod asserting;
 #[cfg(test)]
-mod damage;
-#[cfg(test)]
-mod disks;
-#[cfg(test)]
-mod files;
-#[cfg(test)]
 mod opening;
-#[cfg(test)]
-mod stops;
