@@ -20,7 +20,7 @@ mod units;
 mod waiting;
 
 const WORDS: &str =
-    "units frames map lists plans office orders store store-file waiting script script-1000";
+    "units frames map lists plans office orders store store-pages store-file waiting script script-1000";
 
 fn main(rt: HostRuntime) -> Result<()> {
     for word in env::args(&rt)?.skip(1) {
@@ -33,6 +33,7 @@ fn main(rt: HostRuntime) -> Result<()> {
             "office" => office::measure(&rt)?,
             "orders" => orders::measure(&rt)?,
             "store" => store::measure(&rt)?,
+            "store-pages" => store::measure_pages(&rt)?,
             "store-file" => store::measure_file(&rt)?,
             "waiting" => waiting::measure(&rt)?,
             "script" => script::write(&rt, 100)?,

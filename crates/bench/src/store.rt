@@ -4,7 +4,8 @@ use crate::office::{POINTS, filled};
 use crate::pace::print_each;
 use office_store::{SqlKeeper, create};
 use poll_book::{Keeper, Neighbours, PointRow};
-use sqlite::{Alter, Connection, File, FileStore, MemStore};
+use sqlite::{Alter, Connection, File, FileStore, Files, MemStore, Options};
+use sqlite_disk::Memory;
 use std::alloc::Global;
 use std::io;
 use std::rt::Clock;
@@ -12,6 +13,14 @@ use std::time::{Duration, Instant};
 
 /// How often each point is looked up.
 const LOOKUPS: u32 = 10;
+
+/// All pages stay in the cache.
+const PAGES: Options = Options {
+    cache_pages: 10_000,
+    spill_pages: 10_000,
+    checkpoint_frames: 1_000,
+    seed: 7,
+};
 
 /// A keeper over a new database; `None` where it was refused.
 fn kept<S: Alter + Drop>(mut connection: Connection<S>) -> Option<SqlKeeper<S>> {
@@ -84,6 +93,25 @@ fn compare(rt: &impl Print, few: Option<Duration>, many: Option<Duration>) -> io
 pub fn measure<R: Print + Clock + AllocGlobal>(rt: &R) -> io::Result<()> {
     let few = measure_over(rt, in_memory(rt.alloc()), 10)?;
     let many = measure_over(rt, in_memory(rt.alloc()), 100)?;
+    compare(rt, few, many)
+}
+
+/// A keeper over a database whose files, a B-tree of pages and a log, lie in memory.
+fn in_pages(alloc: Global) -> Option<SqlKeeper<FileStore<Memory>>> {
+    let files = Files {
+        log: Memory::new(alloc),
+        db: Memory::new(alloc),
+    };
+    match Connection::open_files(alloc, files, PAGES) {
+        Ok(connection) => kept(connection),
+        Err(_) => None,
+    }
+}
+
+/// Over files in memory.
+pub fn measure_pages<R: Print + Clock + AllocGlobal>(rt: &R) -> io::Result<()> {
+    let few = measure_over(rt, in_pages(rt.alloc()), 10)?;
+    let many = measure_over(rt, in_pages(rt.alloc()), 100)?;
     compare(rt, few, many)
 }
 
