@@ -11,6 +11,8 @@ mod disks;
 #[cfg(test)]
 mod files;
 #[cfg(test)]
+mod making;
+#[cfg(test)]
 mod opening;
 #[cfg(test)]
 mod stops;
