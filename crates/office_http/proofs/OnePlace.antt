@@ -1,0 +1,80 @@
+-- A target names one place.
+use Rattle.std.proofs.Common.{◌≡◌, ℕ, List, ◌++◌, refl, sym, ap, ◌∙◌, arith, Option, Some, None, codes}
+use Rattle.std.proofs.lemmas.List.{append_cancel_left, append_cancel_right}
+use Rattle.office_http.specs.declared.routes.Route.{Route}
+use Rattle.office_http.specs.declared.routes.Route.TheVariants.{Orders, Lists, Readings, Total}
+use Rattle.office_http.specs.Routes.{route_of}
+use Rattle.office_http.specs.Places.{Place, orders, lists, readings, total, IsPlain, IsPlace, Names, spell}
+use Rattle.office_http.proofs.Slashes.{same_parts}
+
+-- a route as a number
+abbrev number : Option Route → ℕ
+number None = 0
+number (Some Orders) = 1
+number (Some Lists) = 2
+number (Some Readings) = 3
+number (Some Total) = 4
+
+-- a front before a part, a slash and a second front
+after : (front second a b c d t : List ℕ) → t ≡ front ++ spell a (second ++ b) → t ≡ front ++ spell c (second ++ d) → IsPlain a → IsPlain c → (a ≡ c) × (b ≡ d)
+after front second a b c d t e f plain_a plain_c =
+    let rest = append_cancel_left front (spell a (second ++ b)) (spell c (second ++ d)) (sym e ∙ f) in
+    let both = same_parts a (second ++ b) c (second ++ d) rest plain_a plain_c in
+    (both.0, append_cancel_left second b d both.1)
+
+place_once : (t : List ℕ) (p q : Place) → IsPlace t p → IsPlace t q → p ≡ q
+place_once t (orders a b) (orders c d) x y =
+    let both = after (codes "/callers/") (codes "orders/") a b c d t x.1 y.1 x.2 y.2 in
+    ap (λ u. orders u b) both.0 ∙ ap (orders c) both.1
+place_once t (lists a b) (lists c d) x y =
+    let both = after (codes "/callers/") (codes "lists/") a b c d t x.1 y.1 x.2 y.2 in
+    ap (λ u. lists u b) both.0 ∙ ap (lists c) both.1
+place_once t (readings a b c) (readings d e f) x y =
+    let both = after (codes "/points/") (codes "readings/") a (spell b c) d (spell e f) t x.1 y.1 x.2 y.2 in
+    let slots = same_parts b c e f both.1 x.3 y.3 in
+    ap (λ u. readings u b c) both.0 ∙ ap (λ u. readings d u c) slots.0 ∙ ap (readings d e) slots.1
+place_once t (total a) (total b) x y =
+    ap total (append_cancel_right a b (codes "/total") (append_cancel_left (codes "/points/") (a ++ codes "/total") (b ++ codes "/total") (sym x.1 ∙ y.1)))
+place_once t (orders a b) (lists c d) x y = let e : 1 ≡ 2 = ap number (sym x.0 ∙ y.0) in absurd (omega (arith, e))
+place_once t (orders a b) (readings c d e) x y = let e : 1 ≡ 3 = ap number (sym x.0 ∙ y.0) in absurd (omega (arith, e))
+place_once t (orders a b) (total c) x y = let e : 1 ≡ 4 = ap number (sym x.0 ∙ y.0) in absurd (omega (arith, e))
+place_once t (lists a b) (orders c d) x y = let e : 2 ≡ 1 = ap number (sym x.0 ∙ y.0) in absurd (omega (arith, e))
+place_once t (lists a b) (readings c d e) x y = let e : 2 ≡ 3 = ap number (sym x.0 ∙ y.0) in absurd (omega (arith, e))
+place_once t (lists a b) (total c) x y = let e : 2 ≡ 4 = ap number (sym x.0 ∙ y.0) in absurd (omega (arith, e))
+place_once t (readings a b c) (orders d e) x y = let e : 3 ≡ 1 = ap number (sym x.0 ∙ y.0) in absurd (omega (arith, e))
+place_once t (readings a b c) (lists d e) x y = let e : 3 ≡ 2 = ap number (sym x.0 ∙ y.0) in absurd (omega (arith, e))
+place_once t (readings a b c) (total d) x y = let e : 3 ≡ 4 = ap number (sym x.0 ∙ y.0) in absurd (omega (arith, e))
+place_once t (total a) (orders c d) x y = let e : 4 ≡ 1 = ap number (sym x.0 ∙ y.0) in absurd (omega (arith, e))
+place_once t (total a) (lists c d) x y = let e : 4 ≡ 2 = ap number (sym x.0 ∙ y.0) in absurd (omega (arith, e))
+place_once t (total a) (readings c d e) x y = let e : 4 ≡ 3 = ap number (sym x.0 ∙ y.0) in absurd (omega (arith, e))
+
+-- what a target names is told in one way
+pub names_once : (t : List ℕ) (p q : Option Place) → Names t p → Names t q → p ≡ q
+names_once t None None a b = refl
+names_once t None (Some q) a b = absurd (a q b)
+names_once t (Some p) None a b = absurd (b p a)
+names_once t (Some p) (Some q) a b = ap Some (place_once t p q a b)
+
+-- a target with another second part than this one
+pub no_parts : (target front second first more : List ℕ) → target ≡ front ++ spell first more → IsPlain first → ((rest : List ℕ) → more ≡ second ++ rest → ⊥)
+    → (a b : List ℕ) → target ≡ front ++ spell a (second ++ b) → IsPlain a → ⊥
+no_parts target front second first more e plain none a b f plain_a =
+    let rest = append_cancel_left front (spell first more) (spell a (second ++ b)) (sym e ∙ f) in
+    none b (same_parts first more a (second ++ b) rest plain plain_a).1
+
+-- a target without a slash behind the front
+pub no_slash : (target front more : List ℕ) → target ≡ front ++ more → ((a b : List ℕ) → more ≡ spell a b → ⊥) → (second a b : List ℕ) → target ≡ front ++ spell a (second ++ b) → ⊥
+no_slash target front more e none second a b f = none a (second ++ b) (append_cancel_left front more (spell a (second ++ b)) (sym e ∙ f))
+
+-- a target with another back
+pub no_back : (target front more back : List ℕ) → target ≡ front ++ more → ((a : List ℕ) → more ≡ a ++ back → ⊥) → (a : List ℕ) → target ≡ front ++ (a ++ back) → ⊥
+no_back target front more back e none a f = none a (append_cancel_left front more (a ++ back) (sym e ∙ f))
+
+-- a target with the route of readings and one slot alone
+pub no_slots : (t point slots : List ℕ) → route_of t ≡ Some Readings → t ≡ codes "/points/" ++ spell point (codes "readings/" ++ slots) → IsPlain point
+    → ((a b : List ℕ) → slots ≡ spell a b → ⊥) → (place : Place) → IsPlace t place → ⊥
+no_slots t point slots route e plain none (orders a b) is = let e : 3 ≡ 1 = ap number (sym route ∙ is.0) in omega (arith, e)
+no_slots t point slots route e plain none (lists a b) is = let e : 3 ≡ 2 = ap number (sym route ∙ is.0) in omega (arith, e)
+no_slots t point slots route e plain none (readings p from to) is =
+    none from to (after (codes "/points/") (codes "readings/") point slots p (spell from to) t e is.1 plain is.2).1
+no_slots t point slots route e plain none (total a) is = let e : 3 ≡ 4 = ap number (sym route ∙ is.0) in omega (arith, e)

@@ -1,0 +1,156 @@
+-- From the front of the bytes to what all of them mean.
+use Rattle.std.proofs.Common.{◌≡◌, ◌≢◌, ℕ, zero, suc, ◌<◌, ◌≤◌, inl, inr, List, [], ◌∷◌, ◌++◌, length, take, drop, refl, sym, ap, ◌∙◌, arith, subst, Option, Some, None, length-append, length-take, append_assoc, map, Result, Ok, Err, IfOk, true, false, true≢false, ◌==◌}
+use Rattle.std.proofs.lemmas.List.{length-map, take-append-le, take-append-drop, take_all}
+use Rattle.std.proofs.Math.Seq.{take-append_seam}
+use Rattle.httparse.specs.Grammar.{ReadsRequest, RequestHead, print_request, HasNoRequest}
+use Rattle.httparse.specs.Spans.{IsRequestAt, IsRequestOf, IsRequestWithin, RequestOverflows, name_and_value, header_bytes}
+use Rattle.httparse.specs.declared.spans.HeaderSpan.{HeaderSpan}
+use Rattle.httparse.specs.declared.spans.RequestSpans.{RequestSpans}
+use Rattle.httparse.proofs.GrammarLemmas.{ReadsRequest-append, request_unique}
+use Rattle.std.specs.declared.alloc.AllocError.{AllocError}
+use Rattle.office_http.specs.declared.asked.Asked.{Asked}
+use Rattle.office_http.specs.declared.asked.Refusal.TheVariants.{BadRequest}
+use Rattle.office_http.specs.Head.{HasHead}
+use Rattle.office_http.specs.Heads.{IsAsked}
+use Rattle.office_http.specs.Asked.{meaning_of, meaning_in}
+use Rattle.office_http.specs.Meanings.{Meaning, refused, asked_of}
+use Rattle.office_http.specs.Deciding.{Lacks, Decides}
+use Rattle.office_http.specs.Judging.{Judges}
+use Rattle.std.proofs.lemmas.Bool.{eqb-true}
+use Rattle.std.proofs.lemmas.Option.{none-some}
+use Rattle.office_http.proofs.More.{asked_more}
+use Rattle.office_http.proofs.OnePlace.{names_once}
+
+-- a head in the front of the bytes is the head of all of them
+has_head : (front more : List ℕ) (headers : List HeaderSpan) (spans : RequestSpans) (h : RequestHead) → length front ≤ 8192 → length headers ≤ 32 → IsRequestAt front headers spans h → IsRequestWithin front headers spans
+    → HasHead (front ++ more) h (drop spans.len front ++ more)
+has_head front more headers spans h short few at within =
+    let count = ap length at.fields in
+    let len = at.len in
+    let fits = within.section.len_fits in
+    record {
+      reads = ReadsRequest-append front h (drop spans.len front) more at.reads;
+      short = omega (arith, len, fits, short);
+      few = omega (arith, count, length-map (take spans.headers headers) (header_bytes front), length-map h.fields name_and_value, length-take spans.headers headers, few);
+    }
+
+drop_front : (n : ℕ) (xs ys : List ℕ) → n ≤ length xs → drop n (xs ++ ys) ≡ drop n xs ++ ys
+drop_front zero xs ys le = refl
+drop_front (suc n) [] ys le = absurd (omega (arith, le))
+drop_front (suc n) (x ∷ xs) ys le = drop_front n xs ys (omega (arith, le))
+
+-- the same, of bytes whose first so many are the front
+has_head_in : (bytes more : List ℕ) (n : ℕ) (headers : List HeaderSpan) (spans : RequestSpans) (h : RequestHead) → n ≤ 8192 → length headers ≤ 32 → IsRequestAt (take n bytes) headers spans h → IsRequestWithin (take n bytes) headers spans
+    → HasHead (bytes ++ more) h (drop spans.len bytes ++ more)
+has_head_in bytes more n headers spans h limit few at within =
+    let front = take n bytes in
+    let tail = drop n bytes in
+    let whole : bytes ≡ front ++ tail = sym (take-append-drop n bytes) in
+    let short : length front ≤ 8192 = omega (arith, length-take n bytes, limit) in
+    let fits = within.section.len_fits in
+    let behind : drop spans.len bytes ++ more ≡ drop spans.len front ++ (tail ++ more) =
+    ap (λ b. drop spans.len b ++ more) whole ∙ ap (λ b. b ++ more) (drop_front spans.len front tail fits) ∙ append_assoc (drop spans.len front) tail more in
+    let input : bytes ++ more ≡ front ++ (tail ++ more) = ap (λ b. b ++ more) whole ∙ append_assoc front tail more in
+    let P : List ℕ → Type 0 = λ b. HasHead b h (drop spans.len bytes ++ more) in
+    let Q : List ℕ → Type 0 = λ r. HasHead (front ++ (tail ++ more)) h r in
+    subst P (sym input) (subst Q (sym behind) (has_head front (tail ++ more) headers spans h short few at within))
+
+append_nil : (xs : List ℕ) → xs ++ [] ≡ xs
+append_nil [] = refl
+append_nil (x ∷ xs) = ap (λ l. x ∷ l) (append_nil xs)
+
+-- whatever a whole head asks for, another head that reads the same asks for too
+pub asked_once : (input : List ℕ) (h g : RequestHead) (rest more : List ℕ) (a b : Option Meaning) → ReadsRequest input h rest → ReadsRequest input g more → IsAsked h rest a → IsAsked g more b → a ≡ b
+asked_once input h g rest more a b reads others one two =
+    let same = request_unique input h g rest more reads others in
+    let P : RequestHead → Type 0 = λ k. IsAsked k more b in
+    let Q : List ℕ → Type 0 = λ r. IsAsked h r b in
+    let it = subst Q (sym same.1) (subst P (sym same.0) two) in
+    let place = names_once h.target one.place it.place one.names it.names in
+    sym one.is ∙ ap (λ p. asked_of p h.method (map name_and_value h.fields) rest) place ∙ it.is
+
+-- what is known where a whole head is there
+pub judged_whole : (bytes : List ℕ) (n : ℕ) (headers : List HeaderSpan) (spans : RequestSpans) (r : Option Asked) → n ≤ 8192 → length headers ≤ 32
+    → IsRequestOf (take n bytes) headers spans → IsRequestWithin (take n bytes) headers spans
+    → ((h : RequestHead) → IsRequestAt (take n bytes) headers spans h → IsAsked h (drop spans.len bytes) (meaning_in r)) → Judges bytes r
+judged_whole bytes n headers spans (Some a) limit few of within asks = λ more.
+    let it = asks of.0 of.1 in
+    inl (record {
+      head = of.0;
+      rest = drop spans.len bytes ++ more;
+      has = has_head_in bytes more n headers spans of.0 limit few of.1 within;
+      asked = record { place = it.place; names = it.names; is = asked_more it.place of.0.method (map name_and_value of.0.fields) (drop spans.len bytes) more (meaning_of a) it.is };
+    })
+judged_whole bytes n headers spans None limit few of within asks = λ m w.
+    let has = has_head_in bytes [] n headers spans of.0 limit few of.1 within in
+    let P : List ℕ → Type 0 = λ b. ReadsRequest b of.0 (drop spans.len bytes) in
+    let Q : List ℕ → Type 0 = λ r. ReadsRequest (bytes ++ []) of.0 r in
+    let reads = subst P (append_nil bytes) (subst Q (append_nil (drop spans.len bytes)) has.reads) in
+    none-some m (asked_once bytes of.0 w.head (drop spans.len bytes) w.rest None (Some m) reads w.has.reads (asks of.0 of.1) w.asked)
+
+pub judged_result : (bytes : List ℕ) (n : ℕ) (headers : List HeaderSpan) (spans : RequestSpans) (rest : List ℕ) (r : Result (Option Asked) AllocError) → n ≤ 8192 → length headers ≤ 32
+    → IsRequestOf (take n bytes) headers spans → IsRequestWithin (take n bytes) headers spans → rest ≡ drop spans.len bytes
+    → IfOk r (λ asked. (h : RequestHead) → IsRequestAt (take n bytes) headers spans h → IsAsked h rest (meaning_in asked)) → IfOk r (Judges bytes)
+judged_result bytes n headers spans rest (Ok asked) limit few of within is asks =
+    let P : List ℕ → Type 0 = λ m. (h : RequestHead) → IsRequestAt (take n bytes) headers spans h → IsAsked h m (meaning_in asked) in
+    judged_whole bytes n headers spans asked limit few of within (subst P is asks)
+judged_result bytes n headers spans rest (Err e) limit few of within is asks = tt
+
+-- bytes that begin with no head hold no whole request
+pub lacks_partial : (bytes : List ℕ) (n : ℕ) → length bytes ≤ n → HasNoRequest (take n bytes) → Lacks bytes
+lacks_partial bytes n all none = λ m w.
+    let P : List ℕ → Type 0 = HasNoRequest in
+    subst P (take_all n bytes all) none w.head w.rest w.has.reads
+
+head_not_empty : (h : RequestHead) → 0 < length h.target → 0 < length (print_request h)
+unfolding print_request
+head_not_empty h some = grind (arith, length-append, some)
+
+-- no bytes are no request
+lacks_empty : Lacks []
+lacks_empty = λ m w.
+    let n = head_not_empty w.head w.has.reads.0.target.0 in
+    let l = length-append (print_request w.head) w.rest in
+    let e = ap length w.has.reads.1 in
+    omega (arith, n, l, e)
+
+pub has_bytes : (bytes : List ℕ) → false ≡ (length bytes == 0) → 0 < length bytes
+has_bytes [] e = absurd (true≢false (sym e))
+has_bytes (x ∷ xs) e = omega arith
+
+pub lacks_bytes : (bytes : List ℕ) → true ≡ (length bytes == 0) → Lacks bytes
+lacks_bytes [] e = lacks_empty
+lacks_bytes (x ∷ xs) e = let n : suc (length xs) ≡ 0 = eqb-true (suc (length xs)) 0 (sym e) in absurd (omega (arith, n))
+
+some_bytes : (bytes more : List ℕ) → 0 < length bytes → bytes ++ more ≢ []
+some_bytes bytes more some = λ e. let n = ap length e in omega (arith, n, some, length-append bytes more)
+
+-- a full front without a head: whatever follows, the request is bad
+pub decided_full : (bytes : List ℕ) (n : ℕ) → 0 < length bytes → length (take n bytes) ≡ 8192 → HasNoRequest (take n bytes) → Decides bytes (refused BadRequest)
+decided_full bytes n some full none = λ more. inr (
+  λ m w.
+      let front = take n bytes in
+      let tail = drop n bytes ++ more in
+      let short = w.has.short in
+      let k = length (print_request w.head) in
+      let input : bytes ++ more ≡ front ++ tail = ap (λ b. b ++ more) (sym (take-append-drop n bytes)) ∙ append_assoc front (drop n bytes) more in
+      let reads = subst (λ b. ReadsRequest b w.head w.rest) input w.has.reads in
+      let first : take k front ≡ print_request w.head =
+      sym (take-append-le k front tail (omega (arith, short, full))) ∙ ap (take k) reads.1 ∙ take-append_seam (print_request w.head) w.rest in
+      let whole : front ≡ print_request w.head ++ drop k front = sym (take-append-drop k front) ∙ ap (λ x. x ++ drop k front) first in
+      none w.head (drop k front) (reads.0, whole),
+  inr (some_bytes bytes more some, refl),
+)
+
+-- a front that no head within the limits begins: the same
+pub decided_refused : (bytes : List ℕ) (n : ℕ) → 0 < length bytes → RequestOverflows 32 (take n bytes) → Decides bytes (refused BadRequest)
+decided_refused bytes n some over = λ more. inr (
+  λ m w.
+      let front = take n bytes in
+      let tail = drop n bytes ++ more in
+      let input : bytes ++ more ≡ front ++ tail = ap (λ b. b ++ more) (sym (take-append-drop n bytes)) ∙ append_assoc front (drop n bytes) more in
+      let many = over tail w.head w.rest (subst (λ b. ReadsRequest b w.head w.rest) input w.has.reads) in
+      let few = w.has.few in
+      omega (arith, many, few),
+  inr (some_bytes bytes more some, refl),
+)

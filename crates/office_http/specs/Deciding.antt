@@ -1,0 +1,30 @@
+-- What the bytes of a connection mean.
+use Rattle.std.specs.Prelude.{◌≡◌, ◌≢◌, ◌⊎◌, ℕ, List, [], ◌++◌, Some}
+use Rattle.httparse.specs.Grammar.{RequestHead}
+use Rattle.office_http.specs.declared.asked.Refusal.TheVariants.{BadRequest}
+use Rattle.office_http.specs.Head.{HasHead}
+use Rattle.office_http.specs.Heads.{IsAsked}
+use Rattle.office_http.specs.Meanings.{Meaning, nothing, refused}
+
+-- the bytes have a whole head within the limits, and all that it asks for is there
+pub record IsWhole (input : List ℕ) (meaning : Meaning) : Type 0 where
+  pub head : RequestHead
+  pub rest : List ℕ
+  pub has : HasHead input head rest
+  pub asked : IsAsked head rest (Some meaning)
+
+-- no whole request is there
+abbrev pub Lacks : List ℕ → Type 0
+Lacks input = (meaning : Meaning) → IsWhole input meaning → ⊥
+
+-- bytes that end too soon, or never become a request
+abbrev pub EndsAs : List ℕ → Meaning → Type 0
+EndsAs input meaning = ((input ≡ []) × (meaning ≡ nothing)) ⊎ ((input ≢ []) × (meaning ≡ refused BadRequest))
+
+-- all the bytes of a connection mean that
+abbrev pub Means : List ℕ → Meaning → Type 0
+Means input meaning = IsWhole input meaning ⊎ (Lacks input × EndsAs input meaning)
+
+-- whatever follows, the bytes mean that
+abbrev pub Decides : List ℕ → Meaning → Type 0
+Decides input meaning = (more : List ℕ) → Means (input ++ more) meaning

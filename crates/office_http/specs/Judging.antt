@@ -1,0 +1,10 @@
+-- What is known of a request of which a front came.
+use Rattle.std.specs.Prelude.{ℕ, List, Option, Some, None}
+use Rattle.office_http.specs.declared.asked.Asked.{Asked}
+use Rattle.office_http.specs.Asked.{meaning_of}
+use Rattle.office_http.specs.Deciding.{Decides, Lacks}
+
+-- it is known what is asked for, whatever follows; or no whole request is there
+abbrev pub Judges : List ℕ → Option Asked → Type 0
+Judges input (Some asked) = Decides input (meaning_of asked)
+Judges input None = Lacks input

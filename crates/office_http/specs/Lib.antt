@@ -1,0 +1,19 @@
+-- What contracts say of requests and answers.
+pub mod Head
+pub mod Judged
+pub mod Fields
+pub mod Spanned
+pub mod Routes
+pub mod Places
+pub mod Found
+pub mod Numbers
+pub mod Orders
+pub mod Meanings
+pub mod Bodies
+pub mod Heads
+pub mod Deciding
+pub mod Asked
+pub mod Judging
+pub mod Exchanges
+pub mod Answers
+pub mod Shown

@@ -1,0 +1,69 @@
+-- What a head and the bytes behind it ask for, by the first check that fails.
+use Rattle.std.specs.Prelude.{ℕ, Bool, ◌&&◌, nat_le, nat_eq, ℤ, List, length, take, codes, Option, Some, None, if◌then◌else◌}
+use Rattle.std.specs.Cmp.Lexicographic.{pointwise}
+use Rattle.poll_book.specs.Callers.{is_caller, is_key}
+use Rattle.office_http.specs.declared.fields.Length.{Length}
+use Rattle.office_http.specs.declared.fields.Length.TheVariants as length
+use Rattle.office_http.specs.declared.asked.Methods.TheVariants.{Get, Put, GetPut}
+use Rattle.office_http.specs.declared.asked.Refusal.{Refusal}
+use Rattle.office_http.specs.declared.asked.Refusal.TheVariants.{BadRequest, NotFound, NotAllowed, LengthRequired, TooLarge}
+use Rattle.office_http.specs.Fields.{FieldText, length_of}
+use Rattle.office_http.specs.Numbers.{slot_of, range_of}
+use Rattle.office_http.specs.Orders.{order_of}
+use Rattle.office_http.specs.Places.{Place, orders, lists, readings, total}
+
+pub data Meaning : Type 0 where
+  -- no byte came
+  nothing : Meaning
+  refused : Refusal → Meaning
+  load : (caller key list : List ℕ) → Meaning
+  order : (caller key point : List ℕ) (value : ℤ) → Meaning
+  order_under : (caller key : List ℕ) → Meaning
+  readings_of : (point : List ℕ) (from to : ℕ) → Meaning
+  total_of : (point : List ℕ) → Meaning
+
+abbrev pub is_method : List ℕ → List ℕ → Bool
+is_method name method = pointwise nat_eq method name
+
+abbrev pub is_get : List ℕ → Bool
+is_get = is_method (codes "GET")
+
+abbrev pub is_put : List ℕ → Bool
+is_put = is_method (codes "PUT")
+
+-- what a body of this length asks for, once all of it is there
+abbrev pub with_body : (List ℕ → Meaning) → List ℕ → Length → Option Meaning
+with_body make rest length.Missing = Some (refused LengthRequired)
+with_body make rest length.Bad = Some (refused BadRequest)
+with_body make rest length.TooLarge = Some (refused TooLarge)
+with_body make rest (length.Of n) = if nat_le n (length rest) then Some (make (take n rest)) else None
+
+-- the order that a body names
+abbrev pub ordered : List ℕ → List ℕ → Option (List ℕ × ℤ) → Meaning
+ordered caller key (Some it) = order caller key it.0 it.1
+ordered caller key None = refused BadRequest
+
+abbrev pub in_range : List ℕ → Option (ℕ × ℕ) → Meaning
+in_range point (Some range) = readings_of point range.0 range.1
+in_range point None = refused BadRequest
+
+-- a caller and a key in their form
+abbrev pub are_words : List ℕ → List ℕ → Bool
+are_words caller key = is_caller caller && is_key key
+
+-- what a method asks for at a place; none while bytes of the body lack
+abbrev pub asked_at : Place → List ℕ → List FieldText → List ℕ → Option Meaning
+asked_at (orders caller key) method fields rest =
+    if is_get method then Some (if are_words caller key then order_under caller key else refused BadRequest)
+    else if is_put method then (if are_words caller key then with_body (λ body. ordered caller key (order_of body)) rest (length_of fields) else Some (refused BadRequest))
+    else Some (refused (NotAllowed GetPut))
+asked_at (lists caller key) method fields rest =
+    if is_put method then (if are_words caller key then with_body (load caller key) rest (length_of fields) else Some (refused BadRequest))
+    else Some (refused (NotAllowed Put))
+asked_at (readings point from to) method fields rest =
+    if is_get method then Some (in_range point (range_of (slot_of from) (slot_of to))) else Some (refused (NotAllowed Get))
+asked_at (total point) method fields rest = if is_get method then Some (total_of point) else Some (refused (NotAllowed Get))
+
+abbrev pub asked_of : Option Place → List ℕ → List FieldText → List ℕ → Option Meaning
+asked_of (Some place) method fields rest = asked_at place method fields rest
+asked_of None method fields rest = Some (refused NotFound)

@@ -1,0 +1,32 @@
+-- What a target names.
+use Rattle.std.specs.Prelude.{◌≡◌, ℕ, ◌==◌, not, true, List, ◌∷◌, ◌++◌, codes, Option, Some, None}
+use Rattle.std.specs.List.{list_all}
+use Rattle.office_http.specs.declared.routes.Route.TheVariants.{Orders, Lists, Readings, Total}
+use Rattle.office_http.specs.Routes.{route_of}
+
+pub data Place : Type 0 where
+  orders : (caller key : List ℕ) → Place
+  lists : (caller key : List ℕ) → Place
+  readings : (point from to : List ℕ) → Place
+  total : (point : List ℕ) → Place
+
+-- no slash
+abbrev pub IsPlain : List ℕ → Type 0
+IsPlain part = list_all (λ b. not (b == 47)) part ≡ true
+
+-- a part, a slash, and what stands behind it
+abbrev pub spell : List ℕ → List ℕ → List ℕ
+spell part more = part ++ 47 ∷ more
+
+-- the target has the route of the place and spells its parts, none of which but the last may have a slash
+abbrev pub IsPlace : List ℕ → Place → Type 0
+IsPlace target (orders caller key) = (route_of target ≡ Some Orders) × (target ≡ codes "/callers/" ++ spell caller (codes "orders/" ++ key)) × IsPlain caller
+IsPlace target (lists caller key) = (route_of target ≡ Some Lists) × (target ≡ codes "/callers/" ++ spell caller (codes "lists/" ++ key)) × IsPlain caller
+IsPlace target (readings point from to) =
+    (route_of target ≡ Some Readings) × (target ≡ codes "/points/" ++ spell point (codes "readings/" ++ spell from to)) × IsPlain point × IsPlain from
+IsPlace target (total point) = (route_of target ≡ Some Total) × (target ≡ codes "/points/" ++ (point ++ codes "/total"))
+
+-- what was found in a target: this place, or that it names none
+abbrev pub Names : List ℕ → Option Place → Type 0
+Names target (Some place) = IsPlace target place
+Names target None = (place : Place) → IsPlace target place → ⊥

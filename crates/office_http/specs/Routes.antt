@@ -1,0 +1,33 @@
+-- The routes, as matchit keeps them.
+use Rattle.std.specs.Prelude.{ℕ, List, [], codes, Option, Some, None, Result, Ok, Err}
+use Rattle.matchit.specs.Rows.{RowsOf}
+use Rattle.matchit.specs.Route.{Scan, parse_route}
+use Rattle.matchit.specs.Order.{placed}
+use Rattle.matchit.specs.Router.{RouteOf, route_from}
+use Rattle.matchit.specs.Seek.{first}
+use Rattle.matchit.specs.declared.error.InsertError.{InsertError}
+use Rattle.office_http.specs.declared.routes.Route.{Route}
+use Rattle.office_http.specs.declared.routes.Route.TheVariants.{Orders, Lists, Readings, Total}
+
+abbrev pub with_scan : Result Scan InsertError → Route → RowsOf (RouteOf Route) → RowsOf (RouteOf Route)
+with_scan (Ok s) route rows = placed (s.pattern, route_from s route) rows
+with_scan (Err e) route rows = rows
+
+-- the rows with one route more
+abbrev pub with_route : List ℕ → Route → RowsOf (RouteOf Route) → RowsOf (RouteOf Route)
+with_route text route rows = with_scan (parse_route text) route rows
+
+abbrev pub caller_routes : RowsOf (RouteOf Route)
+caller_routes = with_route (codes "/callers/{caller}/lists/{key}") Lists (with_route (codes "/callers/{caller}/orders/{key}") Orders [])
+
+-- the routes of an office
+abbrev pub the_routes : RowsOf (RouteOf Route)
+the_routes = with_route (codes "/points/{point}/total") Total (with_route (codes "/points/{point}/readings/{from}/{to}") Readings caller_routes)
+
+abbrev pub value_of : Option (RouteOf Route) → Option Route
+value_of (Some r) = Some r.value
+value_of None = None
+
+-- the route that matchit gives for a target
+abbrev pub route_of : List ℕ → Option Route
+route_of target = value_of (first the_routes target)

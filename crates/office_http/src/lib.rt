@@ -1,0 +1,22 @@
+//! HTTP for an office, as a machine that reads and writes nothing: what the bytes of a connection ask
+//! for, and the bytes of the answers (RFC 9110, RFC 9112).
+#![tactic(auto)]
+
+pub mod answer;
+mod asked;
+mod bodies;
+mod body;
+mod exchange;
+mod fields;
+mod head;
+mod judge;
+pub mod laws;
+mod order;
+mod place;
+mod reading_body;
+mod routes;
+mod status;
+
+pub use asked::{Asked, Methods, Refusal};
+pub use exchange::Exchange;
+pub use reading_body::Shown;
