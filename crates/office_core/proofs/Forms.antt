@@ -1,15 +1,16 @@
--- Points that lists say have the form of a type that there is.
-use Rattle.std.proofs.Common.{◌≡◌, ◌≤◌, ◌+◌, ℕ, zero, suc, Bool, true, false, cond, eqb, leb, List, [], ◌∷◌, ◌++◌, length, Option, Some, None, Result, Ok, Err, refl, sym, ◌∙◌, subst, arith, T}
-use Rattle.std.specs.Prelude.{ℤ, pos, neg_ℤ, All, IfOk, ◌&&◌, ◌||◌, option_map, find, is_none, ⊤}
+-- Points that lists say have the form of a type that there is, and can be read.
+use Rattle.std.proofs.Common.{◌≡◌, ◌≤◌, ◌+◌, ℕ, zero, suc, Bool, true, false, cond, eqb, leb, get_or, List, [], ◌∷◌, ◌++◌, length, Option, Some, None, Result, Ok, Err, refl, sym, ◌∙◌, subst, arith, T}
+use Rattle.std.specs.Prelude.{ℤ, pos, neg_ℤ, All, IfOk, ◌&&◌, ◌||◌, not, option_map, find, is_none, ⊤}
 use Rattle.std.specs.Str.{bytes_eq}
 use Rattle.std.specs.Str.Parse.{digits_value}
 use Rattle.std.specs.Int.Signed.{le_z_yes}
 use Rattle.std.specs.Char.{is_ascii_digit}
-use Rattle.std.specs.List.{list_all}
+use Rattle.std.specs.List.{list_all, list_any}
 use Rattle.std.proofs.lemmas.Bool.{and_parts, leb-true, le-leb}
 use Rattle.std.proofs.lemmas.Option.{none-some, same_Some, cond_some}
 use Rattle.std.proofs.lemmas.List.Elements.{All-nil, All-cons, All-head, All-tail, All-map, All-filter, All-append}
 use Rattle.mb_pdu.specs.declared.table.Table.{Table}
+use Rattle.mb_pdu.specs.declared.table.Table.TheVariants.{Coil, Discrete, Holding, Input}
 use Rattle.sunspec.specs.declared.point_type.PointType.{PointType}
 use Rattle.sunspec.specs.declared.point_type.PointType.TheVariants.{Str}
 use Rattle.sunspec.specs.PointType.{row, types, resized, IsSized}
@@ -21,16 +22,19 @@ use Rattle.point_list.specs.declared.point.ListRow.{ListRow}
 use Rattle.point_list.specs.declared.error.ListError.{ListError}
 use Rattle.point_list.specs.Columns.{Record, field, ◌then◌, holds_bits, is_bit, same, in_table, named_in, unsized, sized, is_scaled, is_zero, scaled_by, scale_in as scale_said}
 use Rattle.point_list.specs.Header.{is_header}
-use Rattle.point_list.specs.Lists.{table_in, address_in, name_of_type_in, type_in, scale_in, role_in, roll_in, records_of}
-use Rattle.point_list.specs.ListMeaning.{point_in, row_before, rows_said, first_fault, missing_header, rows_unless, body_meaning, list_meaning}
+use Rattle.point_list.specs.Lists.{table_in, address_in, name_of_type_in, type_in, scale_in, role_in, roll_in, records_of, ends_in_time, Check, check, place_checks, meaning_checks, whole_checks, first_failed, fault_below}
+use Rattle.point_list.specs.declared.error.ListFault.{ListFault}
+use Rattle.point_list.specs.declared.error.ListFault.TheVariants.{BadAddress, Twice}
+use Rattle.point_list.specs.ListMeaning.{point_in, row_before, rows_said, fault_or_later, first_fault, missing_header, rows_unless, body_meaning, list_meaning}
+use Rattle.read_planner.specs.Place.{CanBeRead, size_in, size_of}
 use Rattle.poll_book.specs.declared.rows.PointRow.{PointRow}
 use Rattle.office_core.specs.Fitting.{HasForm}
 use Rattle.office_core.specs.Loads.{Loading, Refused, Taken, known_named, unknown_of, points_of, too_many, loading_rows, differing, loading_of, loading, numbered_on, added}
 use Rattle.office_core.specs.History.{Restart, Load, Order, Open, Ask, Send, Reply, Noise, History, site_of, points, is_used}
 
--- the form of a point, and a bit only in a table of bits
+-- the form of a point, a bit only in a table of bits, and an end by the last address
 abbrev pub IsFormed : Point → Type 0
-IsFormed point = HasForm point × (is_bit point.kind ≡ true → holds_bits point.table ≡ true)
+IsFormed point = HasForm point × (is_bit point.kind ≡ true → holds_bits point.table ≡ true) × (point.address + (row point.kind).registers ≤ 65536)
 
 -- where one step after another says something, the first says something that the other goes on from
 pub then_some : {A B : Type 0} (o : Option A) (f : A → Option B) (y : B) → (o then f) ≡ Some y → (x : A) × (o ≡ Some x) × (f x ≡ Some y)
@@ -149,54 +153,87 @@ scale_in_so r scale e =
     let s = then_some (type_in r) (λ k. scaled_by k (field r 6)) scale e in
     scaled_so s.0 (field r 6) scale s.2
 
+-- ---- faultless records
+
+-- where no check of a list fails, none of its rest does
+none_after : (checks rest : List Check) → first_failed (checks ++ rest) ≡ None → first_failed rest ≡ None
+none_after [] rest e = e
+none_after (c ∷ checks) rest e = by c.passes e (none_after checks rest)
+  where
+    by : (b : Bool) → cond b (first_failed (checks ++ rest)) (Some (c.fault, c.column)) ≡ None → (first_failed (checks ++ rest) ≡ None → first_failed rest ≡ None)
+        → first_failed rest ≡ None
+    by true f later = later f
+    by false f later = absurd (cc)
+
+-- the point of a faultless record ends by the last address
+faultless_so : (known : List ℕ → Bool) (names : List (List ℕ)) (r : Record) → fault_below known names r ≡ None → ends_in_time (address_in r) (type_in r) ≡ true
+unfolding fault_below
+faultless_so known names r e =
+    by (ends_in_time (address_in r) (type_in r))
+    (none_after (meaning_checks r) (whole_checks names r) (none_after (place_checks known (length names) r) (meaning_checks r ++ whole_checks names r) e))
+  where
+    by : (b : Bool) → cond b (first_failed (check (not (list_any (λ name. bytes_eq (field r 0) name) names)) Twice 1 ∷ [])) (Some (BadAddress, 4)) ≡ None → b ≡ true
+    by true f = refl
+    by false f = absurd (cc)
+
 -- ---- points
 
--- the point that a record says is formed
-point_so : (r : Record) (point : Point) → point_in r ≡ Some point → IsFormed point
-point_so r point e = by (table_in r) (address_in r) (type_in r) (scale_in r) (role_in r) (roll_in r) refl refl refl e
+-- the point that a faultless record says is formed
+point_so : (r : Record) (point : Point) → ends_in_time (address_in r) (type_in r) ≡ true → point_in r ≡ Some point → IsFormed point
+point_so r point ends e = by (table_in r) (address_in r) (type_in r) (scale_in r) (role_in r) (roll_in r) refl refl refl ends e
   where
     said : Table → ℕ → PointType → ℤ → Role → ℕ → Point
     said table address kind scale role roll =
         record { name = field r 0; device = field r 1; table = table; address = address; kind = kind; scale = scale; role = role; roll = roll }
 
     by : (t : Option Table) (a : Option ℕ) (k : Option PointType) (s : Option ℤ) (o : Option Role) (l : Option ℕ)
-        → table_in r ≡ t → type_in r ≡ k → scale_in r ≡ s
+        → table_in r ≡ t → type_in r ≡ k → scale_in r ≡ s → ends_in_time a k ≡ true
         → (t then (λ table. a then (λ address. k then (λ kind. s then (λ scale. o then (λ role. l then (λ roll. Some (said table address kind scale role roll)))))))
         ≡ Some point) → IsFormed point
-    by (Some table) (Some address) (Some kind) (Some scale) (Some role) (Some roll) t k s f =
+    by (Some table) (Some address) (Some kind) (Some scale) (Some role) (Some roll) t k s end f =
         let type = type_so r table kind t k in
-        subst IsFormed (same_Some (said table address kind scale role roll) point f) ((type.0, scale_in_so r scale s), type.1)
-    by None a k s o l t e g f = absurd (none-some point f)
-    by (Some table) None k s o l t e g f = absurd (none-some point f)
-    by (Some table) (Some address) None s o l t e g f = absurd (none-some point f)
-    by (Some table) (Some address) (Some kind) None o l t e g f = absurd (none-some point f)
-    by (Some table) (Some address) (Some kind) (Some scale) None l t e g f = absurd (none-some point f)
-    by (Some table) (Some address) (Some kind) (Some scale) (Some role) None t e g f = absurd (none-some point f)
+        subst IsFormed (same_Some (said table address kind scale role roll) point f)
+        ((type.0, scale_in_so r scale s), type.1, leb-true (address + (row kind).registers) 65536 end)
+    by None a k s o l t e g end f = absurd (none-some point f)
+    by (Some table) None k s o l t e g end f = absurd (none-some point f)
+    by (Some table) (Some address) None s o l t e g end f = absurd (none-some point f)
+    by (Some table) (Some address) (Some kind) None o l t e g end f = absurd (none-some point f)
+    by (Some table) (Some address) (Some kind) (Some scale) None l t e g end f = absurd (none-some point f)
+    by (Some table) (Some address) (Some kind) (Some scale) (Some role) None t e g end f = absurd (none-some point f)
 
 -- the points of these rows are formed
 abbrev AreFormed : List ListRow → Type 0
 AreFormed rows = All (λ (said : ListRow). IsFormed said.point) rows
 
--- those of the rows that records say are
-rows_formed : (number : ℕ) (rs : List Record) → AreFormed (rows_said number rs)
-rows_formed number [] = All-nil (λ (said : ListRow). IsFormed said.point)
-rows_formed number (r ∷ rs) = by (point_in r) refl (rows_formed (number + 1) rs)
+-- those of the rows that faultless records say are
+rows_formed : (known : List ℕ → Bool) (names : List (List ℕ)) (number : ℕ) (rs : List Record) → first_fault known names number rs ≡ None → AreFormed (rows_said number rs)
+rows_formed known names number [] none = All-nil (λ (said : ListRow). IsFormed said.point)
+rows_formed known names number (r ∷ rs) none =
+    by_fault (fault_below known names r) refl none (rows_formed known (names ++ field r 0 ∷ []) (number + 1) rs)
   where
-    by : (o : Option Point) → point_in r ≡ o → AreFormed (rows_said (number + 1) rs) → AreFormed (row_before number o (rows_said (number + 1) rs))
-    by None at rest = rest
-    by (Some point) at rest = All-cons (λ (said : ListRow). IsFormed said.point) (record { row = number; point = point }) (rows_said (number + 1) rs) (point_so r point at) rest
+    by : (o : Option Point) → point_in r ≡ o → ends_in_time (address_in r) (type_in r) ≡ true → AreFormed (rows_said (number + 1) rs)
+        → AreFormed (row_before number o (rows_said (number + 1) rs))
+    by None at ends rest = rest
+    by (Some point) at ends rest =
+        All-cons (λ (said : ListRow). IsFormed said.point) (record { row = number; point = point }) (rows_said (number + 1) rs) (point_so r point ends at) rest
+
+    by_fault : (o : Option (ListFault × ℕ)) → fault_below known names r ≡ o
+        → fault_or_later number o (first_fault known (names ++ field r 0 ∷ []) (number + 1) rs) ≡ None
+        → (first_fault known (names ++ field r 0 ∷ []) (number + 1) rs ≡ None → AreFormed (rows_said (number + 1) rs)) → AreFormed (rows_said number (r ∷ rs))
+    by_fault None own later rest = by (point_in r) refl (faultless_so known names r own) (rest later)
+    by_fault (Some fault) own later rest = absurd (cc)
 
 -- and those of the rows that a list means
 meaning_formed : (known : List ℕ → Bool) (list : List Record) → IfOk (list_meaning known list) AreFormed
 meaning_formed known [] = tt
 meaning_formed known (first ∷ body) = by (is_header first)
   where
-    by_fault : (o : Option ListError) → IfOk (rows_unless o (rows_said 2 body)) AreFormed
-    by_fault None = rows_formed 2 body
-    by_fault (Some e) = tt
+    by_fault : (o : Option ListError) → first_fault known [] 2 body ≡ o → IfOk (rows_unless o (rows_said 2 body)) AreFormed
+    by_fault None none = rows_formed known [] 2 body none
+    by_fault (Some e) some = tt
 
     by : (b : Bool) → IfOk (cond b (body_meaning known body) (Err missing_header)) AreFormed
-    by true = by_fault (first_fault known [] 2 body)
+    by true = by_fault (first_fault known [] 2 body) refl
     by false = tt
 
 -- ---- what a list adds
@@ -267,3 +304,26 @@ points_formed (Ask c device slot read ∷ before) = points_formed before
 points_formed (Send c number ∷ before) = points_formed before
 points_formed (Reply c n unit ∷ before) = points_formed before
 points_formed (Noise c frame ∷ before) = points_formed before
+
+-- ---- they can be read
+
+-- a type has a register at least
+some_registers : (kind : PointType) → IsSized kind → 1 ≤ (row kind).registers
+unfolding row
+some_registers (Str registers) sized = sized.0
+some_registers kind sized = omega arith
+
+-- a point holds no more addresses than its type has registers
+addresses_of : (table : Table) (registers : ℕ) → 1 ≤ registers → size_in table registers ≤ registers
+addresses_of Coil registers some = some
+addresses_of Discrete registers some = some
+addresses_of Holding registers some = omega arith
+addresses_of Input registers some = omega arith
+
+-- the points that were accepted can be read
+pub points_readable : (before : History) → All (λ (known : PointRow). CanBeRead known.point) (points before)
+points_readable before k d lt =
+    let point : Point = (get_or (points before) k d).point in
+    let formed = points_formed before k d lt in
+    let few : size_of point ≤ (row point.kind).registers = addresses_of point.table (row point.kind).registers (some_registers point.kind formed.0.0) in
+    record { sized = formed.0.0; inside = omega (arith, few, formed.2) }

@@ -19,3 +19,4 @@ pub mod SettledOrders
 pub mod Fitting
 pub mod Messages
 pub mod ByName
+pub mod Lacking

@@ -56,7 +56,7 @@ fn starts_in(read: &Read, address: u16) -> bool
 /// The point is of the device and of the table that is read, and lies whole in the read.
 // Each reply tries all points, most of which `starts_in` rejects.
 #[inline(always)]
-fn covers(device: &[u8], read: &Read, point: &Point) -> bool
+pub(crate) fn covers(device: &[u8], read: &Read, point: &Point) -> bool
     ensures { result ≡ cover.covers device.now read.now point.now }
 {
     if !starts_in(read, point.address) {

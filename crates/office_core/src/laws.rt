@@ -1,6 +1,7 @@
 //! Laws of the definitions alone.
 
-ghost use Rattle.std.specs.Prelude.{◌≡◌, ◌⊎◌, ◌↔◌, ◌≤◌, ℕ, false, List, ◌++◌, Some, IsSome};
+ghost use Rattle.std.specs.Prelude.{◌≡◌, ◌⊎◌, ◌↔◌, ◌≤◌, ℕ, All, false, List, ◌++◌, Some, IsSome};
+ghost use Rattle.read_planner.specs.Place.{CanBeRead};
 ghost use Rattle.poll_book.specs.declared.requests.Request.{Request};
 ghost use Rattle.poll_book.specs.declared.rows.OrderState.{OrderState};
 ghost use Rattle.poll_book.specs.declared.rows.OrderState.TheVariants.{Waiting};
@@ -13,7 +14,7 @@ ghost use Rattle.poll_book.specs.Tables.{Tables, reading_at};
 ghost use Rattle.office_core.specs.declared.event.Event.{Event};
 ghost use Rattle.office_core.specs.declared.event.EventAnswer.{EventAnswer};
 ghost use Rattle.office_core.specs.Fitting.{IsFitting};
-ghost use Rattle.office_core.specs.History.{Happening, History, after, readings, settings, requests, tables, total};
+ghost use Rattle.office_core.specs.History.{Happening, History, after, points, readings, settings, requests, tables, total};
 ghost use Rattle.office_core.specs.Leavings.{IsOfRefused, LeftBy, happened};
 ghost use Rattle.office_core.specs.Legal.{Legal, MayHappen};
 ghost use Rattle.office_core.specs.Messages.{IsMessage, happening_of};
@@ -97,4 +98,9 @@ pub fn crash_leavings()
     ensures { (before : History) (rest : List Happening) (told : List EventAnswer) (left : Tables)
         → LeftBy before (λ kept. kept ≡ tables before) rest told left
         ↔ ((left ≡ tables (after before (happened rest told))) ⊎ IsOfRefused before rest told left) }
+{}
+
+/// The points that were accepted can be read: each ends by the last address.
+pub fn readable_points()
+    ensures { (before : History) → All (λ known. CanBeRead known.point) (points before) }
 {}

@@ -8,6 +8,7 @@ mod commit;
 mod cover;
 mod error;
 mod event;
+mod lacking;
 pub mod laws;
 mod loads;
 mod names;

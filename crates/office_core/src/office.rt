@@ -16,6 +16,7 @@ use crate::commit::{commit, write};
 use crate::cover::is_readable;
 use crate::error::OfficeError;
 use crate::event::{Arrival, Event, EventAnswer, RequestAnswer};
+use crate::lacking::some_lacks;
 use crate::loads::{judge, known_named};
 use crate::orders::{judge_order, judge_send};
 use crate::requests::{list_again, list_row, order_again, order_row};
@@ -125,7 +126,8 @@ pub struct Office<K: Keeper> {
 }
 
 impl<K: Keeper> Office<K> {
-    ghost use Rattle.office_core.specs.History.{History, Restart, tables, points, settings, requests};
+    ghost use Rattle.office_core.specs.History.{History, Restart, tables, points, settings, requests, open_line};
+    ghost use Rattle.office_core.specs.Lacking.{lacks};
     ghost use Rattle.poll_book.specs.Orders.{as_setting, last_order, oldest_waiting};
     ghost use Rattle.office_core.specs.Errors.{IsCaused, IsOfStore};
     ghost use Rattle.office_core.specs.Offices.{AnswerCaused, CauseFrom, IsAlike, LeavesNoMore, LeavesRun, LeavesSo, LeavesUnused, Shows, Stands, StandsUnused, arrived, asked_so, keeper_of, opened, order_state_of, points_of, readings_of, site_of, told_so, total_of};
@@ -457,6 +459,20 @@ impl<K: Keeper> Office<K> {
         Ok(Some(rows))
     }
 
+    /// Whether some known point of a device that a read covers has no reading in the slot.
+    pub fn lacks(&mut self, device: &str, slot: u32, read: &Read) -> Result<bool, OfficeError>
+        ensures value { K.is_clean (keeper_of self.new) → (before : History) → Stands self.old before
+            → IfOk result (λ some. some ≡ lacks before device.now slot read.now) }
+        ensures cause { IfErr result (λ e. IsOfStore (CauseFrom self.old self.new) e) }
+        ensures counted { K.refused (keeper_of self.old) ≤ K.refused (keeper_of self.new) }
+        ensures same { IsAlike self.old self.new }
+        ensures leaves { K.is_clean (keeper_of self.new) → LeavesNoMore self.old self.new }
+        ensures clean { K.is_clean (keeper_of self.new) → K.is_clean (keeper_of self.old) }
+    {
+        let device = device.as_bytes();
+        Ok(some_lacks(&mut self.keeper, &self.points, device, slot, read)?)
+    }
+
     /// How far a counter went by its counted readings; `None` where no counter of this name is
     /// known.
     pub fn total(&mut self, point: &str) -> Result<Option<u128>, OfficeError>
@@ -543,8 +559,17 @@ impl<K: Keeper> Office<K> {
 
     /// The site in force.
     pub fn site(&self) -> &Site
-        ensures { result.now ≡ site_of self.now }
+        ensures value { result.now ≡ site_of self.now }
+        ensures history { (before : History) → Stands self.now before → result.now ≡ history.site_of before }
+        ensures sound { IsSound result.now }
     {
         &self.site
+    }
+
+    /// The place of a connection's line in the site; `None` where the connection isn't open.
+    pub fn line_of(&self, conn: Conn) -> Option<u16>
+        ensures { (before : History) → Stands self.now before → result ≡ open_line before conn }
+    {
+        self.matcher.line_of(conn)
     }
 }
