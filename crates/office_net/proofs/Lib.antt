@@ -1,0 +1,5 @@
+pub mod Called
+pub mod Turning
+pub mod Sorted
+pub mod Waiting
+pub mod Crashing
