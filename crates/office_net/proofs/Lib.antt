@@ -3,3 +3,8 @@ pub mod Turning
 pub mod Sorted
 pub mod Waiting
 pub mod Crashing
+pub mod Staying
+pub mod Closing
+pub mod Moving
+pub mod Breaking
+pub mod Joining
