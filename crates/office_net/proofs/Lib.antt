@@ -8,3 +8,5 @@ pub mod Closing
 pub mod Moving
 pub mod Breaking
 pub mod Joining
+pub mod Pieces
+pub mod Causing
