@@ -10,3 +10,4 @@ pub mod Breaking
 pub mod Joining
 pub mod Pieces
 pub mod Causing
+pub mod Cutting

@@ -11,6 +11,7 @@ use Rattle.mb_mbap.specs.Counted.{HasRisen, failures_of}
 use Rattle.mb_mbap.specs.Stream.{spelled}
 use Rattle.poll_book.specs.declared.keeper.Neighbours.{Ghosts}
 use Rattle.office_core.specs.declared.office.Office.{Office}
+use Rattle.office_core.specs.History.{History}
 use Rattle.office_net.specs.declared.fault.PollFault.{PollFault}
 use Rattle.office_net.specs.declared.fault.PollFault.TheVariants as fault
 use Rattle.office_net.specs.declared.machine.Poll.{Poll}
@@ -48,6 +49,16 @@ handles_frame office office' old new frame wrote goes = ([], goes, Appends-nil w
 pub breaks_refused : {K : Type 0} {g : Ghosts K} (office office' : Office K g) (old new : Poll) (came coming : List Frame) (calm : Type 0) (wrote : Option (List ℕ)) (e : PollFault)
     → BreaksOff office old office' new came coming [] e → Breaks office old office' new came coming calm wrote wrote e
 breaks_refused office office' old new came coming calm wrote e breaks = ([], breaks, λ _. Appends-nil wrote)
+
+-- nothing was done, and it breaks off
+pub breaks_still : {K : Type 0} {g : Ghosts K} (office : Office K g) (poll : Poll) (calm : Type 0) (wrote : Option (List ℕ)) (e : PollFault) → ((now : History) (conn : ℕ) → ClosedBy e now conn)
+    → Breaks office poll office poll [] [] calm wrote wrote e
+breaks_still office poll calm wrote e free = breaks_refused office office poll poll [] [] calm wrote e (stops_here office office poll poll [] [] [] e free (still office poll))
+
+-- the queries were written, and then it broke off
+pub breaks_later : {K : Type 0} {g : Ghosts K} (office office' : Office K g) (old new : Poll) (came : List Frame) (calm : Type 0) (wrote writes : Option (List ℕ)) (e : PollFault)
+    → ((now : History) (conn : ℕ) → ClosedBy e now conn) → Handles office old office' new came wrote writes → Breaks office old office' new came [] calm wrote writes e
+breaks_later office office' old new came calm wrote writes e free handles = (handles.0, stops_here office office' old new came handles.0 [] e free handles.1, λ _. handles.2)
 
 -- a query was made, and its write failed
 pub breaks_written : {K : Type 0} {g : Ghosts K} (office office' : Office K g) (old new : Poll) (sent : List Frame) (calm : Type 0) (wrote writes : Option (List ℕ)) (e : PollFault) → e ≡ fault.Line

@@ -1,8 +1,9 @@
 //! A round over a reader and a writer.
-ghost use Rattle.std.specs.Prelude.{◌≡◌, ◌⊎◌, ◌≤◌, ◌<◌, ◌+◌, [], ℕ, All, List, IfErr, IfOk, IsSome, MatchResult, None, OnOk, OnErr, length, take};
+ghost use Rattle.std.specs.Prelude.{◌≡◌, ◌⊎◌, ◌≤◌, ◌<◌, ◌+◌, [], ℕ, All, List, IfErr, IfOk, IsSome, MatchResult, None, Some, OnOk, length, take};
 ghost use Rattle.std.specs.Io.KnownBytes.{Appends, Consumes, Keeps};
 ghost use Rattle.mb_mbap.specs.Counted.{HasRisen, ends_of, failures_of, inner_of};
 ghost use Rattle.mb_mbap.specs.Stream.{spelled};
+ghost use Rattle.mb_mbap.specs.declared.fault.FrameFault.{FrameFault};
 ghost use Rattle.mb_mbap.specs.declared.frame.Frame.{Frame};
 ghost use Rattle.office_core.specs.History.{History};
 ghost use Rattle.office_core.specs.Offices.{CauseFrom, keeper_of};
@@ -16,7 +17,7 @@ use crate::fault::PollFault;
 use crate::machine::Poll;
 use crate::planning::jobs_of;
 use crate::round::Round;
-use mb_mbap::{Counted, Frame, FrameReader};
+use mb_mbap::{Counted, Frame, FrameFault, FrameReader};
 use office_core::Office;
 use office_core::laws::readable_points;
 use poll_book::Keeper;
@@ -104,6 +105,7 @@ fn read_piece<R: Read>(
     ensures bytes { MatchResult result
         (λ count. Consumes (R.remaining (inner_of reader.old)) (R.remaining (inner_of reader.new)) (take count piece.new))
         (λ _. Consumes (R.remaining (inner_of reader.old)) (R.remaining (inner_of reader.new)) []) }
+    ensures calm { OnOk result ((failures_of reader.new ≡ failures_of reader.old) × (ends_of reader.new ≡ ends_of reader.old)) }
     ensures failed { IfErr result (λ fault. (fault ≡ PollFault.Line)
         × (HasRisen (failures_of reader.old) (failures_of reader.new) ⊎ HasRisen (ends_of reader.old) (ends_of reader.new))) }
 {
@@ -111,6 +113,16 @@ fn read_piece<R: Read>(
         Ok(0) => Err(PollFault::Line),
         Ok(count) => Ok(count),
         Err(_) => Err(PollFault::Line),
+    }
+}
+
+/// A stream that can't be read on is a fault, unless the round is done.
+fn judge_stream(fault: Option<FrameFault>, poll: &Poll) -> Result<(), PollFault>
+    ensures { MatchResult result (λ _. IsSome fault → IsDone poll.now) (λ e. (bad : FrameFault) × (fault ≡ Some bad) × (e ≡ PollFault.Frames bad)) }
+{
+    match fault {
+        Some(fault) if !poll.is_done() => Err(PollFault::Frames(fault)),
+        _ => Ok(()),
     }
 }
 
@@ -128,10 +140,11 @@ fn read_on<K: Keeper, R: Read, W: Write>(
     requires fed { (bytes : List ℕ) × (frames : List Frame) × Fed stream.old poll.old read bytes frames }
     requires sound { IsSome stream.old }
     requires waits { IsWaiting poll.old }
-    ensures goes { (bytes : List ℕ) (frames : List Frame) → Fed stream.old poll.old read bytes frames → MatchResult result
-        (λ now. Takes (λ came. K.is_clean (keeper_of office.new) → Handles office.old poll.old office.new poll.new came (W.contents (inner_of writer.old)) (W.contents (inner_of writer.new)))
-        poll.new stream.new now bytes frames (R.remaining (inner_of reader.old)) (R.remaining (inner_of reader.new)))
-        (λ fault. Cuts (λ came coming. K.is_clean (keeper_of office.new) → Breaks office.old poll.old office.new poll.new came coming (NoneFailed writer.old writer.new)
+    ensures takes { (bytes : List ℕ) (frames : List Frame) → Fed stream.old poll.old read bytes frames
+        → IfOk result (λ now. Takes (λ came. K.is_clean (keeper_of office.new) → Handles office.old poll.old office.new poll.new came (W.contents (inner_of writer.old)) (W.contents (inner_of writer.new)))
+        poll.new stream.new now bytes frames (R.remaining (inner_of reader.old)) (R.remaining (inner_of reader.new))) }
+    ensures cuts { K.is_clean (keeper_of office.new) → (bytes : List ℕ) (frames : List Frame) → Fed stream.old poll.old read bytes frames
+        → IfErr result (λ fault. Cuts (λ came coming. Breaks office.old poll.old office.new poll.new came coming (NoneFailed writer.old writer.new)
         (W.contents (inner_of writer.old)) (W.contents (inner_of writer.new)) fault)
         bytes frames (R.remaining (inner_of reader.old)) (R.remaining (inner_of reader.new)) fault) }
     ensures cause { IfErr result (λ fault. HasCause (LineFailed reader.old reader.new writer.old writer.new) (CauseFrom office.old office.new) fault) }
@@ -141,7 +154,7 @@ fn read_on<K: Keeper, R: Read, W: Write>(
     ensures sound { OnOk result (stream.new ≡ None → IsDone poll.new) }
     ensures waits { OnOk result (IsWaiting poll.new) }
     ensures calm { OnOk result (failures_of writer.new ≡ failures_of writer.old) }
-    ensures rises { (failures_of reader.old ≤ failures_of reader.new) × (ends_of reader.old ≤ ends_of reader.new) }
+    ensures reader { OnOk result ((failures_of reader.new ≡ failures_of reader.old) × (ends_of reader.new ≡ ends_of reader.old)) }
 {
     if read >= MOST_READ {
         return Err(PollFault::Noise);
@@ -151,11 +164,7 @@ fn read_on<K: Keeper, R: Read, W: Write>(
     let count = read_piece(reader, &mut piece, most)?;
     let fed = stream.feed(&piece[..count])?;
     bring(poll, office, &fed.frames, writer)?;
-    if let Some(fault) = fed.fault {
-        if !poll.is_done() {
-            return Err(PollFault::Frames(fault));
-        }
-    }
+    judge_stream(fed.fault, poll)?;
     Ok(read + count)
 }
 
