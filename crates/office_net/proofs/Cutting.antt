@@ -42,7 +42,7 @@ frames_few old poll read bytes frames piece more bad new fed adds =
 -- ---- faults of the stream
 
 -- a fault of the line or the store is none of the stream
-not_of_stream : (line : Type 0) (store : StoreFault → Type 0) (read rest : List ℕ) (e : PollFault) → IsCaused line store e → IsOfStream read rest e
+pub not_of_stream : (line : Type 0) (store : StoreFault → Type 0) (read rest : List ℕ) (e : PollFault) → IsCaused line store e → IsOfStream read rest e
 not_of_stream line store read rest fault.Line cause = tt
 not_of_stream line store read rest fault.Noise cause = absurd cause
 not_of_stream line store read rest (fault.Frames bad) cause = absurd cause

@@ -11,3 +11,4 @@ pub mod Joining
 pub mod Pieces
 pub mod Causing
 pub mod Cutting
+pub mod Rounding

@@ -14,6 +14,7 @@ ghost use Rattle.office_net.specs.Rounds.{Breaks, BreaksIn, Cuts, Fed, Handles, 
 ghost use Rattle.office_net.specs.Stages.{IsDone, IsWaiting, taken_of};
 
 use crate::fault::PollFault;
+use crate::job::Job;
 use crate::machine::Poll;
 use crate::planning::jobs_of;
 use crate::round::Round;
@@ -172,10 +173,24 @@ fn read_on<K: Keeper, R: Read, W: Write>(
 fn poll_jobs<K: Keeper, R: Read, W: Write>(
     alloc: Global,
     office: &mut Office<K>,
-    mut poll: Poll,
+    conn: Conn,
+    slot: u32,
+    jobs: Vec<Job>,
     reader: &mut Counted<R>,
     writer: &mut Counted<W>,
-) -> Result<Round, PollFault> {
+) -> Result<Round, PollFault>
+    ensures goes { K.is_clean (keeper_of office.new)
+        → (before : History) → Follows office.old before → AreJobs before conn jobs.items → All (CanBeDone before conn) jobs.items → MatchResult result
+        (λ round. IsWhole (Follows office.new) (MayLeave office.old) (MayLeave office.new) (start_of conn slot jobs.items before)
+        (R.remaining (inner_of reader.old)) (R.remaining (inner_of reader.new)) (W.contents (inner_of writer.old)) (W.contents (inner_of writer.new)) round)
+        (λ fault. IsCut (Follows office.new) (MayLeave office.old) (MayLeave office.new) (start_of conn slot jobs.items before)
+        (R.remaining (inner_of reader.old)) (R.remaining (inner_of reader.new)) (NoneFailed writer.old writer.new)
+        (W.contents (inner_of writer.old)) (W.contents (inner_of writer.new)) fault) }
+    ensures cause { IfErr result (λ fault. HasCause (LineFailed reader.old reader.new writer.old writer.new) (CauseFrom office.old office.new) fault) }
+    ensures counted { K.refused (keeper_of office.old) ≤ K.refused (keeper_of office.new) }
+    ensures clean { K.is_clean (keeper_of office.new) → K.is_clean (keeper_of office.old) }
+{
+    let mut poll = Poll::new(conn, slot, jobs);
     let mut stream = FrameReader::new(alloc);
     let mut read = 0;
     send(&mut poll, office, writer)?;
@@ -214,6 +229,5 @@ pub fn poll_round<K: Keeper, R: Read, W: Write>(
         return Err(PollFault::Closed);
     };
     let jobs = jobs_of(alloc, office.site(), office.points(), line)?;
-    let poll = Poll::new(conn, slot, jobs);
-    poll_jobs(alloc, office, poll, reader, writer)
+    poll_jobs(alloc, office, conn, slot, jobs, reader, writer)
 }
