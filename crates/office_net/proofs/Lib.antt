@@ -12,3 +12,4 @@ pub mod Pieces
 pub mod Causing
 pub mod Cutting
 pub mod Rounding
+pub mod Planned
