@@ -13,3 +13,4 @@ pub mod Causing
 pub mod Cutting
 pub mod Rounding
 pub mod Planned
+pub mod Doable
