@@ -14,3 +14,7 @@ pub mod Cutting
 pub mod Rounding
 pub mod Planned
 pub mod Doable
+pub mod Sixteen
+pub mod Lacked
+pub mod Settling
+pub mod Turned

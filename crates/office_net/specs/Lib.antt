@@ -4,3 +4,4 @@ pub mod Following
 pub mod Stages
 pub mod Faults
 pub mod Rounds
+pub mod Turned

@@ -4,6 +4,7 @@
 mod calls;
 mod fault;
 mod job;
+pub mod laws;
 mod machine;
 mod planning;
 mod polling;
