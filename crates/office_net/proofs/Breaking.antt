@@ -1,15 +1,14 @@
 -- A round that breaks off, at a move that was refused or before it.
-use Rattle.std.proofs.Common.{◌≡◌, ◌⊎◌, ◌<◌, ℕ, ◌+◌, true, false, List, [], ◌∷◌, ◌++◌, length, take, drop, Option, Some, None, refl, sym, ap, ◌∙◌, subst, arith, inl, inr, append_assoc, take-append-drop}
+use Rattle.std.proofs.Common.{◌≡◌, ℕ, ◌+◌, true, false, List, [], ◌∷◌, ◌++◌, take, drop, Some, None, refl, sym, ap, ◌∙◌, subst, arith, inl, inr, append_assoc, take-append-drop}
 use Rattle.std.specs.Prelude.{All}
 use Rattle.std.proofs.lemmas.List.{append-nil}
 use Rattle.std.proofs.lemmas.List.Elements.{All-tail}
 use Rattle.mb_mbap.specs.declared.frame.Frame.{Frame}
 use Rattle.poll_book.specs.declared.keeper.Neighbours.{Ghosts}
-use Rattle.poll_book.specs.Tables.{Tables, Within}
+use Rattle.poll_book.specs.Tables.{Within}
 use Rattle.office_core.specs.declared.office.Office.{Office}
 use Rattle.office_core.specs.declared.error.OfficeError.{OfficeError}
 use Rattle.office_core.specs.declared.error.OfficeError.TheVariants as error
-use Rattle.office_core.specs.declared.event.EventAnswer.{EventAnswer}
 use Rattle.office_core.specs.declared.event.EventAnswer.TheVariants as answer
 use Rattle.office_core.specs.Answers.{answer_of}
 use Rattle.office_core.specs.Errors.{is_of_store}
@@ -23,8 +22,8 @@ use Rattle.office_net.specs.declared.machine.Poll.{Poll}
 use Rattle.office_net.specs.Faults.{ClosedBy, IsClosed, fault_by}
 use Rattle.office_net.specs.Following.{Fails, Stays, TurnFails, Follows, MayLeave}
 use Rattle.office_net.specs.Jobs.{CanBeDone}
-use Rattle.office_net.specs.Moves.{Start, Move, Asks, Passes, Comes, told, jobs_in, frames_in, queries_in, turn_of, is_due}
-use Rattle.office_net.specs.Stages.{IsAfter, GoesOn, BreaksOff, Ends, IsNext, Leads}
+use Rattle.office_net.specs.Moves.{Start, Move, Asks, Comes, told, jobs_in, frames_in, queries_in, turn_of, is_due}
+use Rattle.office_net.specs.Stages.{IsAfter, BreaksOff, Leads}
 use Rattle.office_net.proofs.Closing.{closed}
 use Rattle.office_net.proofs.Crashing.{left_refused}
 use Rattle.office_net.proofs.Moving.{IsNextJob}

@@ -1,5 +1,5 @@
 -- A call of the office, told as what happened.
-use Rattle.std.proofs.Common.{◌≡◌, ◌≢◌, ◌⊎◌, inl, inr, Bool, true, false, List, [], ◌∷◌, Result, Ok, Err, refl, sym, ap, ◌∙◌, subst}
+use Rattle.std.proofs.Common.{◌≡◌, ◌≢◌, false, [], ◌∷◌, Result, Ok, Err, refl, sym, ◌∙◌, subst}
 use Rattle.std.specs.Prelude.{MatchResult, IfErr, OnErr}
 use Rattle.std.specs.Result.{IsErrAnd}
 use Rattle.poll_book.specs.declared.keeper.Neighbours.{Ghosts}
@@ -9,13 +9,12 @@ use Rattle.office_core.specs.declared.error.OfficeError.{OfficeError}
 use Rattle.office_core.specs.Offices.{IsAlike, Stands}
 use Rattle.office_core.specs.declared.event.Event.{Event}
 use Rattle.office_core.specs.declared.event.EventAnswer.{EventAnswer}
-use Rattle.office_core.specs.History.{Happening, History, tables}
-use Rattle.office_core.specs.Answers.{answer_of}
+use Rattle.office_core.specs.History.{History, tables}
 use Rattle.office_core.specs.Leavings.{LeftAfter, Leaves}
 use Rattle.office_core.specs.Legal.{Legal, MayHappen}
 use Rattle.office_core.specs.Messages.{happening_of}
 use Rattle.office_core.specs.Standing.{Goes, Sees, is_store}
-use Rattle.office_net.specs.Following.{Fails, Happens, Stays}
+use Rattle.office_net.specs.Following.{Fails, Happens}
 
 -- what an office stands for, where it may be and has begun
 abbrev pub Begun : (History → Type 0) → History → Type 0

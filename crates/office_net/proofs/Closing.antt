@@ -1,8 +1,8 @@
 -- A job that can be done and is due is refused only where the connection is closed.
-use Rattle.std.proofs.Common.{◌≡◌, ◌⊎◌, ◌<◌, ◌≤◌, ℕ, zero, suc, ◌+◌, Bool, true, false, cond, not, leb, List, [], ◌∷◌, length, Option, Some, None, inl, inr, refl, sym, ap, ◌∙◌, subst, arith}
-use Rattle.std.specs.Prelude.{find, is_some, is_none, option_map, slice_get, ◌&&◌, ◌||◌, ◌==◌, nat_lt}
+use Rattle.std.proofs.Common.{◌≡◌, ◌⊎◌, ◌<◌, ◌≤◌, ℕ, ◌+◌, Bool, true, false, cond, not, leb, List, [], ◌∷◌, length, Option, Some, None, inl, inr, refl, sym, ap, ◌∙◌, arith}
+use Rattle.std.specs.Prelude.{find, is_some, option_map, slice_get, ◌&&◌, ◌||◌, ◌==◌, nat_lt}
 use Rattle.std.specs.Cmp.{unsigned_tied}
-use Rattle.std.specs.List.{position, position_or_len, list_any}
+use Rattle.std.specs.List.{position_or_len}
 use Rattle.std.specs.Ordering.{eq_by_cmp, nat_cmp}
 use Rattle.std.specs.Str.{bytes_eq}
 use Rattle.std.proofs.lemmas.Bool.{and_parts, eq-eqb, leb-true, lt-ltb, ne_eqb}
@@ -15,13 +15,11 @@ use Rattle.point_list.specs.Sites.{device_named}
 use Rattle.read_planner.specs.declared.Read.{Read as AskedRead}
 use Rattle.read_planner.specs.Read.{is_valid_read}
 use Rattle.poll_book.specs.declared.rows.PointRow.{PointRow}
-use Rattle.poll_book.specs.declared.rows.OrderState.{OrderState}
 use Rattle.poll_book.specs.declared.rows.Setting.{Setting}
 use Rattle.poll_book.specs.Orders.{Settings, is_waiting, is_of, setting_at, point_at, waits_on, oldest_waiting}
 use Rattle.poll_book.specs.Tables.{Readings}
 use Rattle.office_core.specs.declared.error.OfficeError.{OfficeError}
 use Rattle.office_core.specs.declared.error.OfficeError.TheVariants as error
-use Rattle.office_core.specs.declared.event.EventAnswer.{EventAnswer}
 use Rattle.office_core.specs.declared.event.EventAnswer.TheVariants as answer
 use Rattle.office_core.specs.Cover.{ends_in_time, is_readable, some_covered}
 use Rattle.office_core.specs.Lacking.{lacks, some_lacks}
@@ -36,7 +34,7 @@ use Rattle.office_net.specs.declared.job.Job.TheVariants.{Order, Read}
 use Rattle.office_net.specs.Faults.{IsClosed}
 use Rattle.office_net.specs.Jobs.{CanBeDone, IsOnLine}
 use Rattle.office_net.specs.Moves.{Start, Move, told, is_due, turn_of, number_of, next_order}
-use Rattle.office_net.proofs.Staying.{same_site, same_points, same_line}
+use Rattle.office_net.proofs.Staying.{same_site, same_line}
 
 -- of three tests where the first two are passed the third refuses
 third : (a b c : Bool) (x y z e : OfficeError) → a ≡ true → b ≡ true → cond (not a) (Some x) (cond (not b) (Some y) (cond c (Some z) None)) ≡ Some e → c ≡ true

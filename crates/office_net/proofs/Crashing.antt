@@ -1,11 +1,9 @@
 -- What a crash leaves after moves, from what it leaves after each.
-use Rattle.std.proofs.Common.{◌≡◌, ◌⊎◌, inl, inr, Bool, true, false, List, [], ◌∷◌, ◌++◌, Option, Some, None, refl, sym, ap, subst, append_assoc}
+use Rattle.std.proofs.Common.{inl, inr, Bool, true, false, List, [], ◌∷◌, ◌++◌, Option, Some, None, sym, subst, append_assoc}
 use Rattle.std.proofs.lemmas.List.{append-nil}
-use Rattle.mb_mbap.specs.declared.frame.Frame.{Frame}
 use Rattle.poll_book.specs.Tables.{Tables, Within}
 use Rattle.office_core.specs.History.{tables}
 use Rattle.office_core.specs.Leavings.{LeftAfter}
-use Rattle.office_net.specs.declared.job.Job.{Job}
 use Rattle.office_net.specs.Moves.{Start, Move, Asks, Passes, Comes, told, LeftIn, LeftTrying}
 use Rattle.office_net.specs.Stages.{LeftSince}
 

@@ -1,5 +1,5 @@
 -- A piece of a round, whole or cut short.
-use Rattle.std.proofs.Common.{◌≡◌, ℕ, suc, ◌+◌, ◌*◌, ◌≤◌, true, cond, List, [], ◌∷◌, ◌++◌, length, Option, Some, None, refl, sym, ap, ◌∙◌, subst, arith, append_assoc}
+use Rattle.std.proofs.Common.{◌≡◌, ℕ, suc, ◌+◌, ◌*◌, ◌≤◌, true, cond, List, [], ◌∷◌, ◌++◌, length, Option, Some, None, sym, ap, ◌∙◌, subst, arith, append_assoc}
 use Rattle.std.specs.Prelude.{All, IsSome, is_some}
 use Rattle.std.specs.List.{flat_map}
 use Rattle.std.specs.Io.KnownBytes.{Consumes}
@@ -7,7 +7,7 @@ use Rattle.std.proofs.lemmas.List.{append-nil, length-append}
 use Rattle.mb_mbap.specs.declared.frame.Frame.{Frame}
 use Rattle.mb_mbap.specs.declared.fault.FrameFault.{FrameFault}
 use Rattle.mb_mbap.specs.Stream.{Splits, IsFrame, fault_of, spelled}
-use Rattle.mb_mbap.specs.Feeding.{Adds, kept, told}
+use Rattle.mb_mbap.specs.Feeding.{Adds}
 use Rattle.mb_mbap.proofs.Unique.{whole_long}
 use Rattle.poll_book.specs.declared.fault.StoreFault.{StoreFault}
 use Rattle.office_net.specs.declared.fault.PollFault.{PollFault}

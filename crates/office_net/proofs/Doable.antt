@@ -1,22 +1,21 @@
 -- The jobs of a line can be done.
-use Rattle.std.proofs.Common.{◌≡◌, ◌+◌, ◌≤◌, ℕ, zero, suc, Bool, true, false, cond, not, leb, List, [], ◌∷◌, ◌++◌, length, get_or, Option, Some, None, Result, Ok, Err, refl, sym, ap, ◌∙◌, subst, arith}
-use Rattle.std.specs.Prelude.{All, MatchResult, find, filter, map, option_map, ◌&&◌, ◌||◌, ◌==◌}
+use Rattle.std.proofs.Common.{◌≡◌, ◌+◌, ℕ, Bool, true, false, cond, not, leb, List, [], ◌∷◌, length, get_or, Option, Some, Result, Ok, Err, refl, sym, ap, ◌∙◌, subst}
+use Rattle.std.specs.Prelude.{All, MatchResult, find, map, option_map, ◌||◌, ◌==◌}
 use Rattle.std.specs.List.{list_any}
 use Rattle.std.specs.Str.{bytes_eq}
 use Rattle.std.proofs.lemmas.Bool.{and_parts, eqb-true, le-leb}
-use Rattle.std.proofs.lemmas.List.Elements.{All-nil, All-cons, All-head, All-tail, All-map, All-filter, All-append, All-weaker, filter_passes}
+use Rattle.std.proofs.lemmas.List.Elements.{All-nil, All-cons, All-head, All-tail, All-map, All-filter, All-append, filter_passes}
 use Rattle.std.proofs.lemmas.Slice.Eq.{bytes_eq-Decides}
 use Rattle.point_list.specs.declared.site.Device.{Device}
 use Rattle.point_list.specs.declared.site.Site.{Site}
-use Rattle.point_list.specs.Sites.{IsSound, all_differ, device_named, same_device_name, have_lines, same_line_name, same_place}
+use Rattle.point_list.specs.Sites.{IsSound, all_differ, same_device_name, same_line_name}
 use Rattle.read_planner.specs.declared.Read.{Read as AskedRead}
-use Rattle.read_planner.specs.Allowed.{IsAllowed}
-use Rattle.read_planner.specs.Place.{CanBeRead, places_of}
+use Rattle.read_planner.specs.Place.{CanBeRead}
 use Rattle.poll_book.specs.declared.rows.PointRow.{PointRow}
 use Rattle.office_core.specs.History.{History, site_of, points, open_line}
 use Rattle.office_net.specs.declared.job.Job.{Job}
 use Rattle.office_net.specs.declared.job.Job.TheVariants.{Order, Read}
-use Rattle.office_net.specs.Jobs.{AreDeviceJobs, AreJobs, ArePlanned, CanBeDone, IsOnLine, devices_on, device_jobs, points_on}
+use Rattle.office_net.specs.Jobs.{AreDeviceJobs, AreJobs, ArePlanned, CanBeDone, IsOnLine, devices_on, device_jobs}
 
 -- ---- a device by its name
 

@@ -1,13 +1,12 @@
 -- One part of a round after the other.
-use Rattle.std.proofs.Common.{◌≡◌, ℕ, List, [], ◌∷◌, ◌++◌, Option, Some, None, refl, sym, ap, ◌∙◌, subst, append_assoc}
+use Rattle.std.proofs.Common.{ℕ, List, [], ◌++◌, Option, Some, None, sym, ap, ◌∙◌, subst, append_assoc}
 use Rattle.std.proofs.lemmas.List.{append-nil}
 use Rattle.mb_mbap.specs.declared.frame.Frame.{Frame}
 use Rattle.poll_book.specs.declared.keeper.Neighbours.{Ghosts}
-use Rattle.poll_book.specs.Tables.{Tables, Within}
+use Rattle.poll_book.specs.Tables.{Tables}
 use Rattle.office_core.specs.declared.office.Office.{Office}
 use Rattle.office_core.specs.History.{History}
 use Rattle.office_net.specs.declared.fault.PollFault.{PollFault}
-use Rattle.office_net.specs.declared.job.Job.{Job}
 use Rattle.office_net.specs.declared.machine.Poll.{Poll}
 use Rattle.office_net.specs.Faults.{ClosedBy}
 use Rattle.office_net.specs.Following.{Follows, MayLeave}

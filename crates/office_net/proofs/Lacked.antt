@@ -1,5 +1,5 @@
 -- Readings stay: what lacks none lacks none later.
-use Rattle.std.proofs.Common.{◌≡◌, ◌⊎◌, ℕ, Bool, true, false, cond, List, [], ◌∷◌, ◌++◌, Option, Some, None, refl, sym, ap, ◌∙◌, ⊎_elim}
+use Rattle.std.proofs.Common.{◌≡◌, ℕ, Bool, true, false, cond, List, [], ◌∷◌, ◌++◌, Option, Some, None, refl, sym, ap, ◌∙◌, ⊎_elim}
 use Rattle.std.specs.Prelude.{is_none, ◌&&◌, ◌||◌, slice_get}
 use Rattle.std.specs.Option.{option_or}
 use Rattle.mb_mbap.specs.declared.frame.Frame.{Frame}

@@ -1,16 +1,16 @@
 -- Each move of a round leads it on.
-use Rattle.std.proofs.Common.{◌≡◌, ◌⊎◌, ℕ, suc, ◌+◌, ◌%◌, ◌≤◌, ◌<◌, Bool, true, false, cond, List, [], ◌∷◌, ◌++◌, length, take, Option, Some, None, refl, sym, ap, ◌∙◌, subst, arith, inl, inr, append_assoc}
-use Rattle.std.specs.Prelude.{All, get_or, is_none, ◌&&◌, ◌==◌}
+use Rattle.std.proofs.Common.{◌≡◌, ◌⊎◌, ℕ, suc, ◌+◌, ◌%◌, ◌<◌, Bool, true, false, cond, List, [], ◌∷◌, ◌++◌, length, take, Option, Some, None, refl, sym, ap, ◌∙◌, subst, arith, inl, inr}
+use Rattle.std.specs.Prelude.{is_none, ◌&&◌, ◌==◌}
 use Rattle.std.proofs.lemmas.Bool.{eq-eqb, eqb-true}
 use Rattle.std.proofs.lemmas.List.{append-nil, length-append, take_all}
 use Rattle.mb_mbap.specs.declared.frame.Frame.{Frame}
 use Rattle.poll_book.specs.declared.keeper.Neighbours.{Ghosts}
-use Rattle.poll_book.specs.Tables.{Tables, Within}
+use Rattle.poll_book.specs.Tables.{Within}
 use Rattle.office_core.specs.declared.office.Office.{Office}
 use Rattle.office_core.specs.declared.error.OfficeError.{OfficeError}
 use Rattle.office_core.specs.declared.event.EventAnswer.{EventAnswer}
 use Rattle.office_core.specs.declared.event.EventAnswer.TheVariants as answer
-use Rattle.office_core.specs.History.{Ask, Send, History, site_of, points, settings, open_line, asked, ask_fault, question, is_answered, tables}
+use Rattle.office_core.specs.History.{History, site_of, points, settings, open_line, asked, ask_fault, question, is_answered, tables}
 use Rattle.office_core.specs.Answers.{answer_of, refused_or}
 use Rattle.office_core.specs.Leavings.{LeftAfter}
 use Rattle.office_core.specs.Messages.{arriving}
@@ -22,11 +22,10 @@ use Rattle.office_net.specs.declared.job.Job.{Job}
 use Rattle.office_net.specs.declared.job.Job.TheVariants.{Order, Read}
 use Rattle.office_net.specs.declared.machine.Poll.{Poll}
 use Rattle.office_net.specs.Following.{Happens, Stays, Follows, MayLeave}
-use Rattle.office_net.specs.Moves.{Start, Move, Asks, Passes, Comes, told, asks_in, jobs_in, frames_in, queries_in, query_in, is_query, unanswered, waiting_in, turn_of, turn_answer, is_due, next_order, number_of, HasToWait, recorded_by, excepted_by, refused_by}
-use Rattle.office_net.specs.Stages.{IsAfter, GoesOn, Leads, IsWaiting, LeftSince, Took, Asked, Passed, waiting_after}
+use Rattle.office_net.specs.Moves.{Start, Move, Asks, Passes, Comes, told, asks_in, jobs_in, frames_in, queries_in, query_in, is_query, unanswered, turn_of, turn_answer, is_due, next_order, number_of, HasToWait, recorded_by, excepted_by, refused_by}
+use Rattle.office_net.specs.Stages.{IsAfter, GoesOn, IsWaiting, Took, Asked, Passed, waiting_after}
 use Rattle.office_net.proofs.Sorted.{none_asked}
 use Rattle.office_net.proofs.Waiting.{waits_after, same_unanswered}
-use Rattle.office_net.proofs.Crashing.{since_more, since_then}
 
 -- ---- a frame
 

@@ -1,5 +1,5 @@
 -- A round from its beginning to its end.
-use Rattle.std.proofs.Common.{◌≡◌, ◌⊎◌, ℕ, List, [], ◌∷◌, ◌++◌, length, take, drop, cond, Option, Some, None, refl, sym, ap, ◌∙◌, subst, arith, append_assoc, inl, inr, take-append-drop}
+use Rattle.std.proofs.Common.{◌≡◌, ℕ, List, [], ◌++◌, length, take, drop, cond, Option, Some, None, refl, sym, ap, ◌∙◌, subst, arith, append_assoc, inl, inr, take-append-drop}
 use Rattle.std.specs.Prelude.{All, is_some}
 use Rattle.std.specs.Io.KnownBytes.{Appends, Consumes}
 use Rattle.std.proofs.KnownBytes.{Consumes-nil, Consumes-trans}
@@ -19,8 +19,8 @@ use Rattle.office_net.specs.declared.machine.Poll.{Poll}
 use Rattle.office_net.specs.Faults.{ClosedBy, IsOfStream}
 use Rattle.office_net.specs.Following.{Follows, MayLeave}
 use Rattle.office_net.specs.Jobs.{AreJobs, CanBeDone}
-use Rattle.office_net.specs.Moves.{Start, Move, told, jobs_in, frames_in, queries_in, waiting_in, IsRun, LeftIn, LeftTrying}
-use Rattle.office_net.specs.Stages.{Counts, Ends, IsAfter, IsDone, IsNew, IsNext, Leads, LeftSince, counts_of}
+use Rattle.office_net.specs.Moves.{Start, Move, told, frames_in, queries_in, LeftIn, LeftTrying}
+use Rattle.office_net.specs.Stages.{Ends, IsAfter, IsDone, IsNew, IsNext, Leads, LeftSince, counts_of}
 use Rattle.office_net.specs.Rounds.{start_of, query_bytes, Handles, Breaks, Cuts, Takes, Underway, IsWhole, IsCut}
 use Rattle.office_net.proofs.Crashing.{since_begun, trying_more}
 use Rattle.office_net.proofs.Pieces.{handles_then, breaks_after}

@@ -1,12 +1,12 @@
 -- In a round orders are settled, and none comes to wait.
-use Rattle.std.proofs.Common.{◌≡◌, ◌⊎◌, ◌<◌, ◌≤◌, ℕ, ◌+◌, Bool, true, false, cond, List, [], ◌∷◌, length, Option, Some, None, inl, inr, refl, sym, ap, ◌∙◌, subst, arith, ⊎_elim}
+use Rattle.std.proofs.Common.{◌≡◌, ◌⊎◌, ◌<◌, ℕ, ◌+◌, Bool, true, false, cond, List, [], ◌∷◌, Option, Some, None, inl, inr, refl, sym, ap, ◌∙◌, subst, arith, ⊎_elim}
 use Rattle.std.specs.Prelude.{find, is_some, slice_get, ◌&&◌, ⊤}
 use Rattle.std.specs.Cmp.{unsigned_tied}
 use Rattle.std.specs.FinMap.Entries as rows
 use Rattle.std.specs.Ordering.{eq_by_cmp, nat_cmp}
 use Rattle.std.specs.declared.cmp.Ordering.{Ordering as Rank}
 use Rattle.std.specs.declared.cmp.Ordering.TheVariants.{Less, Equal, Greater}
-use Rattle.std.proofs.lemmas.Bool.{and_parts, eq-eqb, eqb-true, ne_eqb}
+use Rattle.std.proofs.lemmas.Bool.{and_parts, eq-eqb, ne_eqb}
 use Rattle.std.proofs.lemmas.Cmp.{ranked}
 use Rattle.std.proofs.lemmas.Option.{none-some, same_Some}
 use Rattle.mb_mbap.specs.declared.frame.Frame.{Frame}
@@ -21,7 +21,7 @@ use Rattle.office_core.specs.History.{History, points, settings, asked, is_answe
 use Rattle.office_core.proofs.KeptRequests.{AreOrders, found_in, numbered}
 use Rattle.office_net.specs.declared.job.Job.{Job}
 use Rattle.office_net.specs.declared.job.Job.TheVariants.{Order, Read}
-use Rattle.office_net.specs.Moves.{Start, Move, Asks, Passes, Comes, told, turn_of, next_order, number_of}
+use Rattle.office_net.specs.Moves.{Start, Move, Asks, Passes, Comes, told, turn_of, next_order}
 use Rattle.office_net.specs.Turned.{IsSettled}
 use Rattle.office_net.proofs.Sorted.{IsReply, IsOther, sorted}
 use Rattle.office_net.proofs.Staying.{same_points}

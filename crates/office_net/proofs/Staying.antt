@@ -1,9 +1,7 @@
 -- What stays in a round: the site, the points and which connections are open.
-use Rattle.std.proofs.Common.{◌≡◌, ◌⊎◌, ℕ, List, [], ◌∷◌, Option, refl, ap, ◌∙◌, ⊎_elim}
+use Rattle.std.proofs.Common.{◌≡◌, ℕ, List, [], ◌∷◌, refl, ap, ◌∙◌, ⊎_elim}
 use Rattle.mb_mbap.specs.declared.frame.Frame.{Frame}
-use Rattle.point_list.specs.declared.site.Site.{Site}
 use Rattle.read_planner.specs.declared.Read.{Read as AskedRead}
-use Rattle.poll_book.specs.declared.rows.PointRow.{PointRow}
 use Rattle.office_core.specs.History.{Ask, Send, Reply, Noise, History, site_of, points, open_line}
 use Rattle.office_core.specs.Messages.{arriving}
 use Rattle.office_net.specs.declared.job.Job.{Job}

@@ -1,9 +1,8 @@
 -- What became of a round's jobs.
-use Rattle.std.proofs.Common.{◌≡◌, ◌⊎◌, ◌<◌, ℕ, zero, suc, true, false, List, [], ◌∷◌, ◌++◌, length, get_or, Some, inl, inr, refl, sym, ap, ◌∙◌, subst, arith, ⊎_elim}
+use Rattle.std.proofs.Common.{◌≡◌, ◌⊎◌, ◌<◌, ℕ, zero, suc, true, false, List, [], ◌∷◌, ◌++◌, length, get_or, Some, inl, inr, sym, ap, ◌∙◌, subst, arith, ⊎_elim}
 use Rattle.std.specs.Prelude.{Contains, is_some}
 use Rattle.read_planner.specs.declared.Read.{Read as AskedRead}
 use Rattle.poll_book.specs.declared.rows.Setting.{Setting}
-use Rattle.office_core.specs.History.{History}
 use Rattle.office_core.specs.Lacking.{lacks}
 use Rattle.office_net.specs.declared.job.Job.{Job}
 use Rattle.office_net.specs.declared.job.Job.TheVariants.{Order, Read}

@@ -1,10 +1,10 @@
 -- A job's turn, told as what happened.
-use Rattle.std.proofs.Common.{◌≡◌, ◌≢◌, ◌⊎◌, ℕ, inl, inr, Bool, true, false, List, [], ◌∷◌, Option, Some, None, refl, sym, ap, ◌∙◌, subst}
+use Rattle.std.proofs.Common.{◌≡◌, ℕ, true, false, ◌∷◌, Option, Some, None, refl, sym, ap, ◌∙◌, subst}
 use Rattle.std.specs.Prelude.{is_some, option_map}
 use Rattle.poll_book.specs.declared.rows.Setting.{Setting}
 use Rattle.poll_book.specs.declared.rows.SettingRow.{SettingRow}
 use Rattle.poll_book.specs.Orders.{as_setting}
-use Rattle.poll_book.specs.Tables.{Tables, Within}
+use Rattle.poll_book.specs.Tables.{Tables}
 use Rattle.office_core.specs.declared.event.EventAnswer.{EventAnswer}
 use Rattle.office_core.specs.History.{Happening, History, tables}
 use Rattle.office_core.specs.Answers.{answer_of}

@@ -1,5 +1,5 @@
 -- How an office goes on by one call, where each event is told as what happened.
-use Rattle.std.specs.Prelude.{◌≡◌, ◌≢◌, ◌⊎◌, ℕ, true, false, List, [], ◌∷◌, Option, Some, None}
+use Rattle.std.specs.Prelude.{◌≡◌, ◌≢◌, ◌⊎◌, ℕ, true, false, [], ◌∷◌, Option, Some, None}
 use Rattle.mb_mbap.specs.declared.frame.Frame.{Frame}
 use Rattle.poll_book.specs.declared.keeper.Neighbours.{Ghosts}
 use Rattle.poll_book.specs.Tables.{Tables, Within}

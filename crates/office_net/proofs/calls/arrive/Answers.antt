@@ -1,4 +1,4 @@
-use Rattle.std.proofs.Common.{refl, subst}
+use Rattle.std.proofs.Common.{subst}
 use Rattle.mb_pdu.specs.Replies.{IsBytes}
 use Rattle.office_core.specs.declared.event.Event.TheVariants.{Arrive}
 use Rattle.office_core.specs.declared.event.EventAnswer.TheVariants.{Refused}

@@ -1,4 +1,4 @@
-use Rattle.std.proofs.Common.{Err, refl, ap, subst, arith, ◌≤◌}
+use Rattle.std.proofs.Common.{refl, subst, arith, ◌≤◌}
 use Rattle.mb_pdu.specs.Replies.{IsBytes}
 use Rattle.office_core.specs.declared.event.Event.TheVariants.{Ask as AskEvent}
 use Rattle.office_core.specs.declared.event.EventAnswer.TheVariants.{Query, Refused}

@@ -1,8 +1,8 @@
 use Rattle.std.proofs.Common.{refl, [], ◌∷◌, ◌++◌, ◌+◌, ◌≡◌, ◌∙◌, ap, sym, subst, take, drop, arith, take-append-drop}
 use Rattle.std.proofs.lemmas.List.{append-nil, take_more}
-use Rattle.mb_mbap.specs.Counted.{failures_of, inner_of}
+use Rattle.mb_mbap.specs.Counted.{inner_of}
 use Rattle.office_net.specs.Faults.{NoneFailed}
-use Rattle.office_net.specs.Rounds.{Breaks, Handles}
+use Rattle.office_net.specs.Rounds.{Handles}
 use Rattle.office_net.proofs.Called.{err_so}
 use Rattle.office_net.proofs.Pieces.{handles_none, handles_then, handles_frame, breaks_after, breaks_refused, breaks_with, calm_later, joined}
 use Rattle.office_net.proofs.polling.bring.Goals as goal

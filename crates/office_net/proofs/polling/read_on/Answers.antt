@@ -3,13 +3,13 @@ use Rattle.std.proofs.KnownBytes.{Consumes-nil}
 use Rattle.std.proofs.lemmas.List.{append-nil}
 use Rattle.mb_mbap.specs.Counted.{HasRisen, failures_of, inner_of}
 use Rattle.office_core.specs.Offices.{CauseFrom, keeper_of}
-use Rattle.office_net.specs.Faults.{ClosedBy, IsOfStream, NoneFailed}
-use Rattle.office_net.specs.Rounds.{Breaks, BreaksIn, Handles}
+use Rattle.office_net.specs.Faults.{NoneFailed}
+use Rattle.office_net.specs.Rounds.{BreaksIn, Handles}
 use Rattle.office_net.specs.Stages.{taken_of}
-use Rattle.office_net.specs.declared.fault.PollFault.TheVariants.{Line, Noise, Memory, Frames}
+use Rattle.office_net.specs.declared.fault.PollFault.TheVariants.{Noise, Memory}
 use Rattle.office_net.proofs.Called.{caused_so}
 use Rattle.office_net.proofs.Causing.{frames_open, line_open, line_stream}
-use Rattle.office_net.proofs.Cutting.{cut_unfed, cut_in, cut_after, ended_told, frames_few, takes_whole}
+use Rattle.office_net.proofs.Cutting.{cut_unfed, cut_in, cut_after, frames_few, takes_whole}
 use Rattle.office_net.proofs.Pieces.{breaks_later, breaks_still}
 use Rattle.office_net.proofs.polling.read_on.Goals as goal
 

@@ -1,11 +1,9 @@
-use Rattle.std.proofs.Common.{refl, [], ◌∷◌, ◌∙◌, sym, subst, arith}
-use Rattle.mb_mbap.specs.Counted.{HasRisen, failures_of, inner_of}
-use Rattle.office_core.specs.Offices.{CauseFrom}
+use Rattle.std.proofs.Common.{refl, [], ◌∙◌, arith}
+use Rattle.mb_mbap.specs.Counted.{inner_of}
 use Rattle.office_net.specs.Faults.{NoneFailed}
-use Rattle.office_net.specs.Stages.{GoesOn, as_list}
-use Rattle.office_net.proofs.Called.{err_so, caused_so}
-use Rattle.office_net.proofs.Causing.{cause_since, caused_since, line_caused}
-use Rattle.office_net.proofs.Pieces.{handles_none, handles_then, handles_query, handles_last, breaks_after, breaks_refused, breaks_written, calm_later, risen_not_calm, risen_since}
+use Rattle.office_net.specs.Stages.{as_list}
+use Rattle.office_net.proofs.Called.{err_so}
+use Rattle.office_net.proofs.Pieces.{handles_none, handles_then, handles_query, handles_last, breaks_after, breaks_refused, breaks_written, risen_not_calm}
 use Rattle.office_net.proofs.polling.send.Goals as goal
 
 pub loop-query-init : goal.loop-query-init

@@ -1,11 +1,11 @@
-use Rattle.std.proofs.Common.{◌∙◌, inl, inr, refl, sym, Some, None}
-use Rattle.office_core.specs.declared.event.EventAnswer.TheVariants.{Query, Refused}
+use Rattle.std.proofs.Common.{◌∙◌, inr, refl, sym}
+use Rattle.office_core.specs.declared.event.EventAnswer.TheVariants.{Refused}
 use Rattle.office_core.specs.History.{Ask}
-use Rattle.office_net.specs.Following.{Follows, MayLeave, TurnFails, Turns}
+use Rattle.office_net.specs.Following.{Follows, MayLeave, TurnFails}
 use Rattle.office_net.specs.Moves.{turn_of}
 use Rattle.office_net.specs.declared.job.Job.TheVariants.{Read}
 use Rattle.office_net.proofs.Called.{err_so}
-use Rattle.office_net.proofs.Turning.{then_fails, then_happens}
+use Rattle.office_net.proofs.Turning.{then_fails}
 use Rattle.office_net.proofs.turns.ask_lacking.Goals as goal
 
 pub returns-in_err-ask-clause-turned : goal.returns-in_err-ask-clause-turned

@@ -1,5 +1,5 @@
-use Rattle.std.proofs.Common.{◌∙◌, inl, inr, refl}
-use Rattle.office_core.specs.declared.event.EventAnswer.TheVariants.{Query, Refused}
+use Rattle.std.proofs.Common.{inr}
+use Rattle.office_core.specs.declared.event.EventAnswer.TheVariants.{Refused}
 use Rattle.office_core.specs.History.{Send}
 use Rattle.office_net.specs.Following.{Follows, MayLeave}
 use Rattle.office_net.specs.Moves.{next_order, turn_of}

@@ -1,4 +1,4 @@
-use Rattle.std.proofs.Common.{None, Some, ◌++◌, ◌∷◌, [], ◌∙◌, ap, refl, subst, sym, take}
+use Rattle.std.proofs.Common.{◌++◌, ◌∷◌, [], ◌∙◌, ap, refl, subst, sym, take}
 use Rattle.std.proofs.lemmas.List.{take_more}
 use Rattle.office_net.specs.Following.{Follows, MayLeave, Turns}
 use Rattle.office_net.specs.Faults.{fault_by}
