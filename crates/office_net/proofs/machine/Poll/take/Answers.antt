@@ -1,0 +1,20 @@
+use Rattle.std.proofs.Common.{sym, ◌∙◌, refl}
+use Rattle.office_core.specs.declared.event.EventAnswer.TheVariants.{Arrived, Refused}
+use Rattle.office_net.proofs.Breaking.{frame_breaks}
+use Rattle.office_net.proofs.Moving.{came_on}
+use Rattle.office_net.proofs.machine.Poll.take.Goals as goal
+
+pub returns-in-Ok-clause-goes : goal.returns-in-Ok-clause-goes
+returns-in-Ok-clause-goes g c = λ clean.
+    came_on c.args.office.now c.arrive.new.office c.args.self.now c.note_arrival.new.self c.args.frame.now (Arrived c.in-Ok.arrival)
+    c.requires.waits (c.in-Ok.ensures.came clean refl) c.note_arrival.ensures.took
+
+pub returns-else-is_store-clause-goes : goal.returns-else-is_store-clause-goes
+returns-else-is_store-clause-goes g c = λ clean.
+    came_on c.args.office.now c.arrive.new.office c.args.self.now c.note_refusal.new.self c.args.frame.now (Refused c.in-Err.error)
+    c.requires.waits (c.in-Err.ensures.came clean (sym c.is_store.ensures ∙ c.if-is_store.false)) (c.note_refusal.ensures.took c.in-Err.error c.args.frame.now.transaction)
+
+pub returns-then-is_store-clause-goes : goal.returns-then-is_store-clause-goes
+returns-then-is_store-clause-goes g c = λ clean.
+    frame_breaks c.args.office.now c.arrive.new.office c.args.self.now c.args.frame.now c.in-Err.error c.from.result
+    (c.in-Err.ensures.fails clean) c.from.ensures (sym c.is_store.ensures ∙ c.if-is_store.true)

@@ -1,0 +1,19 @@
+use Rattle.std.proofs.Common.{◌≡◌, ◌≤◌, []}
+use Rattle.mb_mbap.specs.Counted.{failures_of, inner_of}
+use Rattle.office_core.specs.Offices.{keeper_of}
+use Rattle.office_net.specs.Rounds.{Handles}
+use Rattle.office_net.specs.Stages.{left_of, taken_of}
+use Rattle.office_net.proofs.polling.send.Given as goal
+
+abbrev pub invariant-loop-query : goal.invariant-loop-query
+invariant-loop-query g l = record {
+  goes : g.K.Neighbours.is_clean (keeper_of l.office)
+      → Handles l.fn.office l.fn.poll l.office l.poll [] (g.W.Write.contents (inner_of l.fn.writer)) (g.W.Write.contents (inner_of l.writer));
+  counted : g.K.Neighbours.refused (keeper_of l.fn.office) ≤ g.K.Neighbours.refused (keeper_of l.office);
+  clean : g.K.Neighbours.is_clean (keeper_of l.office) → g.K.Neighbours.is_clean (keeper_of l.fn.office);
+  calm : failures_of l.writer ≡ failures_of l.fn.writer;
+  taken : taken_of l.poll ≡ taken_of l.fn.poll;
+}
+
+abbrev pub decreases-loop-query : goal.decreases-loop-query
+decreases-loop-query g l = left_of l.poll

@@ -1,0 +1,62 @@
+-- What a round has to do.
+use Rattle.std.specs.Prelude.{◌≡◌, ℕ, true, ◌==◌, List, [], ◌∷◌, ◌++◌, map, filter, Some, option_map}
+use Rattle.std.specs.Str.{bytes_eq}
+use Rattle.point_list.specs.declared.point.Point.{Point}
+use Rattle.point_list.specs.declared.site.Device.{Device}
+use Rattle.point_list.specs.declared.site.Site.{Site}
+use Rattle.point_list.specs.Sites.{device_named}
+use Rattle.read_planner.specs.declared.Read.{Read as AskedRead}
+use Rattle.read_planner.specs.Read.{is_valid_read}
+use Rattle.read_planner.specs.Place.{places_of}
+use Rattle.read_planner.specs.Allowed.{AreAllowed, AreFewest, HoldsAll}
+use Rattle.read_planner.specs.Chosen.{AreChosen}
+use Rattle.poll_book.specs.declared.rows.PointRow.{PointRow}
+use Rattle.office_core.specs.Cover.{ends_in_time}
+use Rattle.office_core.specs.History.{History, site_of, points, open_line}
+use Rattle.office_net.specs.declared.job.Job.{Job}
+use Rattle.office_net.specs.declared.job.Job.TheVariants.{Order, Read}
+
+-- ---- the jobs of a line
+
+-- the known points of a device
+abbrev pub points_on : List PointRow → List ℕ → List Point
+points_on known device = map (λ (row : PointRow). row.point) (filter (λ (row : PointRow). bytes_eq row.point.device device) known)
+
+-- the reads of a device: those that are planned for its known points, by its gap
+pub record ArePlanned (known : List PointRow) (device : Device) (reads : List AskedRead) : Type 0 where
+  pub allowed : AreAllowed (places_of (points_on known device.name)) device.gap reads
+  pub whole : HoldsAll reads (places_of (points_on known device.name))
+  pub fewest : AreFewest (places_of (points_on known device.name)) device.gap reads
+  pub chosen : AreChosen (places_of (points_on known device.name)) device.gap reads
+
+-- of a device its order first, and then its reads
+abbrev pub device_jobs : List ℕ → List AskedRead → List Job
+device_jobs name reads = Order name ∷ map (λ read. Read name read) reads
+
+-- the jobs of these devices, of one device after the other
+abbrev pub AreDeviceJobs : List PointRow → List Device → List Job → Type 0
+AreDeviceJobs known [] jobs = jobs ≡ []
+AreDeviceJobs known (device ∷ devices) jobs =
+    (reads : List AskedRead) × (rest : List Job) × ArePlanned known device reads × AreDeviceJobs known devices rest
+    × (jobs ≡ device_jobs device.name reads ++ rest)
+
+-- the devices of a line, in the site's order
+abbrev pub devices_on : Site → ℕ → List Device
+devices_on site line = filter (λ (device : Device). device.line == line) site.devices
+
+-- the jobs of the line of a connection that is open after a history
+pub record AreJobs (before : History) (conn : ℕ) (jobs : List Job) : Type 0 where
+  pub line : ℕ
+  pub opened : open_line before conn ≡ Some line
+  pub each : AreDeviceJobs (points before) (devices_on (site_of before) line) jobs
+
+-- ---- jobs that can be done
+
+-- the device of this name is one of the connection's line
+abbrev pub IsOnLine : History → ℕ → List ℕ → Type 0
+IsOnLine before conn name = option_map (λ (device : Device). device.line) (device_named (site_of before) name) ≡ open_line before conn
+
+-- the job's device is one of the connection's line, and its read is within the limits
+abbrev pub CanBeDone : History → ℕ → Job → Type 0
+CanBeDone before conn (Order device) = IsOnLine before conn device
+CanBeDone before conn (Read device read) = IsOnLine before conn device × (is_valid_read read ≡ true) × (ends_in_time read ≡ true)

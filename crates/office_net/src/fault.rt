@@ -1,0 +1,46 @@
+ghost use Rattle.std.specs.Prelude.{◌≡◌};
+
+use mb_mbap::FrameFault;
+use office_core::OfficeError;
+use poll_book::StoreFault;
+use std::alloc::AllocError;
+
+/// Why a round broke off. What was recorded before stays.
+#[derive(Clone, Copy, Debug, PartialEq, Eq)]
+pub enum PollFault {
+    /// The reader or the writer failed, or the reader ended.
+    Line,
+    /// 16,777,216 bytes were read.
+    Noise,
+    /// No frame can follow in the stream that was read.
+    Frames(FrameFault),
+    /// The store refused.
+    Store(StoreFault),
+    /// Memory was refused.
+    Memory,
+    /// The connection isn't open, or has no query number left.
+    Closed,
+}
+
+impl From<AllocError> for PollFault {
+    ghost use Rattle.office_net.specs.declared.fault.PollFault.TheVariants.{Memory};
+
+    ghost from_gives = { λ _ fault. fault ≡ Memory };
+
+    fn from(_: AllocError) -> PollFault {
+        PollFault::Memory
+    }
+}
+
+impl From<OfficeError> for PollFault {
+    ghost use Rattle.office_net.specs.Faults.{fault_by};
+
+    ghost from_gives = { λ error fault. fault ≡ fault_by error };
+
+    fn from(error: OfficeError) -> PollFault {
+        match error {
+            OfficeError::Store(fault) => PollFault::Store(fault),
+            _ => PollFault::Closed,
+        }
+    }
+}

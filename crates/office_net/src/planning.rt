@@ -1,0 +1,108 @@
+//! The jobs of a line.
+ghost use Rattle.std.specs.Prelude.{◌≡◌, ◌++◌, ◌↔◌, ◌==◌, All, IfOk, IsTrue, List, false, true};
+ghost use Rattle.std.specs.Str.{bytes_eq};
+ghost use Rattle.read_planner.specs.declared.Read.{Read};
+ghost use Rattle.read_planner.specs.Place.{CanBeRead};
+ghost use Rattle.office_net.specs.declared.job.Job.TheVariants as jobs;
+ghost use Rattle.office_net.specs.Jobs.{AreDeviceJobs, ArePlanned, device_jobs, devices_on, points_on};
+
+use crate::job::Job;
+use point_list::{Device, Point, Site, Text};
+use poll_book::PointRow;
+use read_planner::{Read, can_be_read, plan};
+use std::alloc::{AllocError, Global};
+
+/// Whether a point is of the device of a name.
+fn is_of(row: &PointRow, device: &str) -> bool
+    ensures { result ≡ bytes_eq row.now.point.device device.now }
+{
+    row.point.device.as_str() == device
+}
+
+/// The known points of a device.
+fn points_of(alloc: Global, known: &[PointRow], device: &str) -> Result<Vec<Point>, AllocError>
+    ensures { IfOk result (λ points. points.items ≡ points_on known.now device.now) }
+{
+    known
+        .iter()
+        .filter(|row| is_of(row, device))
+        .map(|row| row.point)
+        .collect(alloc)
+}
+
+/// Whether all points can be read.
+fn are_readable(points: &[Point]) -> bool
+    ensures { IsTrue result ↔ All CanBeRead points.now }
+{
+    points.iter().all(|point| can_be_read(point))
+}
+
+/// The reads of a device. Points that were accepted can be read; of others there are none.
+fn reads_of(alloc: Global, known: &[PointRow], device: &Device) -> Result<Vec<Read>, AllocError>
+    ensures { All (λ row. CanBeRead row.point) known.now → IfOk result (λ reads. ArePlanned known.now device.now reads.items) }
+{
+    let points = points_of(alloc, known, device.name.as_str())?;
+    if !are_readable(points.as_slice()) {
+        return Ok(Vec::new(alloc));
+    }
+    let reads = plan(alloc, points.as_slice(), device.gap)?;
+    Ok(reads)
+}
+
+/// The job of a read.
+fn read_job(device: &Text, read: Read) -> Result<Job, AllocError>
+    ensures { IfOk result (λ job. job ≡ jobs.Read device.now read) }
+{
+    let device = device.clone()?;
+    Ok(Job::Read { device, read })
+}
+
+/// Adds the jobs of a device: its order, and then its reads.
+fn add_jobs(all: &mut Vec<Job>, device: &Text, reads: &[Read]) -> Result<(), AllocError>
+    ensures { IfOk result (λ _. all.new.items ≡ all.old.items ++ device_jobs device.now reads.now) }
+{
+    let order = device.clone()?;
+    all.push(Job::Order { device: order })?;
+    for read in reads {
+        all.push(read_job(device, *read)?)?;
+    }
+    Ok(())
+}
+
+/// Adds the jobs of a device, if it is one of the line.
+fn add_device(
+    alloc: Global,
+    all: &mut Vec<Job>,
+    device: &Device,
+    known: &[PointRow],
+    line: u16,
+) -> Result<(), AllocError>
+    ensures other { (device.now.line == line) ≡ false → IfOk result (λ _. all.new.items ≡ all.old.items) }
+    ensures own { (device.now.line == line) ≡ true → All (λ row. CanBeRead row.point) known.now
+        → IfOk result (λ _. (reads : List Read) × ArePlanned known.now device.now reads × (all.new.items ≡ all.old.items ++ device_jobs device.now.name reads)) }
+{
+    if device.line != line {
+        return Ok(());
+    }
+    let reads = reads_of(alloc, known, device)?;
+    add_jobs(all, &device.name, reads.as_slice())?;
+    Ok(())
+}
+
+/// The jobs of a line: of each of its devices, in the site's order, first its order and then the reads
+/// that are planned for its known points.
+pub(crate) fn jobs_of(
+    alloc: Global,
+    site: &Site,
+    known: &[PointRow],
+    line: u16,
+) -> Result<Vec<Job>, AllocError>
+    ensures { All (λ row. CanBeRead row.point) known.now
+        → IfOk result (λ all. AreDeviceJobs known.now (devices_on site.now line) all.items) }
+{
+    let mut all = Vec::new(alloc);
+    for device in site.devices.as_slice() {
+        add_device(alloc, &mut all, device, known, line)?;
+    }
+    Ok(all)
+}

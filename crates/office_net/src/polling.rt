@@ -1,0 +1,233 @@
+//! A round over a reader and a writer.
+ghost use Rattle.std.specs.Prelude.{◌≡◌, ◌⊎◌, ◌≤◌, ◌<◌, ◌+◌, [], ℕ, All, List, IfErr, IfOk, IsSome, MatchResult, None, Some, OnOk, length, take};
+ghost use Rattle.std.specs.Io.KnownBytes.{Appends, Consumes, Keeps};
+ghost use Rattle.mb_mbap.specs.Counted.{HasRisen, ends_of, failures_of, inner_of};
+ghost use Rattle.mb_mbap.specs.Stream.{spelled};
+ghost use Rattle.mb_mbap.specs.declared.fault.FrameFault.{FrameFault};
+ghost use Rattle.mb_mbap.specs.declared.frame.Frame.{Frame};
+ghost use Rattle.office_core.specs.History.{History};
+ghost use Rattle.office_core.specs.Offices.{CauseFrom, keeper_of};
+ghost use Rattle.office_net.specs.Faults.{HasCause, IsCaused, LineFailed, NoneFailed};
+ghost use Rattle.office_net.specs.Following.{Follows, MayLeave};
+ghost use Rattle.office_net.specs.Jobs.{AreJobs, CanBeDone};
+ghost use Rattle.office_net.specs.Rounds.{Breaks, BreaksIn, Cuts, Fed, Handles, IsCut, IsWhole, Polls, Stops, Takes, start_of};
+ghost use Rattle.office_net.specs.Stages.{IsDone, IsWaiting, taken_of};
+
+use crate::fault::PollFault;
+use crate::job::Job;
+use crate::machine::Poll;
+use crate::planning::jobs_of;
+use crate::round::Round;
+use mb_mbap::{Counted, Frame, FrameFault, FrameReader};
+use office_core::Office;
+use office_core::laws::readable_points;
+use poll_book::Keeper;
+use poll_match::Conn;
+use std::alloc::Global;
+use std::io::{Read, Write};
+
+/// So many bytes are read in a round at most.
+const MOST_READ: usize = 16_777_216;
+
+/// So many bytes are read at once at most.
+const PIECE: usize = 4096;
+
+/// Writes a query.
+fn write_query<W: Write>(writer: &mut Counted<W>, query: &Frame) -> Result<(), PollFault>
+    ensures written { OnOk result (Appends (W.contents (inner_of writer.old)) (W.contents (inner_of writer.new)) (spelled query.now)) }
+    ensures calm { OnOk result (failures_of writer.new ≡ failures_of writer.old) }
+    ensures failed { IfErr result (λ fault. (fault ≡ PollFault.Line) × HasRisen (failures_of writer.old) (failures_of writer.new)) }
+{
+    let bytes = query.encode();
+    match writer.write_all(bytes.as_bytes()) {
+        Ok(()) => Ok(()),
+        Err(_) => Err(PollFault::Line),
+    }
+}
+
+/// Writes each query that may be sent.
+fn send<K: Keeper, W: Write>(
+    poll: &mut Poll,
+    office: &mut Office<K>,
+    writer: &mut Counted<W>,
+) -> Result<(), PollFault>
+    ensures goes { K.is_clean (keeper_of office.new) → MatchResult result
+        (λ _. Handles office.old poll.old office.new poll.new [] (W.contents (inner_of writer.old)) (W.contents (inner_of writer.new)))
+        (λ fault. Breaks office.old poll.old office.new poll.new [] [] (NoneFailed writer.old writer.new) (W.contents (inner_of writer.old)) (W.contents (inner_of writer.new)) fault) }
+    ensures cause { IfErr result (λ fault. IsCaused (HasRisen (failures_of writer.old) (failures_of writer.new)) (CauseFrom office.old office.new) fault) }
+    ensures counted { K.refused (keeper_of office.old) ≤ K.refused (keeper_of office.new) }
+    ensures clean { K.is_clean (keeper_of office.new) → K.is_clean (keeper_of office.old) }
+    ensures waits { OnOk result (IsWaiting poll.new) }
+    ensures calm { OnOk result (failures_of writer.new ≡ failures_of writer.old) }
+    ensures taken { taken_of poll.new ≡ taken_of poll.old }
+{
+    while let Some(query) = poll.next(office)? {
+        write_query(writer, &query)?;
+    }
+    Ok(())
+}
+
+/// Takes frames as they came, and writes each query that may be sent after each.
+fn bring<K: Keeper, W: Write>(
+    poll: &mut Poll,
+    office: &mut Office<K>,
+    frames: &[Frame],
+    writer: &mut Counted<W>,
+) -> Result<(), PollFault>
+    requires few { taken_of poll.old + length frames.now ≤ 4294967295 }
+    requires waits { IsWaiting poll.old }
+    ensures goes { K.is_clean (keeper_of office.new) → MatchResult result
+        (λ _. Handles office.old poll.old office.new poll.new frames.now (W.contents (inner_of writer.old)) (W.contents (inner_of writer.new)))
+        (λ fault. BreaksIn (λ came coming. Breaks office.old poll.old office.new poll.new came coming (NoneFailed writer.old writer.new)
+        (W.contents (inner_of writer.old)) (W.contents (inner_of writer.new)) fault) frames.now) }
+    ensures cause { IfErr result (λ fault. IsCaused (HasRisen (failures_of writer.old) (failures_of writer.new)) (CauseFrom office.old office.new) fault) }
+    ensures counted { K.refused (keeper_of office.old) ≤ K.refused (keeper_of office.new) }
+    ensures clean { K.is_clean (keeper_of office.new) → K.is_clean (keeper_of office.old) }
+    ensures waits { OnOk result (IsWaiting poll.new) }
+    ensures calm { OnOk result (failures_of writer.new ≡ failures_of writer.old) }
+    ensures taken { OnOk result (taken_of poll.new ≡ taken_of poll.old + length frames.now) }
+{
+    for frame in frames {
+        poll.take(office, frame)?;
+        send(poll, office, writer)?;
+    }
+    Ok(())
+}
+
+/// Reads the next piece, of at most so many bytes.
+fn read_piece<R: Read>(
+    reader: &mut Counted<R>,
+    piece: &mut [u8],
+    most: usize,
+) -> Result<usize, PollFault>
+    requires some { 0 < most }
+    requires room { most ≤ length piece.old }
+    ensures some { IfOk result (λ count. (0 < count) × (count ≤ most)) }
+    ensures bytes { MatchResult result
+        (λ count. Consumes (R.remaining (inner_of reader.old)) (R.remaining (inner_of reader.new)) (take count piece.new))
+        (λ _. Consumes (R.remaining (inner_of reader.old)) (R.remaining (inner_of reader.new)) []) }
+    ensures calm { OnOk result ((failures_of reader.new ≡ failures_of reader.old) × (ends_of reader.new ≡ ends_of reader.old)) }
+    ensures failed { IfErr result (λ fault. (fault ≡ PollFault.Line)
+        × (HasRisen (failures_of reader.old) (failures_of reader.new) ⊎ HasRisen (ends_of reader.old) (ends_of reader.new))) }
+{
+    match reader.read(&mut piece[..most]) {
+        Ok(0) => Err(PollFault::Line),
+        Ok(count) => Ok(count),
+        Err(_) => Err(PollFault::Line),
+    }
+}
+
+/// A stream that can't be read on is a fault, unless the round is done.
+fn judge_stream(fault: Option<FrameFault>, poll: &Poll) -> Result<(), PollFault>
+    ensures { MatchResult result (λ _. IsSome fault → IsDone poll.now) (λ e. (bad : FrameFault) × (fault ≡ Some bad) × (e ≡ PollFault.Frames bad)) }
+{
+    match fault {
+        Some(fault) if !poll.is_done() => Err(PollFault::Frames(fault)),
+        _ => Ok(()),
+    }
+}
+
+/// Reads a piece, and takes the frames that it completes. So many bytes were read before, and so
+/// many are it now.
+fn read_on<K: Keeper, R: Read, W: Write>(
+    poll: &mut Poll,
+    office: &mut Office<K>,
+    stream: &mut FrameReader,
+    read: usize,
+    reader: &mut Counted<R>,
+    writer: &mut Counted<W>,
+) -> Result<usize, PollFault>
+    requires limit { read ≤ MOST_READ }
+    requires fed { (bytes : List ℕ) × (frames : List Frame) × Fed stream.old poll.old read bytes frames }
+    requires sound { IsSome stream.old }
+    requires waits { IsWaiting poll.old }
+    ensures takes { (bytes : List ℕ) (frames : List Frame) → Fed stream.old poll.old read bytes frames
+        → IfOk result (λ now. Takes (λ came. K.is_clean (keeper_of office.new) → Handles office.old poll.old office.new poll.new came (W.contents (inner_of writer.old)) (W.contents (inner_of writer.new)))
+        poll.new stream.new now bytes frames (R.remaining (inner_of reader.old)) (R.remaining (inner_of reader.new))) }
+    ensures cuts { K.is_clean (keeper_of office.new) → (bytes : List ℕ) (frames : List Frame) → Fed stream.old poll.old read bytes frames
+        → IfErr result (λ fault. Cuts (λ came coming. Breaks office.old poll.old office.new poll.new came coming (NoneFailed writer.old writer.new)
+        (W.contents (inner_of writer.old)) (W.contents (inner_of writer.new)) fault)
+        bytes frames (R.remaining (inner_of reader.old)) (R.remaining (inner_of reader.new)) fault) }
+    ensures cause { IfErr result (λ fault. HasCause (LineFailed reader.old reader.new writer.old writer.new) (CauseFrom office.old office.new) fault) }
+    ensures counted { K.refused (keeper_of office.old) ≤ K.refused (keeper_of office.new) }
+    ensures clean { K.is_clean (keeper_of office.new) → K.is_clean (keeper_of office.old) }
+    ensures more { IfOk result (λ now. (read < now) × (now ≤ MOST_READ)) }
+    ensures sound { OnOk result (stream.new ≡ None → IsDone poll.new) }
+    ensures waits { OnOk result (IsWaiting poll.new) }
+    ensures calm { OnOk result (failures_of writer.new ≡ failures_of writer.old) }
+    ensures reader { OnOk result ((failures_of reader.new ≡ failures_of reader.old) × (ends_of reader.new ≡ ends_of reader.old)) }
+{
+    if read >= MOST_READ {
+        return Err(PollFault::Noise);
+    }
+    let mut piece = [0u8; PIECE];
+    let most = PIECE.min(MOST_READ - read);
+    let count = read_piece(reader, &mut piece, most)?;
+    let fed = stream.feed(&piece[..count])?;
+    bring(poll, office, &fed.frames, writer)?;
+    judge_stream(fed.fault, poll)?;
+    Ok(read + count)
+}
+
+/// Does these jobs in their order, and takes every frame that comes until all queries are settled.
+fn poll_jobs<K: Keeper, R: Read, W: Write>(
+    alloc: Global,
+    office: &mut Office<K>,
+    conn: Conn,
+    slot: u32,
+    jobs: Vec<Job>,
+    reader: &mut Counted<R>,
+    writer: &mut Counted<W>,
+) -> Result<Round, PollFault>
+    ensures goes { K.is_clean (keeper_of office.new)
+        → (before : History) → Follows office.old before → AreJobs before conn jobs.items → All (CanBeDone before conn) jobs.items → MatchResult result
+        (λ round. IsWhole (Follows office.new) (MayLeave office.old) (MayLeave office.new) (start_of conn slot jobs.items before)
+        (R.remaining (inner_of reader.old)) (R.remaining (inner_of reader.new)) (W.contents (inner_of writer.old)) (W.contents (inner_of writer.new)) round)
+        (λ fault. IsCut (Follows office.new) (MayLeave office.old) (MayLeave office.new) (start_of conn slot jobs.items before)
+        (R.remaining (inner_of reader.old)) (R.remaining (inner_of reader.new)) (NoneFailed writer.old writer.new)
+        (W.contents (inner_of writer.old)) (W.contents (inner_of writer.new)) fault) }
+    ensures cause { IfErr result (λ fault. HasCause (LineFailed reader.old reader.new writer.old writer.new) (CauseFrom office.old office.new) fault) }
+    ensures counted { K.refused (keeper_of office.old) ≤ K.refused (keeper_of office.new) }
+    ensures clean { K.is_clean (keeper_of office.new) → K.is_clean (keeper_of office.old) }
+{
+    let mut poll = Poll::new(conn, slot, jobs);
+    let mut stream = FrameReader::new(alloc);
+    let mut read = 0;
+    send(&mut poll, office, writer)?;
+    'pieces: while !poll.is_done() {
+        read = read_on(&mut poll, office, &mut stream, read, reader, writer)?;
+    }
+    Ok(poll.round())
+}
+
+/// A poll round of a slot over a connection, which is open or the fault is `Closed`. It goes through
+/// the devices of the connection's line in the site's order. Of each it sends the oldest order that
+/// waits, and then asks the planned reads that cover a point without a reading in the slot, each
+/// judged at its turn. At most 16 queries are outstanding, and the next is written as soon as fewer
+/// are. Every frame that comes is taken, until all queries are settled; what is read past the last
+/// whole frame is dropped, so each round takes a new connection.
+pub fn poll_round<K: Keeper, R: Read, W: Write>(
+    alloc: Global,
+    office: &mut Office<K>,
+    conn: Conn,
+    slot: u32,
+    reader: &mut Counted<R>,
+    writer: &mut Counted<W>,
+) -> Result<Round, PollFault>
+    ensures goes { K.is_clean (keeper_of office.new) → (before : History) → Follows office.old before → MatchResult result
+        (λ round. Polls (Follows office.new) (MayLeave office.old) (MayLeave office.new) conn slot before
+        (R.remaining (inner_of reader.old)) (R.remaining (inner_of reader.new)) (W.contents (inner_of writer.old)) (W.contents (inner_of writer.new)) round)
+        (λ fault. Stops (Follows office.new) (MayLeave office.old) (MayLeave office.new) conn slot before
+        (R.remaining (inner_of reader.old)) (R.remaining (inner_of reader.new)) (NoneFailed writer.old writer.new)
+        (W.contents (inner_of writer.old)) (W.contents (inner_of writer.new)) fault) }
+    ensures cause { IfErr result (λ fault. HasCause (LineFailed reader.old reader.new writer.old writer.new) (CauseFrom office.old office.new) fault) }
+    ensures counted { K.refused (keeper_of office.old) ≤ K.refused (keeper_of office.new) }
+    ensures clean { K.is_clean (keeper_of office.new) → K.is_clean (keeper_of office.old) }
+{
+    readable_points();
+    let Some(line) = office.line_of(conn) else {
+        return Err(PollFault::Closed);
+    };
+    let jobs = jobs_of(alloc, office.site(), office.points(), line)?;
+    poll_jobs(alloc, office, conn, slot, jobs, reader, writer)
+}

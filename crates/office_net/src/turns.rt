@@ -1,0 +1,74 @@
+//! Jobs at their turn.
+ghost use Rattle.std.specs.Prelude.{◌≡◌, ◌≤◌, ℕ, IfErr, MatchResult};
+ghost use Rattle.office_core.specs.Errors.{IsCaused};
+ghost use Rattle.office_core.specs.Offices.{CauseFrom, keeper_of};
+ghost use Rattle.office_net.specs.Following.{Follows, MayLeave, TurnFails, Turns};
+ghost use Rattle.office_net.specs.declared.job.Job.TheVariants as jobs;
+
+use crate::calls::{ask, lacks, send_order, waiting};
+use crate::job::Job;
+use mb_mbap::Frame;
+use office_core::{Office, OfficeError};
+use poll_book::Keeper;
+use poll_match::Conn;
+use read_planner::Read;
+
+/// Sends the oldest order that waits on a device, if one does.
+fn send_next<K: Keeper>(
+    office: &mut Office<K>,
+    conn: Conn,
+    device: &str,
+) -> Result<Option<Frame>, OfficeError>
+    ensures turned { K.is_clean (keeper_of office.new) → (slot : ℕ) → MatchResult result
+        (λ query. Turns (Follows office.old) (Follows office.new) (MayLeave office.old) (MayLeave office.new) conn slot (jobs.Order device.now) query)
+        (λ e. TurnFails (Follows office.old) (Follows office.new) (MayLeave office.old) (MayLeave office.new) conn slot (jobs.Order device.now) e) }
+    ensures cause { IfErr result (λ e. IsCaused (CauseFrom office.old office.new) e) }
+    ensures counted { K.refused (keeper_of office.old) ≤ K.refused (keeper_of office.new) }
+    ensures clean { K.is_clean (keeper_of office.new) → K.is_clean (keeper_of office.old) }
+{
+    let Some(order) = waiting(office, device)? else {
+        return Ok(None);
+    };
+    Ok(Some(send_order(office, conn, order.number)?))
+}
+
+/// Asks a read, if some point that it covers has no reading in the slot.
+fn ask_lacking<K: Keeper>(
+    office: &mut Office<K>,
+    conn: Conn,
+    slot: u32,
+    device: &str,
+    read: &Read,
+) -> Result<Option<Frame>, OfficeError>
+    ensures turned { K.is_clean (keeper_of office.new) → MatchResult result
+        (λ query. Turns (Follows office.old) (Follows office.new) (MayLeave office.old) (MayLeave office.new) conn slot (jobs.Read device.now read.now) query)
+        (λ e. TurnFails (Follows office.old) (Follows office.new) (MayLeave office.old) (MayLeave office.new) conn slot (jobs.Read device.now read.now) e) }
+    ensures cause { IfErr result (λ e. IsCaused (CauseFrom office.old office.new) e) }
+    ensures counted { K.refused (keeper_of office.old) ≤ K.refused (keeper_of office.new) }
+    ensures clean { K.is_clean (keeper_of office.new) → K.is_clean (keeper_of office.old) }
+{
+    if !lacks(office, device, slot, read)? {
+        return Ok(None);
+    }
+    Ok(Some(ask(office, conn, device, slot, *read)?))
+}
+
+/// The turn of a job: its query, or none where it has nothing to do.
+pub(crate) fn turn<K: Keeper>(
+    office: &mut Office<K>,
+    conn: Conn,
+    slot: u32,
+    job: &Job,
+) -> Result<Option<Frame>, OfficeError>
+    ensures turned { K.is_clean (keeper_of office.new) → MatchResult result
+        (λ query. Turns (Follows office.old) (Follows office.new) (MayLeave office.old) (MayLeave office.new) conn slot job.now query)
+        (λ e. TurnFails (Follows office.old) (Follows office.new) (MayLeave office.old) (MayLeave office.new) conn slot job.now e) }
+    ensures cause { IfErr result (λ e. IsCaused (CauseFrom office.old office.new) e) }
+    ensures counted { K.refused (keeper_of office.old) ≤ K.refused (keeper_of office.new) }
+    ensures clean { K.is_clean (keeper_of office.new) → K.is_clean (keeper_of office.old) }
+{
+    match job {
+        Job::Order { device } => send_next(office, conn, device.as_str()),
+        Job::Read { device, read } => ask_lacking(office, conn, slot, device.as_str(), read),
+    }
+}
