@@ -3,7 +3,7 @@ use Rattle.std.specs.Prelude.{ℕ, Bool, ◌&&◌, nat_le, nat_eq, ℤ, List, le
 use Rattle.std.specs.Cmp.Lexicographic.{pointwise}
 use Rattle.poll_book.specs.Callers.{is_caller, is_key}
 use Rattle.office_http.specs.declared.fields.Length.{Length}
-use Rattle.office_http.specs.declared.fields.Length.TheVariants as length
+use Rattle.office_http.specs.declared.fields.Length.TheVariants as size
 use Rattle.office_http.specs.declared.asked.Methods.TheVariants.{Get, Put, GetPut}
 use Rattle.office_http.specs.declared.asked.Refusal.{Refusal}
 use Rattle.office_http.specs.declared.asked.Refusal.TheVariants.{BadRequest, NotFound, NotAllowed, LengthRequired, TooLarge}
@@ -33,10 +33,10 @@ is_put = is_method (codes "PUT")
 
 -- what a body of this length asks for, once all of it is there
 abbrev pub with_body : (List ℕ → Meaning) → List ℕ → Length → Option Meaning
-with_body make rest length.Missing = Some (refused LengthRequired)
-with_body make rest length.Bad = Some (refused BadRequest)
-with_body make rest length.TooLarge = Some (refused TooLarge)
-with_body make rest (length.Of n) = if nat_le n (length rest) then Some (make (take n rest)) else None
+with_body make rest size.Missing = Some (refused LengthRequired)
+with_body make rest size.Bad = Some (refused BadRequest)
+with_body make rest size.TooLarge = Some (refused TooLarge)
+with_body make rest (size.Of n) = if nat_le n (length rest) then Some (make (take n rest)) else None
 
 -- the order that a body names
 abbrev pub ordered : List ℕ → List ℕ → Option (List ℕ × ℤ) → Meaning
