@@ -1,6 +1,6 @@
 //! A round over a reader and a writer.
 ghost use Rattle.std.specs.Prelude.{◌≡◌, ◌⊎◌, ◌≤◌, ◌<◌, ◌+◌, [], ℕ, All, List, IfErr, IfOk, IsSome, MatchResult, None, Some, OnOk, length, take};
-ghost use Rattle.std.specs.Io.KnownBytes.{Appends, Consumes, Keeps};
+ghost use Rattle.std.specs.Io.KnownBytes.{Appends, Consumes};
 ghost use Rattle.mb_mbap.specs.Counted.{HasRisen, ends_of, failures_of, inner_of};
 ghost use Rattle.mb_mbap.specs.Stream.{spelled};
 ghost use Rattle.mb_mbap.specs.declared.fault.FrameFault.{FrameFault};

@@ -1,5 +1,5 @@
 //! Jobs at their turn.
-ghost use Rattle.std.specs.Prelude.{◌≡◌, ◌≤◌, ℕ, IfErr, MatchResult};
+ghost use Rattle.std.specs.Prelude.{◌≤◌, ℕ, IfErr, MatchResult};
 ghost use Rattle.office_core.specs.Errors.{IsCaused};
 ghost use Rattle.office_core.specs.Offices.{CauseFrom, keeper_of};
 ghost use Rattle.office_net.specs.Following.{Follows, MayLeave, TurnFails, Turns};
