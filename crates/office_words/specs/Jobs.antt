@@ -1,0 +1,132 @@
+-- The job that words ask for.
+use Rattle.std.specs.Prelude.{◌≡◌, ◌≢◌, ◌⊎◌, ℕ, ℤ, List, [], ◌∷◌, map, ◌&&◌, ◌+◌, nat_le, Option, Some, None, if◌then◌else◌, codes, string_bytes, String, Vec}
+use Rattle.std.specs.declared.alloc.Global.{Global}
+use Rattle.std.specs.Str.{bytes_eq}
+use Rattle.clap.specs.Words.{IsAmong, Kinds, Row, Text, fault_of, first_of, subcommand_of}
+use Rattle.clap.specs.declared.error.kind.ErrorKind.{ErrorKind}
+use Rattle.clap.specs.declared.error.kind.ErrorKind.TheVariants.{DisplayHelp, DisplayVersion}
+use Rattle.office_words.specs.Line.{help_line, office_line}
+use Rattle.office_words.specs.Values.{◌>>=◌, caller_of, if_given, key_of, number_of, port_of, seconds_of, value_of}
+use Rattle.office_words.specs.declared.job.Job.{Job}
+use Rattle.office_words.specs.declared.job.Job.TheVariants as job
+
+-- a job, with texts as lists of bytes
+pub data JobView : Type 0 where
+  replay : JobView
+  load : (store site caller key list : Text) → JobView
+  plan : (site list : Text) → JobView
+  poll : (store site : Text) (slot timeout : ℕ) (line : Text) → JobView
+  order : (store site caller key point : Text) (value : ℤ) → JobView
+  report : (store site point : Text) (from to : ℕ) → JobView
+  serve : (store site : Text) (port : ℕ) (count : Option ℕ) (timeout : ℕ) → JobView
+  sim : (image : Text) (port : Option ℕ) → JobView
+
+abbrev pub job_view : Job → JobView
+job_view job.Replay = replay
+job_view (job.Load store site caller key list) = load (string_bytes store) (string_bytes site) caller key (string_bytes list)
+job_view (job.Plan site list) = plan (string_bytes site) (string_bytes list)
+job_view (job.Poll store site slot timeout line) = poll (string_bytes store) (string_bytes site) slot timeout (string_bytes line)
+job_view (job.Order store site caller key point value) = order (string_bytes store) (string_bytes site) caller key (string_bytes point) value
+job_view (job.Report store site point from to) = report (string_bytes store) (string_bytes site) (string_bytes point) from to
+job_view (job.Serve store site port count timeout) = serve (string_bytes store) (string_bytes site) port count timeout
+job_view (job.Sim image port) = sim (string_bytes image) port
+
+-- ---- the job of each command, by the values that were matched
+
+unfoldable pub load_of : List Row → Option JobView
+load_of rows = do
+  store ← first_of (codes "store") rows
+  site ← first_of (codes "site") rows
+  caller ← first_of (codes "caller") rows >>= caller_of
+  key ← first_of (codes "key") rows >>= key_of
+  list ← first_of (codes "list") rows
+  Some (load store site caller key list)
+
+unfoldable pub plan_of : List Row → Option JobView
+plan_of rows = do
+  site ← first_of (codes "site") rows
+  list ← first_of (codes "list") rows
+  Some (plan site list)
+
+unfoldable pub poll_of : List Row → Option JobView
+poll_of rows = do
+  store ← first_of (codes "store") rows
+  site ← first_of (codes "site") rows
+  slot ← first_of (codes "slot") rows >>= number_of
+  timeout ← first_of (codes "timeout") rows >>= seconds_of
+  line ← first_of (codes "line") rows
+  Some (poll store site slot timeout line)
+
+unfoldable pub order_of : List Row → Option JobView
+order_of rows = do
+  store ← first_of (codes "store") rows
+  site ← first_of (codes "site") rows
+  caller ← first_of (codes "caller") rows >>= caller_of
+  key ← first_of (codes "key") rows >>= key_of
+  point ← first_of (codes "point") rows
+  value ← first_of (codes "value") rows >>= value_of
+  Some (order store site caller key point value)
+
+-- the slots are in order, and at most 9,999 apart
+unfoldable pub report_of : List Row → Option JobView
+report_of rows = do
+  store ← first_of (codes "store") rows
+  site ← first_of (codes "site") rows
+  point ← first_of (codes "point") rows
+  from ← first_of (codes "from") rows >>= number_of
+  to ← first_of (codes "to") rows >>= number_of
+  if nat_le from to && nat_le to (from + 9999) then Some (report store site point from to) else None
+
+unfoldable pub serve_of : List Row → Option JobView
+serve_of rows = do
+  store ← first_of (codes "store") rows
+  site ← first_of (codes "site") rows
+  port ← first_of (codes "port") rows >>= port_of
+  count ← if_given number_of (first_of (codes "count") rows)
+  timeout ← first_of (codes "timeout") rows >>= seconds_of
+  Some (serve store site port count timeout)
+
+unfoldable pub sim_of : List Row → Option JobView
+sim_of rows = do
+  image ← first_of (codes "image") rows
+  port ← if_given port_of (first_of (codes "port") rows)
+  Some (sim image port)
+
+-- the job of a command with its matches
+abbrev pub job_in : Text × List Row → Option JobView
+job_in (name, rows) =
+    if bytes_eq name (codes "replay") then Some replay
+    else if bytes_eq name (codes "load") then load_of rows
+    else if bytes_eq name (codes "plan") then plan_of rows
+    else if bytes_eq name (codes "poll") then poll_of rows
+    else if bytes_eq name (codes "order") then order_of rows
+    else if bytes_eq name (codes "report") then report_of rows
+    else if bytes_eq name (codes "serve") then serve_of rows
+    else if bytes_eq name (codes "sim") then sim_of rows
+    else None
+
+abbrev pub job_found : Option (Text × List Row) → Option JobView
+job_found found = found >>= job_in
+
+-- ---- the job of words
+
+abbrev pub unless_refused : {A : Type 0} → Kinds → Option A → Option A
+unless_refused [] job = job
+unless_refused (kind ∷ kinds) job = None
+
+-- the job of the words after the program's name: none where the command line refuses the words, or
+-- a value isn't in its form
+unfoldable pub job_of : List Text → Option JobView
+job_of words = unless_refused (fault_of office_line words) (job_found (subcommand_of office_line words))
+
+-- the words may ask for help or for the version
+abbrev pub AsksHelp : List Text → Type 0
+AsksHelp words = IsAmong DisplayHelp (fault_of help_line words) ⊎ IsAmong DisplayVersion (fault_of help_line words)
+
+-- they may ask for something else: a parse takes them, or refuses them by another kind
+abbrev pub AsksElse : List Text → Type 0
+AsksElse words = (fault_of help_line words ≡ []) ⊎ ((kind : ErrorKind) × (IsAmong kind (fault_of help_line words) × (kind ≢ DisplayHelp × kind ≢ DisplayVersion)))
+
+-- the words as texts
+abbrev pub texts : Vec (String Global) Global → List Text
+texts words = map (λ (w : String Global). string_bytes w) words.items

@@ -1,0 +1,4 @@
+pub mod Faults
+pub mod Jobs
+pub mod Line
+pub mod Values

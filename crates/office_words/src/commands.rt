@@ -1,0 +1,144 @@
+//! The job of each command, by the values that its matches have.
+ghost use Rattle.clap.specs.Words.{found_of, rows_of, subcommand_rows_of};
+ghost use Rattle.office_words.specs.Jobs.{job_found, job_view, load_of, order_of, plan_of, poll_of, report_of, serve_of, sim_of};
+ghost use Rattle.office_words.specs.Values.{Gives};
+
+use crate::given::{
+    caller, key, number, number_if_given, port, port_if_given, seconds, text, value,
+};
+use crate::{Job, WordFault};
+use clap::ArgMatches;
+use std::alloc::Global;
+
+/// How far apart the first and the last slot of a report may be.
+const MOST_APART: u32 = 9999;
+
+#[tactic(auto, unfolding(crate::specs::Jobs::load_of))]
+fn load(alloc: Global, matches: &ArgMatches) -> Result<Job, WordFault>
+    ensures { Gives job_view result (load_of (rows_of (found_of matches.now))) }
+{
+    let store = text(alloc, matches, "store")?;
+    let site = text(alloc, matches, "site")?;
+    let caller = caller(matches, "caller")?;
+    let key = key(matches, "key")?;
+    let list = text(alloc, matches, "list")?;
+    Ok(Job::Load {
+        store,
+        site,
+        caller,
+        key,
+        list,
+    })
+}
+
+#[tactic(auto, unfolding(crate::specs::Jobs::plan_of))]
+fn plan(alloc: Global, matches: &ArgMatches) -> Result<Job, WordFault>
+    ensures { Gives job_view result (plan_of (rows_of (found_of matches.now))) }
+{
+    let site = text(alloc, matches, "site")?;
+    let list = text(alloc, matches, "list")?;
+    Ok(Job::Plan { site, list })
+}
+
+#[tactic(auto, unfolding(crate::specs::Jobs::poll_of))]
+fn poll(alloc: Global, matches: &ArgMatches) -> Result<Job, WordFault>
+    ensures { Gives job_view result (poll_of (rows_of (found_of matches.now))) }
+{
+    let store = text(alloc, matches, "store")?;
+    let site = text(alloc, matches, "site")?;
+    let slot = number(matches, "slot")?;
+    let timeout = seconds(matches, "timeout")?;
+    let line = text(alloc, matches, "line")?;
+    Ok(Job::Poll {
+        store,
+        site,
+        slot,
+        timeout,
+        line,
+    })
+}
+
+#[tactic(auto, unfolding(crate::specs::Jobs::order_of))]
+fn order(alloc: Global, matches: &ArgMatches) -> Result<Job, WordFault>
+    ensures { Gives job_view result (order_of (rows_of (found_of matches.now))) }
+{
+    let store = text(alloc, matches, "store")?;
+    let site = text(alloc, matches, "site")?;
+    let caller = caller(matches, "caller")?;
+    let key = key(matches, "key")?;
+    let point = text(alloc, matches, "point")?;
+    let value = value(matches, "value")?;
+    Ok(Job::Order {
+        store,
+        site,
+        caller,
+        key,
+        point,
+        value,
+    })
+}
+
+#[tactic(auto, unfolding(crate::specs::Jobs::report_of))]
+fn report(alloc: Global, matches: &ArgMatches) -> Result<Job, WordFault>
+    ensures { Gives job_view result (report_of (rows_of (found_of matches.now))) }
+{
+    let store = text(alloc, matches, "store")?;
+    let site = text(alloc, matches, "site")?;
+    let point = text(alloc, matches, "point")?;
+    let from = number(matches, "from")?;
+    let to = number(matches, "to")?;
+    if from > to || to - from > MOST_APART {
+        return Err(WordFault::Words);
+    }
+    Ok(Job::Report {
+        store,
+        site,
+        point,
+        from,
+        to,
+    })
+}
+
+#[tactic(auto, unfolding(crate::specs::Jobs::serve_of))]
+fn serve(alloc: Global, matches: &ArgMatches) -> Result<Job, WordFault>
+    ensures { Gives job_view result (serve_of (rows_of (found_of matches.now))) }
+{
+    let store = text(alloc, matches, "store")?;
+    let site = text(alloc, matches, "site")?;
+    let port = port(matches, "port")?;
+    let count = number_if_given(matches, "count")?;
+    let timeout = seconds(matches, "timeout")?;
+    Ok(Job::Serve {
+        store,
+        site,
+        port,
+        count,
+        timeout,
+    })
+}
+
+#[tactic(auto, unfolding(crate::specs::Jobs::sim_of))]
+fn sim(alloc: Global, matches: &ArgMatches) -> Result<Job, WordFault>
+    ensures { Gives job_view result (sim_of (rows_of (found_of matches.now))) }
+{
+    let image = text(alloc, matches, "image")?;
+    let port = port_if_given(matches, "port")?;
+    Ok(Job::Sim { image, port })
+}
+
+/// The job of the command that was found.
+pub(crate) fn job_in(alloc: Global, matches: &ArgMatches) -> Result<Job, WordFault>
+    ensures { Gives job_view result (job_found (subcommand_rows_of matches.now)) }
+{
+    match matches.subcommand() {
+        Some(("replay", _)) => Ok(Job::Replay),
+        Some(("load", inner)) => load(alloc, inner),
+        Some(("plan", inner)) => plan(alloc, inner),
+        Some(("poll", inner)) => poll(alloc, inner),
+        Some(("order", inner)) => order(alloc, inner),
+        Some(("report", inner)) => report(alloc, inner),
+        Some(("serve", inner)) => serve(alloc, inner),
+        Some(("sim", inner)) => sim(alloc, inner),
+        _ => Err(WordFault::Words),
+    }
+}

@@ -1,0 +1,76 @@
+//! Values of a command line, each in its form.
+ghost use Rattle.std.specs.Prelude.{◌≡◌, ◌≤◌, neg_ℤ, pos};
+ghost use Rattle.office_words.specs.Values.{Gives, caller_of, key_of, least_value, number_of, port_of, seconds_of, value_of};
+
+use crate::WordFault;
+use poll_book::{Caller, Key};
+use sunspec::digits::within;
+
+pub(crate) fn number(text: &str) -> Result<u32, WordFault>
+    ensures { Gives (λ n. n) result (number_of text.now) }
+{
+    match within(text.as_bytes(), u128::from(u32::MAX)) {
+        Some(number) => Ok(number as u32),
+        None => Err(WordFault::Words),
+    }
+}
+
+pub(crate) fn port(text: &str) -> Result<u16, WordFault>
+    ensures { Gives (λ n. n) result (port_of text.now) }
+{
+    match within(text.as_bytes(), u128::from(u16::MAX)) {
+        Some(port) => Ok(port as u16),
+        None => Err(WordFault::Words),
+    }
+}
+
+pub(crate) fn seconds(text: &str) -> Result<u16, WordFault>
+    ensures { Gives (λ n. n) result (seconds_of text.now) }
+{
+    match within(text.as_bytes(), 3600) {
+        None | Some(0) => Err(WordFault::Words),
+        Some(seconds) => Ok(seconds as u16),
+    }
+}
+
+/// A number below 0, by how far it is.
+fn below(size: u128) -> i128
+    requires { size ≤ least_value }
+    ensures { result ≡ neg_ℤ (pos size) }
+{
+    if size == 0 {
+        return 0;
+    }
+    -((size - 1) as i128) - 1
+}
+
+pub(crate) fn value(text: &str) -> Result<i128, WordFault>
+    ensures { Gives (λ z. z) result (value_of text.now) }
+{
+    let value = match text.as_bytes() {
+        [b'-', rest @ ..] => within(rest, 1 << 127).map(|n| below(n)),
+        digits => within(digits, i128::MAX as u128).map(|n| n as i128),
+    };
+    match value {
+        Some(value) => Ok(value),
+        None => Err(WordFault::Words),
+    }
+}
+
+pub(crate) fn caller(text: &str) -> Result<Caller, WordFault>
+    ensures { Gives (λ c. c) result (caller_of text.now) }
+{
+    match Caller::new(text) {
+        Some(caller) => Ok(caller),
+        None => Err(WordFault::Words),
+    }
+}
+
+pub(crate) fn key(text: &str) -> Result<Key, WordFault>
+    ensures { Gives (λ k. k) result (key_of text.now) }
+{
+    match Key::new(text) {
+        Some(key) => Ok(key),
+        None => Err(WordFault::Words),
+    }
+}
