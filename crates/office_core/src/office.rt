@@ -8,6 +8,7 @@ ghost use Rattle.office_core.specs.Sites as sites;
 ghost use Rattle.office_core.specs.Sites.{has_devices};
 ghost use Rattle.office_core.specs.Cover.{is_readable};
 ghost use Rattle.office_core.specs.History as history;
+ghost use Rattle.office_core.specs.Loads as loads;
 ghost use Rattle.office_core.specs.Standing.{Closes, Goes, Runs, is_refusal};
 
 use crate::arrival::bring;
@@ -555,6 +556,13 @@ impl<K: Keeper> Office<K> {
         ensures history { (before : History) → Stands self.now before → result.now ≡ points before }
     {
         self.points.as_slice()
+    }
+
+    /// The known point of a name.
+    pub fn point(&self, name: &str) -> Option<PointRow>
+        ensures { (before : History) → Stands self.now before → result ≡ loads.known_named (points before) name.now }
+    {
+        known_named(&self.points, name.as_bytes())
     }
 
     /// The site in force.

@@ -3,7 +3,6 @@ use Rattle.std.specs.Prelude.{ℕ, zero, suc, List, [], ◌∷◌, ◌++◌, Opt
 use Rattle.hex.specs.Hex.{encode_upper}
 use Rattle.sunspec.specs.Text.{shown, scaled}
 use Rattle.point_list.specs.declared.point.Point.{Point}
-use Rattle.point_list.specs.FaultTexts.{fault_text}
 use Rattle.mb_mbap.specs.Stream.{spelled}
 use Rattle.poll_book.specs.declared.rows.PointRow.{PointRow}
 use Rattle.poll_book.specs.declared.rows.Reading.{Reading}
@@ -13,8 +12,7 @@ use Rattle.poll_book.specs.declared.rows.OrderState.{OrderState}
 use Rattle.poll_book.specs.declared.rows.OrderState.TheVariants.{Waiting, Done, Refused}
 use Rattle.poll_book.specs.declared.rows.Setting.{Setting}
 use Rattle.poll_book.specs.Orders.{Settings, last_order, setting_at}
-use Rattle.poll_book.specs.declared.requests.RequestFault.{RequestFault}
-use Rattle.poll_book.specs.declared.requests.RequestFault.TheVariants.{List as OfList, PointDiffers, UnknownPoint, NotASetting, OutOfRange, TooManyOrders}
+use Rattle.poll_book.specs.RequestTexts.{request_fault_text}
 use Rattle.poll_book.specs.declared.requests.Outcome.{Outcome}
 use Rattle.poll_book.specs.declared.requests.Outcome.TheVariants.{Loaded, Ordered, RefusedFor}
 use Rattle.office_core.specs.declared.error.OfficeError.{OfficeError}
@@ -56,14 +54,6 @@ refusal_name error.WrongUnit = codes "WrongUnit"
 refusal_name error.Repeat = codes "Repeat"
 refusal_name error.WrongReply = codes "WrongReply"
 refusal_name (error.Store fault) = codes "Store"
-
-abbrev pub request_fault_text : RequestFault → List ℕ
-request_fault_text (OfList fault) = fault_text fault
-request_fault_text PointDiffers = codes "point differs"
-request_fault_text UnknownPoint = codes "unknown point"
-request_fault_text NotASetting = codes "not a setting"
-request_fault_text OutOfRange = codes "out of range"
-request_fault_text TooManyOrders = codes "too many orders"
 
 abbrev pub refusal_line : List ℕ → List ℕ
 refusal_line why = codes "refused " ++ why ++ line_end

@@ -1,13 +1,12 @@
 //! Answers as lines of text.
 ghost use Rattle.std.specs.Prelude.{◌≡◌, ◌++◌, OnOk, codes, decimal, flat_map};
 ghost use Rattle.mb_mbap.specs.Stream.{spelled};
-ghost use Rattle.point_list.specs.FaultTexts.{fault_text};
-ghost use Rattle.office_script.specs.Printing.{answer_line, arrival_line, fault_line, line_end, numbered_line, outcome_line, refusal_line, refusal_name, request_fault_text, request_line, spaced_byte};
+ghost use Rattle.poll_book.specs.RequestTexts.{request_fault_text};
+ghost use Rattle.office_script.specs.Printing.{answer_line, arrival_line, fault_line, line_end, numbered_line, outcome_line, refusal_line, refusal_name, request_line, spaced_byte};
 
 use itoa::Buffer;
 use mb_mbap::Frame;
 use office_core::{Arrival, EventAnswer, OfficeError, RequestAnswer};
-use point_list::ListFault;
 use poll_book::{Outcome, RequestFault};
 use std::alloc::{AllocError, Global};
 
@@ -74,13 +73,6 @@ fn refusal_name(error: OfficeError) -> &'static [u8]
     }
 }
 
-fn push_list_fault(alloc: Global, out: &mut Vec<u8>, fault: ListFault) -> Result<(), AllocError>
-    ensures { OnOk result (out.new.items ≡ out.old.items ++ refusal_line (fault_text fault)) }
-{
-    let text = fault.to_string(alloc)?;
-    push_refusal(out, text.as_bytes())
-}
-
 fn push_request_fault(
     alloc: Global,
     out: &mut Vec<u8>,
@@ -88,14 +80,8 @@ fn push_request_fault(
 ) -> Result<(), AllocError>
     ensures { OnOk result (out.new.items ≡ out.old.items ++ refusal_line (request_fault_text fault)) }
 {
-    match fault {
-        RequestFault::List(fault) => push_list_fault(alloc, out, fault),
-        RequestFault::PointDiffers => push_refusal(out, b"point differs"),
-        RequestFault::UnknownPoint => push_refusal(out, b"unknown point"),
-        RequestFault::NotASetting => push_refusal(out, b"not a setting"),
-        RequestFault::OutOfRange => push_refusal(out, b"out of range"),
-        RequestFault::TooManyOrders => push_refusal(out, b"too many orders"),
-    }
+    let text = fault.to_string(alloc)?;
+    push_refusal(out, text.as_bytes())
 }
 
 fn push_outcome(alloc: Global, out: &mut Vec<u8>, outcome: Outcome) -> Result<(), AllocError>

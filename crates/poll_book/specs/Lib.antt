@@ -3,6 +3,7 @@ pub mod Fault
 pub mod Callers
 pub mod Orders
 pub mod Requests
+pub mod RequestTexts
 pub mod Tables
 pub mod Totals
 pub mod Changes

@@ -1,5 +1,7 @@
 use crate::caller::{Caller, Key};
 use point_list::{Items, ListFault, Text};
+use std::error::Error;
+use std::fmt;
 
 /// What a caller asks for.
 #[derive(Debug, Drop)]
@@ -26,6 +28,26 @@ pub enum RequestFault {
     /// 1,000,000 orders exist.
     TooManyOrders,
 }
+
+impl fmt::Display for RequestFault {
+    ghost use Rattle.std.specs.Prelude.{Some};
+    ghost use Rattle.poll_book.specs.RequestTexts.{request_fault_text};
+
+    ghost output = { λ fault. Some (request_fault_text fault) };
+
+    fn fmt<W: fmt::Write>(&self, f: &mut fmt::Formatter<W>) -> fmt::Result {
+        match self {
+            RequestFault::List(fault) => write!(f, "{fault}"),
+            RequestFault::PointDiffers => f.write_str("point differs"),
+            RequestFault::UnknownPoint => f.write_str("unknown point"),
+            RequestFault::NotASetting => f.write_str("not a setting"),
+            RequestFault::OutOfRange => f.write_str("out of range"),
+            RequestFault::TooManyOrders => f.write_str("too many orders"),
+        }
+    }
+}
+
+impl Error for RequestFault {}
 
 /// Why a request isn't taken, and for a list at which place.
 #[derive(Clone, Copy, Debug, PartialEq, Eq)]
