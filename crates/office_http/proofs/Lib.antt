@@ -3,6 +3,7 @@ mod Finding
 mod More
 mod OnePlace
 mod Reading
+mod Lacking
 mod OneMeaning
 mod Utf8
 mod Readings

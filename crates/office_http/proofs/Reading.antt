@@ -107,7 +107,7 @@ unfolding print_request
 head_not_empty h some = grind (arith, length-append, some)
 
 -- no bytes are no request
-lacks_empty : Lacks []
+pub lacks_empty : Lacks []
 lacks_empty = λ m w.
     let n = head_not_empty w.head w.has.reads.0.target.0 in
     let l = length-append (print_request w.head) w.rest in

@@ -1,5 +1,5 @@
 -- What is known of a request of which a front came.
-use Rattle.std.specs.Prelude.{ℕ, List, Option, Some, None}
+use Rattle.std.specs.Prelude.{ℕ, ◌<◌, ⊤, List, length, Option, Some, None}
 use Rattle.office_http.specs.declared.asked.Asked.{Asked}
 use Rattle.office_http.specs.Asked.{meaning_of}
 use Rattle.office_http.specs.Deciding.{Decides, Lacks}
@@ -8,3 +8,8 @@ use Rattle.office_http.specs.Deciding.{Decides, Lacks}
 abbrev pub Judges : List ℕ → Option Asked → Type 0
 Judges input (Some asked) = Decides input (meaning_of asked)
 Judges input None = Lacks input
+
+-- where it isn't known what is asked for, the bytes are fewer than a whole head and a whole body have together
+abbrev pub IsShort : List ℕ → Option Asked → Type 0
+IsShort input (Some asked) = ⊤
+IsShort input None = length input < 270336

@@ -5,7 +5,7 @@ ghost use Rattle.httparse.specs.Grammar.{RequestHead};
 ghost use Rattle.office_http.specs.Asked.{meaning_in, meaning_of};
 ghost use Rattle.office_http.specs.Deciding.{Lacks, Means};
 ghost use Rattle.office_http.specs.Heads.{IsAsked};
-ghost use Rattle.office_http.specs.Judging.{Judges};
+ghost use Rattle.office_http.specs.Judging.{IsShort, Judges};
 
 use crate::asked::{Asked, Refusal};
 use crate::head::{Judged, MOST_HEAD, judge_head};
@@ -50,7 +50,8 @@ fn behind(bytes: &[u8], count: usize) -> &[u8]
 
 /// What the bytes so far ask for; `None` while no whole request is there.
 fn judge(alloc: Global, bytes: &[u8]) -> Result<Option<Asked>, AllocError>
-    ensures { IfOk result (Judges bytes.now) }
+    ensures judges { IfOk result (Judges bytes.now) }
+    ensures short { IfOk result (IsShort bytes.now) }
 {
     if bytes.is_empty() {
         return Ok(None);
@@ -83,7 +84,8 @@ impl Exchange {
     ghost use Rattle.office_http.specs.Exchanges.{bytes_of};
 
     pub fn new(alloc: Global) -> Exchange
-        ensures { bytes_of result ≡ [] }
+        ensures bytes { bytes_of result ≡ [] }
+        ensures lacks { Lacks (bytes_of result) }
     {
         Exchange {
             alloc,
@@ -92,10 +94,11 @@ impl Exchange {
     }
 
     /// Takes a piece, and tells what is asked for, as soon as that is known whatever follows; `None`
-    /// while no whole request is there.
+    /// while no whole request is there: then fewer than 270,336 bytes came.
     pub fn take(&mut self, piece: &[u8]) -> Result<Option<Asked>, AllocError>
         ensures taken { OnOk result (bytes_of self.new ≡ bytes_of self.old ++ piece.now) }
         ensures asked { IfOk result (Judges (bytes_of self.new)) }
+        ensures short { IfOk result (IsShort (bytes_of self.new)) }
         ensures memory { OnErr result (bytes_of self.new ≡ bytes_of self.old) }
     {
         let count = self.bytes.len();

@@ -20,3 +20,4 @@ mod status;
 pub use asked::{Asked, Methods, Refusal};
 pub use exchange::Exchange;
 pub use reading_body::Shown;
+pub use status::Status;

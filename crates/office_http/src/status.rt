@@ -4,7 +4,7 @@ ghost use Rattle.office_http.specs.Answers.{status_text};
 
 /// A status that an office answers.
 #[derive(Clone, Copy, Debug, PartialEq, Eq)]
-pub(crate) enum Status {
+pub enum Status {
     Done,
     Created,
     BadRequest,
