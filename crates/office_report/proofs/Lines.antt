@@ -1,0 +1,38 @@
+-- The line of a reading.
+use Rattle.std.proofs.Common.{◌≡◌, ℕ, zero, suc, ◌-◌, List, [], ◌∷◌, ◌++◌, Option, length, replicate, refl, sym, ap, subst, ◌∙◌, append_assoc, append-nil, arith, lit<}
+use Rattle.std.specs.Prelude.{codes, decimal, encode_utf8, unwrap_or}
+use Rattle.std.specs.Fmt.{char_count, format_spec, padded_integral, styled_decimal}
+use Rattle.std.specs.List.{repeat}
+use Rattle.std.proofs.lemmas.Str.{encode_ascii}
+use Rattle.sunspec.specs.Text.{shown}
+use Rattle.sunspec.specs.Value.{AreRegistersOf}
+use Rattle.point_list.specs.declared.point.Point.{Point}
+use Rattle.poll_book.specs.declared.rows.Reading.{Reading}
+use Rattle.poll_book.specs.Tables.{Key}
+use Rattle.office_report.specs.Reports.{line_end, slot_text, reading_line}
+
+repeat_spaces : (n : ℕ) → repeat n (encode_utf8 32) ≡ replicate n 32
+repeat_spaces zero = refl
+repeat_spaces (suc n) = ap (λ l. l ++ repeat n (encode_utf8 32)) (encode_ascii 32 (lit< tt)) ∙ ap (λ l. 32 ∷ l) (repeat_spaces n)
+
+-- what `{:>10}` writes
+pub slot_in_ten : (slot : ℕ) → styled_decimal (format_spec 32 3 0 10 18446744073709551615) slot ≡ slot_text slot
+unfolding padded_integral char_count
+slot_in_ten slot =
+    let some : 10 - length (decimal slot) - 0 - char_count [] ≡ 10 - length (decimal slot) = omega arith in
+    let none : (10 - length (decimal slot)) - (10 - length (decimal slot)) ≡ 0 = omega arith in
+    rw (some, none, repeat_spaces (10 - length (decimal slot))) (simp append-nil)
+
+part_by_part : (slot text : List ℕ) → slot ++ 32 ∷ 32 ∷ (text ++ line_end) ≡ slot ++ codes "  " ++ text ++ line_end
+part_by_part slot text = sym (append_assoc (slot ++ codes "  ") text line_end ∙ append_assoc slot (codes "  ") (text ++ line_end))
+
+-- a slot, and what the registers show or a dash
+pub line_of : (point : Point) (row : Key × Reading) (slot : List ℕ) (words : List ℕ) (text : Option (List ℕ)) (said : List ℕ) → slot ≡ slot_text row.0.1
+    → words ≡ row.1.words → (AreRegistersOf point.kind words → text ≡ shown point.kind point.scale words) → AreRegistersOf point.kind row.1.words
+    → unwrap_or text (45 ∷ []) ≡ said → slot ++ 32 ∷ 32 ∷ (said ++ line_end) ≡ reading_line point row
+line_of point row slot words text said so same shows are dash =
+    let is : text ≡ shown point.kind point.scale row.1.words =
+    shows (subst (AreRegistersOf point.kind) (sym same) are) ∙ ap (shown point.kind point.scale) same in
+    ap (λ s. s ++ 32 ∷ 32 ∷ (said ++ line_end)) so
+    ∙ part_by_part (slot_text row.0.1) said
+    ∙ ap (λ t. slot_text row.0.1 ++ codes "  " ++ t ++ line_end) (sym dash ∙ ap (λ o. unwrap_or o (45 ∷ [])) is)

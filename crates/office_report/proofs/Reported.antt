@@ -1,0 +1,54 @@
+-- What an office's answers make of a known point's report.
+use Rattle.std.proofs.Common.{◌≡◌, ℕ, suc, Bool, true, false, cond, List, [], ◌∷◌, Option, Some, All, Vec, find, sym, ap, ◌∙◌, subst, arith}
+use Rattle.std.specs.Global.{Global}
+use Rattle.std.specs.Str.{bytes_eq}
+use Rattle.poll_book.specs.declared.rows.PointRow.{PointRow}
+use Rattle.poll_book.specs.declared.rows.ReadingRow.{ReadingRow}
+use Rattle.poll_book.specs.declared.keeper.Neighbours.{Ghosts}
+use Rattle.poll_book.specs.Changes.{as_rows}
+use Rattle.poll_book.specs.Tables.{Readings, readings_between}
+use Rattle.office_core.specs.declared.office.Office.{Office}
+use Rattle.office_core.specs.Fitting.{AreOf, HasForm, IsFitting}
+use Rattle.office_core.specs.History.{History, points, readings, tables}
+use Rattle.office_core.specs.Loads.{known_named}
+use Rattle.office_core.specs.Offices.{IsAlike, Shows, Stands, readings_at, readings_of, total_at, total_of}
+use Rattle.office_report.specs.Reports.{report_at, report_lines, report_text}
+
+-- an office that changed no more than its room stands for what it stood for
+pub still_stands : {K : Type 0} {g : Ghosts K} (old new : Office K g) (before : History) → IsAlike old new → Stands old before → Stands new before
+still_stands old new before alike stands = record {
+  tables = alike.0 (tables before) stands.tables;
+  site = alike.1 ∙ stands.site;
+  points = alike.2 ∙ stands.points;
+  connections = λ conn. alike.3 conn ∙ stands.connections conn;
+}
+
+-- what holds of all holds of the one that is found
+found_holds : {X : Type 0} (P : X → Type 0) (p : X → Bool) (xs : List X) (x : X) → Some x ≡ find p xs → All P xs → P x
+found_holds P p [] x is all = absurd (cc)
+found_holds P p (y ∷ ys) x is all = by (p y) is (λ later. found_holds P p ys x later (λ k d less. all (suc k) d (omega (arith, less))))
+  where
+    same : Some x ≡ Some y → x ≡ y
+    same e = cc
+
+    by : (b : Bool) → Some x ≡ cond b (Some y) (find p ys) → (Some x ≡ find p ys → P x) → P x
+    by true here rest = subst P (sym (same here)) (all 0 y (omega arith))
+    by false later rest = rest later
+
+abbrev Fits : Readings → PointRow → Type 0
+Fits kept known = HasForm known.point × ((from to : ℕ) → AreOf known.point (readings_between known.number from to kept))
+
+-- the report of the point that is known under a name, of its readings and its total as they were answered
+pub report_is : (before : History) (name : List ℕ) (from to : ℕ) (known : PointRow) (rows : Vec ReadingRow Global) (total : Option ℕ) (report : List ℕ)
+    → Some known ≡ known_named (points before) name → IsFitting (tables before)
+    → Shows (readings_of before name from to) (Some rows) → total ≡ total_of before name
+    → (HasForm known.point → AreOf known.point (as_rows rows.items) → report ≡ report_lines known.point (as_rows rows.items) total)
+    → Some report ≡ report_text before name from to
+report_is before name from to known rows total report is fitting shown sum made =
+    let between : Readings = readings_between known.number from to (readings before) in
+    let listed : as_rows rows.items ≡ between = subst (λ found. Shows (readings_at before found from to) (Some rows)) (sym is) shown in
+    let told : total ≡ total_at before (Some known) = sum ∙ ap (total_at before) (sym is) in
+    let fits : Fits (readings before) known = found_holds (Fits (readings before)) (λ (point : PointRow). bytes_eq point.point.name name) (points before) known is fitting in
+    let are : AreOf known.point (as_rows rows.items) = subst (AreOf known.point) (sym listed) (fits.1 from to) in
+    subst (λ found. Some report ≡ report_at before found from to) is
+    (ap (λ text. Some text) (made fits.0 are ∙ ap (λ kept. report_lines known.point kept total) listed ∙ ap (λ t. report_lines known.point between t) told))

@@ -1,0 +1,21 @@
+use Rattle.std.proofs.Common.{ap, ◌∙◌, sym, subst}
+use Rattle.std.specs.Prelude.{string_bytes}
+use Rattle.poll_book.specs.Changes.{as_rows}
+use Rattle.office_core.specs.Fitting.{AreOf}
+use Rattle.office_core.specs.Offices.{Shows, readings_of}
+use Rattle.office_report.specs.Reports.{report_lines}
+use Rattle.office_report.proofs.Reported.{report_is, still_stands}
+use Rattle.office_report.proofs.writing.report_of.Goals as goal
+
+pub returns-clause-text : goal.returns-clause-text
+returns-clause-text g c = λ clean before stands legal.
+    let mid = c.total.ensures.clean clean in
+    let after = still_stands c.args.office.now c.readings.new.self before c.readings.ensures.same stands in
+    let point = c.in-Some.known.point in
+    let name = c.args.point.now in
+    report_is before name c.args.from c.args.to c.in-Some.known c.in-Some-2.rows c.in_ok-total.total (string_bytes c.in_ok-report.report)
+    (c.in-Some.ensures before stands) (c.fitting_tables.ensures before legal)
+    (subst (Shows (readings_of before name c.args.from c.args.to)) c.in-Some-2.is (c.in_ok-rows.ensures.value mid before stands))
+    (c.in_ok-total.ensures.value clean before after)
+    (λ form are. c.in_ok-report.ensures form (subst (λ rows. AreOf point (as_rows rows)) (sym c.deref.ensures.value) are)
+    ∙ ap (λ rows. report_lines point (as_rows rows) c.in_ok-total.total) c.deref.ensures.value)

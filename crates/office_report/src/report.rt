@@ -1,0 +1,77 @@
+//! The text of a report.
+ghost use Rattle.std.specs.Prelude.{◌≡◌, ◌++◌, IfOk, OnOk, flat_map, string_bytes};
+ghost use Rattle.sunspec.specs.Value.{AreRegistersOf};
+ghost use Rattle.poll_book.specs.Changes.{as_row, as_rows};
+ghost use Rattle.office_core.specs.Fitting.{AreOf, HasForm};
+ghost use Rattle.office_report.specs.Reports.{reading_line, report_lines, total_line};
+
+use crate::texts::{reading_text, total_text};
+use point_list::Point;
+use poll_book::ReadingRow;
+use std::alloc::{AllocError, Global};
+
+/// Adds the line of a reading: its slot, and what its registers show.
+fn push_reading(
+    alloc: Global,
+    report: &mut String,
+    point: &Point,
+    row: &ReadingRow,
+) -> Result<(), AllocError>
+    ensures { HasForm point.now → AreRegistersOf point.now.kind row.now.words
+        → OnOk result (string_bytes report.new ≡ string_bytes report.old ++ reading_line point.now (as_row row.now)) }
+{
+    let slot = row.slot;
+    match reading_text(alloc, point, row.words.as_slice())? {
+        Some(text) => writeln!(report, "{slot:>10}  {text}"),
+        None => writeln!(report, "{slot:>10}  -"),
+    }
+}
+
+/// Adds the lines of readings.
+fn push_readings(
+    alloc: Global,
+    report: &mut String,
+    point: &Point,
+    rows: &[ReadingRow],
+) -> Result<(), AllocError>
+    ensures { HasForm point.now → AreOf point.now (as_rows rows.now)
+        → OnOk result (string_bytes report.new ≡ string_bytes report.old ++ flat_map (reading_line point.now) (as_rows rows.now)) }
+{
+    for row in rows {
+        push_reading(alloc, report, point, row)?;
+    }
+    Ok(())
+}
+
+/// Adds the line of a total, where there is one.
+fn push_total(
+    alloc: Global,
+    report: &mut String,
+    point: &Point,
+    total: Option<u128>,
+) -> Result<(), AllocError>
+    ensures { OnOk result (string_bytes report.new ≡ string_bytes report.old ++ total_line point.now total) }
+{
+    let Some(total) = total else {
+        return Ok(());
+    };
+    let text = total_text(alloc, point, total)?;
+    writeln!(report, "total {text}")
+}
+
+/// The report of a point with these readings, and with a total where it is a counter.
+pub(crate) fn report_text(
+    alloc: Global,
+    point: &Point,
+    rows: &[ReadingRow],
+    total: Option<u128>,
+) -> Result<String, AllocError>
+    ensures { HasForm point.now → AreOf point.now (as_rows rows.now)
+        → IfOk result (λ text. string_bytes text ≡ report_lines point.now (as_rows rows.now) total) }
+{
+    let name = point.name;
+    let mut report = format!(in alloc; "point {name}\n")?;
+    push_readings(alloc, &mut report, point, rows)?;
+    push_total(alloc, &mut report, point, total)?;
+    Ok(report)
+}
