@@ -18,3 +18,6 @@ pub mod Sixteen
 pub mod Lacked
 pub mod Settling
 pub mod Turned
+pub mod Requested
+pub mod Shown
+pub mod Connected

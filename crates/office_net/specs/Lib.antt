@@ -5,3 +5,5 @@ pub mod Stages
 pub mod Faults
 pub mod Rounds
 pub mod Turned
+pub mod Replies
+pub mod Serving

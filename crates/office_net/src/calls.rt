@@ -20,7 +20,7 @@ use poll_match::Conn;
 use read_planner::Read;
 
 /// What bytes are.
-fn are_bytes(bytes: &[u8])
+pub(crate) fn are_bytes(bytes: &[u8])
     ensures { IsBytes bytes.now }
 {}
 

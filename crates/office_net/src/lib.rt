@@ -1,6 +1,8 @@
-//! The office at its lines: poll rounds, which ask what lacks a reading and send the orders that wait.
+//! The office at its lines and its callers: poll rounds, which ask what lacks a reading and send the
+//! orders that wait, and requests over HTTP.
 #![tactic(auto)]
 
+mod answering;
 mod calls;
 mod fault;
 mod job;
@@ -8,11 +10,16 @@ pub mod laws;
 mod machine;
 mod planning;
 mod polling;
+mod replies;
+mod requests;
 mod round;
+mod serving;
 mod turns;
 
+pub use answering::respond;
 pub use fault::PollFault;
 pub use job::Job;
 pub use machine::Poll;
 pub use polling::poll_round;
 pub use round::Round;
+pub use serving::{ServeFault, Served, serve_one};

@@ -1,0 +1,228 @@
+//! What an office answers to a request.
+ghost use Rattle.std.specs.Prelude.{◌≡◌, ◌≤◌, IfErr, IfOk, MatchResult, string_bytes};
+ghost use Rattle.poll_book.specs.Requests.{request_at};
+ghost use Rattle.office_core.specs.History.{History, points, requests};
+ghost use Rattle.office_core.specs.Loads.{known_named};
+ghost use Rattle.office_core.specs.Offices.{CauseFrom, keeper_of, order_state_of};
+ghost use Rattle.office_http.specs.Asked.{meaning_of};
+ghost use Rattle.office_http.specs.Meanings as meanings;
+ghost use Rattle.office_net.specs.Following.{Follows, MayLeave, Stays};
+ghost use Rattle.office_net.specs.Replies.{order_reply, readings_reply, state_reply, total_reply, under_reply};
+ghost use Rattle.office_net.specs.Serving.{Answers, Unanswered};
+
+use crate::replies::{list_reply, not_found, order_refused, order_reply, readings_reply};
+use crate::requests::{fault_of, load, order, order_state, readings, request_of, total};
+use office_core::laws::fitting_tables;
+use office_core::Office;
+use office_http::{Asked, answer};
+use office_report::total_text;
+use poll_book::{Body, Caller, Keeper, Key, Outcome, StoreFault};
+use std::alloc::Global;
+
+fn put_list<K: Keeper>(
+    alloc: Global,
+    office: &mut Office<K>,
+    caller: &Caller,
+    key: &Key,
+    list: &[u8],
+) -> Result<String, StoreFault>
+    ensures goes { K.is_clean (keeper_of office.new) → MatchResult result
+        (λ text. Answers (Follows office.old) (Follows office.new) (MayLeave office.old) (MayLeave office.new) (meanings.load caller.now key.now list.now) (string_bytes text))
+        (λ _. Unanswered (Follows office.old) (Follows office.new) (MayLeave office.old) (MayLeave office.new) (meanings.load caller.now key.now list.now)) }
+    ensures cause { IfErr result (CauseFrom office.old office.new) }
+    ensures counted { K.refused (keeper_of office.old) ≤ K.refused (keeper_of office.new) }
+    ensures clean { K.is_clean (keeper_of office.new) → K.is_clean (keeper_of office.old) }
+{
+    let told = match load(office, caller, key, list) {
+        Ok(told) => told,
+        Err(error) => return Err(fault_of(error)),
+    };
+    let text = list_reply(alloc, &told)?;
+    Ok(text)
+}
+
+fn put_order<K: Keeper>(
+    alloc: Global,
+    office: &mut Office<K>,
+    caller: &Caller,
+    key: &Key,
+    point: &str,
+    value: i128,
+) -> Result<String, StoreFault>
+    ensures goes { K.is_clean (keeper_of office.new) → MatchResult result
+        (λ text. Answers (Follows office.old) (Follows office.new) (MayLeave office.old) (MayLeave office.new) (meanings.order caller.now key.now point.now value) (string_bytes text))
+        (λ _. Unanswered (Follows office.old) (Follows office.new) (MayLeave office.old) (MayLeave office.new) (meanings.order caller.now key.now point.now value)) }
+    ensures cause { IfErr result (CauseFrom office.old office.new) }
+    ensures counted { K.refused (keeper_of office.old) ≤ K.refused (keeper_of office.new) }
+    ensures clean { K.is_clean (keeper_of office.new) → K.is_clean (keeper_of office.old) }
+{
+    let told = match order(office, caller, key, point, value) {
+        Ok(told) => told,
+        Err(error) => return Err(fault_of(error)),
+    };
+    let text = order_reply(alloc, &told)?;
+    Ok(text)
+}
+
+/// How the order of a number stands.
+fn get_state<K: Keeper>(
+    alloc: Global,
+    office: &mut Office<K>,
+    number: u32,
+) -> Result<String, StoreFault>
+    ensures value { K.is_clean (keeper_of office.new) → (now : History) → Follows office.old now
+        → IfOk result (λ text. string_bytes text ≡ state_reply number (order_state_of now number)) }
+    ensures stays { K.is_clean (keeper_of office.new)
+        → Stays (Follows office.old) (Follows office.new) (MayLeave office.old) (MayLeave office.new) }
+    ensures cause { IfErr result (CauseFrom office.old office.new) }
+    ensures counted { K.refused (keeper_of office.old) ≤ K.refused (keeper_of office.new) }
+    ensures clean { K.is_clean (keeper_of office.new) → K.is_clean (keeper_of office.old) }
+{
+    let found = match order_state(office, number) {
+        Ok(found) => found,
+        Err(error) => return Err(fault_of(error)),
+    };
+    let text = match found {
+        Some(state) => answer::order_stands(alloc, number, state)?,
+        None => not_found(alloc)?,
+    };
+    Ok(text)
+}
+
+/// What became of an order.
+fn get_outcome<K: Keeper>(
+    alloc: Global,
+    office: &mut Office<K>,
+    outcome: &Outcome,
+) -> Result<String, StoreFault>
+    ensures value { K.is_clean (keeper_of office.new) → (now : History) → Follows office.old now
+        → IfOk result (λ text. string_bytes text ≡ order_reply now outcome.now) }
+    ensures stays { K.is_clean (keeper_of office.new)
+        → Stays (Follows office.old) (Follows office.new) (MayLeave office.old) (MayLeave office.new) }
+    ensures cause { IfErr result (CauseFrom office.old office.new) }
+    ensures counted { K.refused (keeper_of office.old) ≤ K.refused (keeper_of office.new) }
+    ensures clean { K.is_clean (keeper_of office.new) → K.is_clean (keeper_of office.old) }
+{
+    match outcome {
+        Outcome::Loaded(_) => Ok(not_found(alloc)?),
+        Outcome::Ordered(number) => get_state(alloc, office, *number),
+        Outcome::RefusedFor(reason) => Ok(order_refused(alloc, reason)?),
+    }
+}
+
+fn get_order<K: Keeper>(
+    alloc: Global,
+    office: &mut Office<K>,
+    caller: &Caller,
+    key: &Key,
+) -> Result<String, StoreFault>
+    ensures value { K.is_clean (keeper_of office.new) → (now : History) → Follows office.old now
+        → IfOk result (λ text. string_bytes text ≡ under_reply now (request_at (requests now) (caller.now, key.now))) }
+    ensures stays { K.is_clean (keeper_of office.new)
+        → Stays (Follows office.old) (Follows office.new) (MayLeave office.old) (MayLeave office.new) }
+    ensures cause { IfErr result (CauseFrom office.old office.new) }
+    ensures counted { K.refused (keeper_of office.old) ≤ K.refused (keeper_of office.new) }
+    ensures clean { K.is_clean (keeper_of office.new) → K.is_clean (keeper_of office.old) }
+{
+    let found = match request_of(office, caller, key) {
+        Ok(found) => found,
+        Err(error) => return Err(fault_of(error)),
+    };
+    let Some(request) = found else {
+        return Ok(not_found(alloc)?);
+    };
+    match &request.body {
+        Body::List(_) => Ok(not_found(alloc)?),
+        Body::Order { .. } => get_outcome(alloc, office, &request.outcome),
+    }
+}
+
+fn get_readings<K: Keeper>(
+    alloc: Global,
+    office: &mut Office<K>,
+    point: &str,
+    from: u32,
+    to: u32,
+) -> Result<String, StoreFault>
+    ensures value { K.is_clean (keeper_of office.new) → (now : History) → Follows office.old now
+        → IfOk result (λ text. string_bytes text ≡ readings_reply now point.now from to (known_named (points now) point.now)) }
+    ensures stays { K.is_clean (keeper_of office.new)
+        → Stays (Follows office.old) (Follows office.new) (MayLeave office.old) (MayLeave office.new) }
+    ensures cause { IfErr result (CauseFrom office.old office.new) }
+    ensures counted { K.refused (keeper_of office.old) ≤ K.refused (keeper_of office.new) }
+    ensures clean { K.is_clean (keeper_of office.new) → K.is_clean (keeper_of office.old) }
+{
+    fitting_tables();
+    let Some(known) = office.point(point) else {
+        return Ok(not_found(alloc)?);
+    };
+    let found = match readings(office, point, from, to) {
+        Ok(found) => found,
+        Err(error) => return Err(fault_of(error)),
+    };
+    let Some(rows) = found else {
+        return Ok(not_found(alloc)?);
+    };
+    let text = readings_reply(alloc, point, &known.point, &rows)?;
+    Ok(text)
+}
+
+fn get_total<K: Keeper>(
+    alloc: Global,
+    office: &mut Office<K>,
+    point: &str,
+) -> Result<String, StoreFault>
+    ensures value { K.is_clean (keeper_of office.new) → (now : History) → Follows office.old now
+        → IfOk result (λ text. string_bytes text ≡ total_reply now point.now (known_named (points now) point.now)) }
+    ensures stays { K.is_clean (keeper_of office.new)
+        → Stays (Follows office.old) (Follows office.new) (MayLeave office.old) (MayLeave office.new) }
+    ensures cause { IfErr result (CauseFrom office.old office.new) }
+    ensures counted { K.refused (keeper_of office.old) ≤ K.refused (keeper_of office.new) }
+    ensures clean { K.is_clean (keeper_of office.new) → K.is_clean (keeper_of office.old) }
+{
+    let Some(known) = office.point(point) else {
+        return Ok(not_found(alloc)?);
+    };
+    let found = match total(office, point) {
+        Ok(found) => found,
+        Err(error) => return Err(fault_of(error)),
+    };
+    let Some(sum) = found else {
+        return Ok(not_found(alloc)?);
+    };
+    let shown = total_text(alloc, &known.point, sum)?;
+    let text = answer::total(alloc, point, shown.as_str())?;
+    Ok(text)
+}
+
+/// Does what a request asks for, and gives the bytes of the answer, none where nothing was asked. The
+/// fault is the store's or memory's: `office_http::answer::unavailable` is what the caller gets then.
+/// Where memory was refused for the answer, what was asked for is done all the same, and the same
+/// request again tells so.
+pub fn respond<K: Keeper>(
+    alloc: Global,
+    office: &mut Office<K>,
+    asked: &Asked,
+) -> Result<String, StoreFault>
+    ensures goes { K.is_clean (keeper_of office.new) → MatchResult result
+        (λ text. Answers (Follows office.old) (Follows office.new) (MayLeave office.old) (MayLeave office.new) (meaning_of asked.now) (string_bytes text))
+        (λ _. Unanswered (Follows office.old) (Follows office.new) (MayLeave office.old) (MayLeave office.new) (meaning_of asked.now)) }
+    ensures cause { IfErr result (CauseFrom office.old office.new) }
+    ensures counted { K.refused (keeper_of office.old) ≤ K.refused (keeper_of office.new) }
+    ensures clean { K.is_clean (keeper_of office.new) → K.is_clean (keeper_of office.old) }
+{
+    match asked {
+        Asked::Nothing => Ok(String::new(alloc)),
+        Asked::Refused(refusal) => Ok(answer::refusal(alloc, *refusal)?),
+        Asked::Load { caller, key, list } => put_list(alloc, office, caller, key, list),
+        Asked::Order {
+            caller,
+            key,
+            point,
+            value,
+        } => put_order(alloc, office, caller, key, point.as_str(), *value),
+        Asked::OrderUnder { caller, key } => get_order(alloc, office, caller, key),
+        Asked::Readings { point, from, to } => get_readings(alloc, office, point.as_str(), *from, *to),
+        Asked::Total { point } => get_total(alloc, office, point.as_str()),
+    }
+}
