@@ -34,5 +34,5 @@ shown_between now name from to known rows found items text named is same shows f
     let table : as_rows rows.items ≡ readings_between known.number from to (readings now) = subst (λ k. Shows (readings_at now k from to) (Some rows)) named there in
     let all : as_rows items ≡ readings_between known.number from to (readings now) = ap as_rows same ∙ table in
     let fitting = found_holds (λ (k : PointRow). HasForm k.point × ((from to : ℕ) → AreOf k.point (readings_between k.number from to (readings now))))
-        (λ (k : PointRow). bytes_eq k.point.name name) (points now) known named fits in
+    (λ (k : PointRow). bytes_eq k.point.name name) (points now) known named fits in
     so fitting.0 (subst (AreOf known.point) (sym all) (fitting.1 from to)) ∙ ap (rows_reply name known.point) all ∙ sym (ap (readings_reply now name from to) named)

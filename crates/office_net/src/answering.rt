@@ -12,8 +12,8 @@ ghost use Rattle.office_net.specs.Serving.{Answers, Unanswered};
 
 use crate::replies::{list_reply, not_found, order_refused, order_reply, readings_reply};
 use crate::requests::{fault_of, load, order, order_state, readings, request_of, total};
-use office_core::laws::fitting_tables;
 use office_core::Office;
+use office_core::laws::fitting_tables;
 use office_http::{Asked, answer};
 use office_report::total_text;
 use poll_book::{Body, Caller, Keeper, Key, Outcome, StoreFault};
@@ -222,7 +222,13 @@ pub fn respond<K: Keeper>(
             value,
         } => put_order(alloc, office, caller, key, point.as_str(), *value),
         Asked::OrderUnder { caller, key } => get_order(alloc, office, caller, key),
-        Asked::Readings { point, from, to } => get_readings(alloc, office, point.as_str(), *from, *to),
+        Asked::Readings { point, from, to } => get_readings(
+            alloc,
+            office,
+            point.as_str(),
+            *from,
+            *to,
+        ),
         Asked::Total { point } => get_total(alloc, office, point.as_str()),
     }
 }

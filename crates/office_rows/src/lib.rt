@@ -1,7 +1,7 @@
 //! What an office keeps, answers and refuses, by scripts over a keeper in memory and one over a
 //! database: rows, totals, refusals of each call, memory that is refused, and a keeper that refuses.
-//! What happens to an office, keepers over a database, and a keeper's tables as text serve other tests
-//! too.
+//! What happens to an office, keepers over a database or that refuse, and a keeper's tables as text
+//! serve other tests too.
 #![tactic(auto)]
 
 #[cfg(test)]
@@ -15,8 +15,7 @@ mod faults;
 mod memory;
 #[cfg(test)]
 mod orders;
-#[cfg(test)]
-mod refusing;
+pub mod refusing;
 #[cfg(test)]
 mod scripted;
 #[cfg(test)]

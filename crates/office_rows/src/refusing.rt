@@ -10,11 +10,11 @@ use std::alloc::Global;
 
 /// Refuses the call of this number, counted from 0, and keeps all else.
 #[derive(Drop)]
-pub(crate) struct Refusing {
+pub struct Refusing {
     kept: MemKeeper,
     at: u32,
     fault: StoreFault,
-    pub(crate) calls: u32,
+    pub calls: u32,
     // How many calls were refused, up to the greatest count.
     refusals: u64,
 }
@@ -31,7 +31,7 @@ fn counted<T>(refusals: &mut u64, answer: Result<T, StoreFault>) -> Result<T, St
 }
 
 impl Refusing {
-    pub(crate) fn new(alloc: Global, at: u32, fault: StoreFault) -> Refusing {
+    pub fn new(alloc: Global, at: u32, fault: StoreFault) -> Refusing {
         Refusing {
             kept: MemKeeper::new(alloc),
             at,

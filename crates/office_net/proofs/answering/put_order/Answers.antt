@@ -19,6 +19,6 @@ returns-in-Err-clause-goes g c = λ clean.
     let e = c.in-Err.error in
     let same : to_z w128 (of_z w128 c.args.value) ≡ c.args.value = to_z-of_z w128 c.args.value c.ranges.value in
     let fails : Fails (Follows old) (Follows new) (MayLeave old) (MayLeave new) (λ _. Order caller key point c.args.value) (Refused e) =
-        subst (λ v. Fails (Follows old) (Follows new) (MayLeave old) (MayLeave new) (λ _. Order caller key point v) (Refused e)) same (c.in-Err.ensures.went clean) in
+    subst (λ v. Fails (Follows old) (Follows new) (MayLeave old) (MayLeave new) (λ _. Order caller key point v) (Refused e)) same (c.in-Err.ensures.went clean) in
     inl (misses (Follows old) (Follows new) (MayLeave old) (MayLeave new) (order caller key point c.args.value) (Order caller key point c.args.value) refl e
     (of_store (CauseFrom old new) e c.in-Err.ensures.cause) fails)

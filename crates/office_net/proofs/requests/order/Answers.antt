@@ -26,9 +26,9 @@ returns-clause-went g c = λ clean.
     let seen = Seen caller key point c.args.value in
     let same : to_z w128 (of_z w128 c.args.value) ≡ c.args.value = to_z-of_z w128 c.args.value c.ranges.value in
     let goes : Goes (Stands old) (Stands new) seen (told_so c.order.result) =
-        subst (λ v. Goes (Stands old) (Stands new) (Seen caller key point v) (told_so c.order.result)) same (c.order.ensures.goes clean) in
+    subst (λ v. Goes (Stands old) (Stands new) (Seen caller key point v) (told_so c.order.result)) same (c.order.ensures.goes clean) in
     let leaves : Leaves (Stands old) (MayLeave old) (MayLeave new) seen (told_so c.order.result) =
-        subst (λ v. Leaves (Stands old) (MayLeave old) (MayLeave new) (Seen caller key point v) (told_so c.order.result)) same (c.order.ensures.leaves clean) in
+    subst (λ v. Leaves (Stands old) (MayLeave old) (MayLeave new) (Seen caller key point v) (told_so c.order.result)) same (c.order.ensures.leaves clean) in
     told_by c.order.result _ _
     (λ answer is. happened (Stands old) (Stands new) (MayLeave old) (MayLeave new) seen (Request answer)
     (λ now. c.any_message.ensures.may_happen now seen message) (λ now. c.any_message.ensures.seen now seen message)

@@ -1,0 +1,85 @@
+//! Reports that aren't written, or not to their end.
+use crate::asserting::assert_told;
+use crate::offices::{Reported, office_over, run_report};
+use crate::refusing::Refusing;
+use office_core::{Office, OfficeError};
+use office_report::ReportFault;
+use poll_book::{Keeper, MemKeeper, StoreFault};
+use std::alloc::Global;
+use std::process::Abort;
+use std::test::Fail;
+
+const REPORT: &str = "point e\n         1  65000\n         2  64000\ntotal 66572\n";
+
+fn report_of<K: Keeper>(
+    alloc: Global,
+    office: &mut Office<K>,
+    writes: usize,
+) -> Result<Reported, OfficeError> {
+    Ok(run_report(alloc, office, "e", 1, 2, writes)?)
+}
+
+#[test]
+fn writers_fail(rt: HostRuntime) -> Result<(), Fail> {
+    let alloc = rt.alloc();
+    let mut office = office_over(alloc, MemKeeper::new(alloc))?;
+    for writes in 0..4usize {
+        let told = report_of(alloc, &mut office, writes)?;
+        let written = &REPORT.as_bytes()[..writes * 16];
+        assert_told(&rt, &writes, &told.ended, &Err(ReportFault::Write));
+        assert_told(&rt, &writes, &told.text.as_slice(), &written);
+    }
+    Ok(())
+}
+
+/// Refuses the call of this number that a report makes, and asks for the report again.
+fn assert_refused(
+    rt: &impl Abort,
+    alloc: Global,
+    at: u32,
+    fault: StoreFault,
+) -> Result<(), OfficeError> {
+    let mut office = office_over(alloc, Refusing::new(alloc, at, fault))?;
+    let told = report_of(alloc, &mut office, 1000)?;
+    assert_told(rt, &at, &told.ended, &Err(ReportFault::Store(fault)));
+    assert_told(rt, &at, &told.text.is_empty(), &true);
+    let told = report_of(alloc, &mut office, 1000)?;
+    assert_told(rt, &at, &told.ended, &Ok(true));
+    assert_told(rt, &at, &told.text.as_slice(), &REPORT.as_bytes());
+    Ok(())
+}
+
+#[test]
+fn stores_refuse(rt: HostRuntime) -> Result<(), Fail> {
+    for fault in [StoreFault::Full, StoreFault::Disk, StoreFault::Other] {
+        assert_refused(&rt, rt.alloc(), 0, fault)?;
+        assert_refused(&rt, rt.alloc(), 1, fault)?;
+    }
+    Ok(())
+}
+
+/// An office, and its report before memory that is refused to it.
+fn first_report(alloc: Global) -> Result<(Office<MemKeeper>, Reported), OfficeError> {
+    let mut office = office_over(alloc, MemKeeper::new(alloc))?;
+    let told = report_of(alloc, &mut office, 1000)?;
+    Ok((office, told))
+}
+
+/// Run under `rt try --test --fail-alloc N`, this one sees each allocation of a report refused.
+#[test]
+fn refused_memory(rt: HostRuntime) -> Result<(), Fail> {
+    let alloc = rt.alloc();
+    let (mut office, told) = match first_report(alloc) {
+        Ok(first) => first,
+        Err(_) => first_report(alloc)?,
+    };
+    let text = match told.ended {
+        Err(ReportFault::Memory) | Err(ReportFault::Store(StoreFault::Memory)) => "",
+        _ => REPORT,
+    };
+    assert_told(&rt, &told.ended, &told.text.as_slice(), &text.as_bytes());
+    let again = report_of(alloc, &mut office, 1000)?;
+    assert_told(&rt, &"again", &again.ended, &Ok(true));
+    assert_told(&rt, &"again", &again.text.as_slice(), &REPORT.as_bytes());
+    Ok(())
+}

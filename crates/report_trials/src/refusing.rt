@@ -1,0 +1,138 @@
+//! A keeper in memory that refuses one of the calls that reports make.
+ghost use Rattle.std.specs.Prelude.{◌≡◌};
+ghost use Rattle.poll_book.specs.Fault.{CountsRefusal};
+
+use poll_book::{
+    Caller, Change, Keeper, Key, MemKeeper, Neighbours, PointRow, Reading, ReadingRow, Request,
+    Setting, SettingRow, StoreFault,
+};
+use std::alloc::Global;
+
+/// Refuses, of the calls for readings and totals, that of this number, counted from 0.
+#[derive(Drop)]
+pub(crate) struct Refusing {
+    kept: MemKeeper,
+    at: u32,
+    fault: StoreFault,
+    calls: u32,
+    // How many calls were refused, up to the greatest count.
+    refusals: u64,
+}
+
+/// What a call of the kept keeper answers. One that is refused is counted.
+fn counted<T>(refusals: &mut u64, answer: Result<T, StoreFault>) -> Result<T, StoreFault>
+    ensures same { result ≡ answer }
+    ensures counted { CountsRefusal refusals.old refusals.new result }
+{
+    if answer.is_err() {
+        *refusals = refusals.saturating_add(1);
+    }
+    answer
+}
+
+impl Refusing {
+    pub(crate) fn new(alloc: Global, at: u32, fault: StoreFault) -> Refusing {
+        Refusing {
+            kept: MemKeeper::new(alloc),
+            at,
+            fault,
+            calls: 0,
+            refusals: 0,
+        }
+    }
+
+    fn count(&mut self) -> Result<(), StoreFault>
+        ensures same { self.new.kept ≡ self.old.kept }
+        ensures counted { CountsRefusal self.old.refusals self.new.refusals result }
+    {
+        let call = self.calls;
+        self.calls = call.saturating_add(1);
+        if call == self.at {
+            self.refusals = self.refusals.saturating_add(1);
+            Err(self.fault)
+        } else {
+            Ok(())
+        }
+    }
+}
+
+impl Neighbours for Refusing {
+    ghost holds = { λ k tables. k.kept.0 ≡ tables };
+
+    ghost is_clean = { λ _. Unit {0} };
+
+    ghost may_leave = { λ k tables. k.kept.0 ≡ tables };
+
+    ghost may_refuse = { λ _. Unit {0} };
+
+    ghost refused = { λ k. k.refusals };
+
+    fn reading(&mut self, point: &PointRow, slot: u32) -> Result<Option<Reading>, StoreFault> {
+        let answer = self.kept.reading(point, slot);
+        counted(&mut self.refusals, answer)
+    }
+
+    fn total(&mut self, point: &PointRow) -> Result<u128, StoreFault> {
+        self.count()?;
+        let answer = self.kept.total(point);
+        counted(&mut self.refusals, answer)
+    }
+
+    fn refusals(&self) -> u64 {
+        self.refusals
+    }
+}
+
+impl Keeper for Refusing {
+    fn points(&mut self, alloc: Global) -> Result<Vec<PointRow>, StoreFault> {
+        let answer = self.kept.points(alloc);
+        counted(&mut self.refusals, answer)
+    }
+
+    fn readings(
+        &mut self,
+        alloc: Global,
+        point: u32,
+        from: u32,
+        to: u32,
+    ) -> Result<Vec<ReadingRow>, StoreFault> {
+        self.count()?;
+        let answer = self.kept.readings(alloc, point, from, to);
+        counted(&mut self.refusals, answer)
+    }
+
+    fn request(
+        &mut self,
+        alloc: Global,
+        caller: &Caller,
+        key: &Key,
+    ) -> Result<Option<Request>, StoreFault> {
+        let answer = self.kept.request(alloc, caller, key);
+        counted(&mut self.refusals, answer)
+    }
+
+    fn setting(&mut self, number: u32) -> Result<Option<Setting>, StoreFault> {
+        let answer = self.kept.setting(number);
+        counted(&mut self.refusals, answer)
+    }
+
+    fn oldest_waiting(&mut self, device: &str) -> Result<Option<SettingRow>, StoreFault> {
+        let answer = self.kept.oldest_waiting(device);
+        counted(&mut self.refusals, answer)
+    }
+
+    fn orders(&mut self) -> Result<u32, StoreFault> {
+        let answer = self.kept.orders();
+        counted(&mut self.refusals, answer)
+    }
+
+    fn connections(&mut self) -> Result<u32, StoreFault> {
+        let answer = self.kept.connections();
+        counted(&mut self.refusals, answer)
+    }
+
+    fn apply(&mut self, change: &Change) -> Result<(), StoreFault> {
+        let answer = self.kept.apply(change);
+        counted(&mut self.refusals, answer)
+    }
+}
