@@ -68,6 +68,10 @@ fn assert_tells<K: Keeper>(
         return Ok(0);
     }
     let again = told(alloc, office, request)?;
+    // Refused twice, it is told as an error: the second time it can be of memory.
+    if again.as_str() == UNAVAILABLE {
+        return Err(AllocError);
+    }
     let repeats = answer.0 == "201 Created" && again.as_str().starts_with("HTTP/1.1 200");
     let answer = if repeats {
         ("200 OK", answer.1)

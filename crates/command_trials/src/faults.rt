@@ -1,0 +1,80 @@
+//! How faults are told, and what they come of.
+use crate::asserting::assert_told;
+use mb_map::MapError;
+use mb_mbap::FrameFault;
+use office_commands::Fault;
+use office_core::OfficeError;
+use office_net::PollFault;
+use office_script::ReplayFault;
+use poll_book::StoreFault;
+use std::alloc::{AllocError, Global};
+use std::process::Abort;
+use std::test::Fail;
+
+/// Each fault, its text behind the program's name, and the program's status.
+const FAULTS: &[(Fault, &str, u8)] = &[
+    (Fault::Command, "command", 2),
+    (Fault::BadSite, "bad site", 2),
+    (Fault::BadList, "bad list", 2),
+    (Fault::Unknown, "unknown", 2),
+    (Fault::FrameLine, "frames", 2),
+    (Fault::File, "file", 1),
+    (Fault::Line, "line", 1),
+    (Fault::Noise, "noise", 1),
+    (Fault::Frames, "frames", 1),
+    (Fault::Memory, "memory", 1),
+    (Fault::Store(StoreFault::Memory), "store memory", 1),
+    (Fault::Store(StoreFault::Full), "store full", 1),
+    (Fault::Store(StoreFault::Disk), "store disk", 1),
+    (Fault::Store(StoreFault::Other), "store other", 1),
+    (Fault::BadVersion, "bad version", 1),
+    (Fault::NotOffice, "not an office", 1),
+    (Fault::SiteDiffers, "site differs", 1),
+];
+
+fn assert_fault(
+    rt: &impl Abort,
+    alloc: Global,
+    (fault, text, status): (Fault, &str, u8),
+) -> Result<(), AllocError> {
+    let told = format!(in alloc; "{fault}")?;
+    assert_told(rt, &fault, &told.as_str(), &text);
+    assert_told(rt, &fault, &fault.status(), &status);
+    Ok(())
+}
+
+#[test]
+fn faults_are_told(rt: HostRuntime) -> Result<(), Fail> {
+    for fault in FAULTS {
+        if assert_fault(&rt, rt.alloc(), *fault).is_err() {
+            assert_fault(&rt, rt.alloc(), *fault)?;
+        }
+    }
+    Ok(())
+}
+
+#[test]
+fn faults_come_of_others(rt: HostRuntime) {
+    let frames = PollFault::Frames(FrameFault::NotModbus);
+    let full = Fault::Store(StoreFault::Full);
+    for (fault, expected) in [
+        (Fault::from(OfficeError::WrongLine), Fault::Unknown),
+        (Fault::from(OfficeError::SiteDiffers), Fault::SiteDiffers),
+        (Fault::from(OfficeError::Exhausted), Fault::Line),
+        (Fault::from(OfficeError::Store(StoreFault::Full)), full),
+        (Fault::from(PollFault::Line), Fault::Line),
+        (Fault::from(PollFault::Closed), Fault::Line),
+        (Fault::from(PollFault::Noise), Fault::Noise),
+        (Fault::from(frames), Fault::Frames),
+        (Fault::from(PollFault::Store(StoreFault::Full)), full),
+        (Fault::from(PollFault::Memory), Fault::Memory),
+        (Fault::from(ReplayFault::Read), Fault::File),
+        (Fault::from(ReplayFault::Write), Fault::File),
+        (Fault::from(ReplayFault::Memory), Fault::Memory),
+        (Fault::from(MapError::BadImage), Fault::File),
+        (Fault::from(MapError::Memory), Fault::Memory),
+        (Fault::from(AllocError), Fault::Memory),
+    ] {
+        assert_told(&rt, &expected, &fault, &expected);
+    }
+}

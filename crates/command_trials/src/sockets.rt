@@ -1,0 +1,34 @@
+//! Ends of connections on this host.
+use office_commands::{Fault, connect};
+use std::io::Write;
+use std::net::{Shutdown, TcpListener, TcpStream};
+use std::time::Duration;
+
+/// A listener, and its address.
+pub(crate) fn listen(rt: &HostRuntime) -> Result<(TcpListener, String), Fault> {
+    let Ok(listener) = TcpListener::bind(rt, ("127.0.0.1", 0u16)) else {
+        return Err(Fault::Line);
+    };
+    let Ok(address) = listener.local_addr() else {
+        return Err(Fault::Line);
+    };
+    let address = format!(in rt.alloc(); "{address}")?;
+    Ok((listener, address))
+}
+
+/// A stream to an address, whose reads and writes wait for a second at most.
+pub(crate) fn connected(rt: &HostRuntime, address: &str) -> Result<TcpStream, Fault> {
+    connect(rt, address, Duration::from_secs(1))
+}
+
+/// Writes all that an end of a connection has to say, after which it may end its side.
+pub(crate) fn say(end: &TcpStream, bytes: &[u8], ends: bool) -> Result<(), Fault> {
+    let mut writer = end;
+    if writer.write_all(bytes).is_err() {
+        return Err(Fault::Line);
+    }
+    if ends && end.shutdown(Shutdown::Write).is_err() {
+        return Err(Fault::Line);
+    }
+    Ok(())
+}

@@ -1,0 +1,2 @@
+-- What contracts say of commands.
+pub mod Faults

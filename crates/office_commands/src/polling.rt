@@ -1,0 +1,64 @@
+//! Polling a line over a socket.
+use crate::Fault;
+use mb_mbap::Counted;
+use office_core::Office;
+use office_net::{Round, poll_round};
+use poll_book::Keeper;
+use std::alloc::{AllocError, Global};
+use std::io;
+use std::net::{Net, TcpStream, ToSocketAddrs};
+use std::time::Duration;
+
+/// A stream whose reads and writes wait for so long at most.
+fn with_timeouts(stream: TcpStream, timeout: Duration) -> io::Result<TcpStream> {
+    stream.set_nodelay(true)?;
+    stream.set_read_timeout(Some(timeout))?;
+    stream.set_write_timeout(Some(timeout))?;
+    Ok(stream)
+}
+
+/// Connects to a host and port as `127.0.0.1:1502`, where a host has several addresses to the first
+/// that answers. Connecting to each, and each read and write after that, waits for `timeout` at most.
+pub fn connect<N: Net<Stream = TcpStream>>(
+    net: &N,
+    address: &str,
+    timeout: Duration,
+) -> Result<TcpStream, Fault> {
+    let Ok(found) = address.to_socket_addrs(net) else {
+        return Err(Fault::Line);
+    };
+    for one in found {
+        if let Ok(stream) = TcpStream::connect_timeout(net, &one, timeout) {
+            return with_timeouts(stream, timeout).map_err(|_| Fault::Line);
+        }
+    }
+    Err(Fault::Line)
+}
+
+fn round_text(alloc: Global, round: &Round) -> Result<String, AllocError> {
+    let Round {
+        asked,
+        recorded,
+        excepted,
+        refused,
+    } = *round;
+    format!(in alloc; "asked {asked} recorded {recorded} excepted {excepted} refused {refused}\n")
+}
+
+/// Polls the devices of a line for a slot over a stream to the line's address, and gives what is
+/// printed: `asked A recorded B excepted C refused D`, the queries, the new readings, the exceptions
+/// and the frames that answered none of the queries. What was recorded before a fault stays.
+pub fn poll<K: Keeper>(
+    alloc: Global,
+    office: &mut Office<K>,
+    line: &str,
+    slot: u32,
+    stream: &TcpStream,
+) -> Result<String, Fault> {
+    let conn = office.open_line(line)?;
+    let mut reader = Counted::new(stream);
+    let mut writer = Counted::new(stream);
+    let round = poll_round(alloc, office, conn, slot, &mut reader, &mut writer)?;
+    let text = round_text(alloc, &round)?;
+    Ok(text)
+}

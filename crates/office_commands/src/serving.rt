@@ -1,0 +1,74 @@
+//! Answering over HTTP, one connection after the other.
+use crate::Fault;
+use crate::timed::Timed;
+use mb_mbap::Counted;
+use office_core::Office;
+use office_net::serve_one;
+use poll_book::Keeper;
+use std::alloc::Global;
+use std::io::{self, Read};
+use std::net::{Shutdown, TcpListener, TcpStream};
+use std::rt::Clock;
+use std::time::Duration;
+
+/// An exchange takes so many seconds at most, however slowly the caller writes and reads.
+const EXCHANGE: u64 = 30;
+
+/// A caller is given so many seconds to close after the answer, so that what it still sends doesn't
+/// cost it the answer.
+const CLOSING: u64 = 1;
+
+/// So many pieces of what a caller still sends are read at most.
+const PIECES: u32 = 256;
+
+/// Reads what a caller still sends after its answer, until it closes.
+fn close<C: Clock>(clock: &C, stream: &TcpStream) -> io::Result<()> {
+    stream.shutdown(Shutdown::Write)?;
+    let closing = Duration::from_secs(CLOSING);
+    let mut rest = Timed::new(clock, stream, closing, closing)?;
+    let mut piece = [0u8; 4096];
+    for _ in 0..PIECES {
+        if rest.read(&mut piece)? == 0 {
+            break;
+        }
+    }
+    Ok(())
+}
+
+/// Answers the request of a connection. A fault ends the connection alone.
+fn answer<R: Clock + AllocGlobal, K: Keeper>(
+    rt: &R,
+    office: &mut Office<K>,
+    stream: &TcpStream,
+    timeout: Duration,
+) -> io::Result<()> {
+    stream.set_nodelay(true)?;
+    let exchange = Duration::from_secs(EXCHANGE);
+    let mut reader = Counted::new(Timed::new(rt, stream, exchange, timeout)?);
+    let mut writer = Counted::new(Timed::new(rt, stream, exchange, timeout)?);
+    match serve_one(rt.alloc(), office, &mut reader, &mut writer) {
+        Ok(_) => close(rt, stream),
+        Err(_) => Ok(()),
+    }
+}
+
+/// Answers so many connections, one after the other; without a count it goes on. Each read and write
+/// waits for `timeout` at most, and an exchange takes 30 seconds in all. A connection that fails ends
+/// alone; `Line` comes where none can be taken any more.
+pub fn serve<R: Clock + AllocGlobal, K: Keeper>(
+    rt: &R,
+    office: &mut Office<K>,
+    listener: &TcpListener,
+    count: Option<u32>,
+    timeout: Duration,
+) -> Result<(), Fault> {
+    let count = count.map_or(u64::MAX, u64::from);
+    for _ in 0..count {
+        let Ok((stream, _)) = listener.accept() else {
+            return Err(Fault::Line);
+        };
+        // Of a connection that fails nobody is there to be told.
+        let _ = answer(rt, office, &stream, timeout);
+    }
+    Ok(())
+}
