@@ -20,6 +20,7 @@ pub use answering::respond;
 pub use fault::PollFault;
 pub use job::Job;
 pub use machine::Poll;
+pub use planning::jobs_of;
 pub use polling::poll_round;
 pub use round::Round;
 pub use serving::{ServeFault, Served, serve_one};

@@ -91,7 +91,7 @@ fn add_device(
 
 /// The jobs of a line: of each of its devices, in the site's order, first its order and then the reads
 /// that are planned for its known points.
-pub(crate) fn jobs_of(
+pub fn jobs_of(
     alloc: Global,
     site: &Site,
     known: &[PointRow],
