@@ -1,9 +1,9 @@
 //! Reports that aren't written, or not to their end.
 use crate::asserting::assert_told;
-use crate::offices::{Reported, office_over, run_report};
-use crate::refusing::Refusing;
+use crate::offices::{Reported, read_office, run_report};
 use office_core::{Office, OfficeError};
 use office_report::ReportFault;
+use office_rows::refusing::Refusing;
 use poll_book::{Keeper, MemKeeper, StoreFault};
 use std::alloc::Global;
 use std::process::Abort;
@@ -22,7 +22,7 @@ fn report_of<K: Keeper>(
 #[test]
 fn writers_fail(rt: HostRuntime) -> Result<(), Fail> {
     let alloc = rt.alloc();
-    let mut office = office_over(alloc, MemKeeper::new(alloc))?;
+    let mut office = read_office(alloc, MemKeeper::new(alloc))?;
     for writes in 0..4usize {
         let told = report_of(alloc, &mut office, writes)?;
         let written = &REPORT.as_bytes()[..writes * 16];
@@ -32,14 +32,20 @@ fn writers_fail(rt: HostRuntime) -> Result<(), Fail> {
     Ok(())
 }
 
-/// Refuses the call of this number that a report makes, and asks for the report again.
+/// How many calls of its keeper an office makes before its report.
+fn calls(alloc: Global) -> Result<u32, OfficeError> {
+    let keeper = Refusing::new(alloc, u32::MAX, StoreFault::Other);
+    Ok(read_office(alloc, keeper)?.into_keeper().calls)
+}
+
+/// Refuses the call of this number, which a report makes, and asks for the report again.
 fn assert_refused(
     rt: &impl Abort,
     alloc: Global,
     at: u32,
     fault: StoreFault,
 ) -> Result<(), OfficeError> {
-    let mut office = office_over(alloc, Refusing::new(alloc, at, fault))?;
+    let mut office = read_office(alloc, Refusing::new(alloc, at, fault))?;
     let told = report_of(alloc, &mut office, 1000)?;
     assert_told(rt, &at, &told.ended, &Err(ReportFault::Store(fault)));
     assert_told(rt, &at, &told.text.is_empty(), &true);
@@ -51,16 +57,17 @@ fn assert_refused(
 
 #[test]
 fn stores_refuse(rt: HostRuntime) -> Result<(), Fail> {
+    let before = calls(rt.alloc())?;
     for fault in [StoreFault::Full, StoreFault::Disk, StoreFault::Other] {
-        assert_refused(&rt, rt.alloc(), 0, fault)?;
-        assert_refused(&rt, rt.alloc(), 1, fault)?;
+        assert_refused(&rt, rt.alloc(), before, fault)?;
+        assert_refused(&rt, rt.alloc(), before.saturating_add(1), fault)?;
     }
     Ok(())
 }
 
 /// An office, and its report before memory that is refused to it.
 fn first_report(alloc: Global) -> Result<(Office<MemKeeper>, Reported), OfficeError> {
-    let mut office = office_over(alloc, MemKeeper::new(alloc))?;
+    let mut office = read_office(alloc, MemKeeper::new(alloc))?;
     let told = report_of(alloc, &mut office, 1000)?;
     Ok((office, told))
 }

@@ -9,6 +9,4 @@ mod faults;
 #[cfg(test)]
 mod offices;
 #[cfg(test)]
-mod refusing;
-#[cfg(test)]
 mod texts;

@@ -1,84 +1,46 @@
 //! An office whose points have readings, and its reports.
-ghost use Rattle.std.specs.Prelude.{IfOk};
-ghost use Rattle.point_list.specs.Sites.{IsSound};
-
-use mb_mbap::{Counted, Frame};
-use mb_pdu::{Span, Unit};
+use mb_mbap::Counted;
 use office_core::{Office, OfficeError};
 use office_report::{ReportFault, write_report};
-use point_list::{ListFault, Site, read_site};
-use poll_book::{Caller, Keeper, Key, StoreFault};
-use read_planner::Read;
+use office_rows::builders::office_over;
+use office_rows::steps::Happens::{self, Arrive, Ask, Load, Open};
+use office_rows::steps::take_happening;
+use poll_book::Keeper;
 use std::alloc::{AllocError, Global};
 use std::io::{self, ErrorKind, Write};
 
-const SITE: &str =
-    "[[line]]\nname = \"roof\"\naddress = \"127.0.0.1:502\"\n[[device]]\nname = \"m1\"\nline = \"roof\"\nunit = 17\n";
-
-/// A counter, and a gauge in tenths.
-const POINTS: &str = "name,device,table,address,type,length,scale,role,roll
-e,m1,holding,107,uint16,,,counter,
-t,m1,holding,108,int16,,-1,gauge,
-";
-
-/// Slots, addresses and what the registers there held. The gauge is not implemented in the last slot.
-const READINGS: &[(u32, u16, u16)] = &[
-    (1, 107, 65000),
-    (3, 107, 500),
-    (2, 107, 64000),
-    (1, 108, 65531),
-    (u32::MAX, 108, 0x8000),
+/// A counter, and a gauge in tenths that is not implemented in the last slot.
+const HAPPENINGS: &[Happens] = &[
+    Load(
+        "l1",
+        "e,m1,holding,107,uint16,,,counter,\nt,m1,holding,108,int16,,-1,gauge,\n",
+    ),
+    Open("roof"),
+    Ask(1, "m1", 1, (3, 107, 2)),
+    Ask(1, "m1", 3, (3, 107, 1)),
+    Ask(1, "m1", 2, (3, 107, 1)),
+    Ask(1, "m1", u32::MAX, (3, 108, 1)),
+    Arrive(1, 0, 17, &[3, 4, 0xFD, 0xE8, 0xFF, 0xFB]),
+    Arrive(1, 1, 17, &[3, 2, 0x01, 0xF4]),
+    Arrive(1, 2, 17, &[3, 2, 0xFA, 0x00]),
+    Arrive(1, 3, 17, &[3, 2, 0x80, 0x00]),
 ];
 
-fn site(alloc: Global) -> Result<Site, OfficeError>
-    ensures { IfOk result (λ site. IsSound site) }
-{
-    match read_site(alloc, SITE.as_bytes()) {
-        Ok(site) => Ok(site),
-        Err(e) if e.fault == ListFault::Memory => Err(OfficeError::Store(StoreFault::Memory)),
-        Err(_) => Err(OfficeError::WrongLine),
-    }
-}
-
-/// Makes the points known.
-fn load<K: Keeper>(office: &mut Office<K>) -> Result<(), OfficeError> {
-    let (Some(caller), Some(key)) = (Caller::new("ann"), Key::new("l1")) else {
-        return Err(OfficeError::NoRead);
-    };
-    let _ = office.load(&caller, &key, POINTS.as_bytes())?;
-    Ok(())
-}
-
-/// Asks for one register of a slot, and brings the reply.
-fn read<K: Keeper>(
-    office: &mut Office<K>,
-    slot: u32,
-    start: u16,
-    word: u16,
-) -> Result<(), OfficeError> {
-    let conn = office.open_line("roof")?;
-    let span = Span { start, quantity: 1 };
-    let query = office.ask(conn, "m1", slot, Read { function: 3, span })?;
-    let [high, low] = word.to_be_bytes();
-    let unit = Unit::from_bytes(&[3, 2, high, low]).ok_or(OfficeError::WrongReply)?;
-    let _ = office.arrive(conn, &Frame { unit, ..query })?;
-    Ok(())
-}
-
 /// An office over a keeper, with both points and their readings.
-pub(crate) fn office_over<K: Keeper + Drop>(
+pub(crate) fn read_office<K: Keeper + Drop>(
     alloc: Global,
     keeper: K,
 ) -> Result<Office<K>, OfficeError> {
-    let mut office = match Office::new(alloc, keeper, site(alloc)?) {
-        Ok(office) => office,
-        Err((error, _)) => return Err(error),
-    };
-    load(&mut office)?;
-    for (slot, address, word) in READINGS {
-        read(&mut office, *slot, *address, *word)?;
-    }
+    let mut office = office_over(alloc, keeper)?;
+    happen_all(alloc, &mut office)?;
     Ok(office)
+}
+
+fn happen_all<K: Keeper>(alloc: Global, office: &mut Office<K>) -> Result<(), OfficeError> {
+    for happens in HAPPENINGS {
+        let _ = take_happening(alloc, office, happens)?;
+    }
+    Ok(())
 }
 
 /// A writer of at most 16 bytes a call, which fails once so many calls are over.

@@ -1,6 +1,6 @@
 //! What reports say.
 use crate::asserting::assert_told;
-use crate::offices::{office_over, run_report};
+use crate::offices::{read_office, run_report};
 use poll_book::MemKeeper;
 use std::test::Fail;
 
@@ -29,7 +29,7 @@ const CASES: &[(&str, u32, u32, bool, &str)] = &[
 #[test]
 fn reports_say_what_was_read(rt: HostRuntime) -> Result<(), Fail> {
     let alloc = rt.alloc();
-    let mut office = office_over(alloc, MemKeeper::new(alloc))?;
+    let mut office = read_office(alloc, MemKeeper::new(alloc))?;
     for (point, from, to, known, text) in CASES {
         let told = run_report(alloc, &mut office, point, *from, *to, 1000)?;
         assert_told(&rt, text, &told.ended, &Ok(*known));
