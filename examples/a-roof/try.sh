@@ -49,10 +49,9 @@ poll() {
 
 # Polls both lines for a slot, in which the registers of the meter and of the inverter begin with these.
 poll_both() {
-    sed "s/65000, 1200/$2/" meter.toml > meter-now.toml
-    sed "s/420, 315/$3/" inverter.toml > inverter-now.toml
-    poll meter-now.toml 15020 "$1" hall
-    poll inverter-now.toml 15021 "$1" roof
+    sed "s/65000, 1200/$2/; s/420, 315/$3/" devices.toml > devices-now.toml
+    poll devices-now.toml 15020 "$1" hall
+    poll devices-now.toml 15021 "$1" roof
 }
 
 # Prints a call of curl and what it prints.
@@ -74,16 +73,16 @@ poll_both 2 '65400, 65186' '510, 402'
 poll_both 3 '120, 0' '65535, 388'
 
 # In slot 4 the inverter's reply is lost. Polled again, it is asked again.
-(echo 'script = ["drop"]'; cat inverter.toml) > losing.toml
+(echo 'script = ["drop"]'; cat devices.toml) > losing.toml
 poll losing.toml 15021 4 roof
-poll inverter.toml 15021 4 roof
+poll devices.toml 15021 4 roof
 
 run order "${store[@]}" --caller ann --key k1 inverter.limit 80
 run order "${store[@]}" --caller ann --key k1 inverter.limit 80
 run order "${store[@]}" --caller ann --key k1 inverter.limit 81
 run order "${store[@]}" --caller ann --key k2 meter.power -- -5
 # The order goes out first, so slot 5 has the new limit.
-poll inverter.toml 15021 5 roof
+poll devices.toml 15021 5 roof
 
 for point in meter.energy meter.power inverter.power inverter.heat inverter.limit; do
     run report "${store[@]}" "$point" 1 5

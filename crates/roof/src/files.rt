@@ -26,9 +26,9 @@ pub(crate) fn site_of(rt: &HostRuntime) -> Result<Site, Fault>
     }
 }
 
-/// The devices of a simulator's file.
-pub(crate) fn sim_of(rt: &HostRuntime, image: &str) -> Result<Sim, Fault> {
-    let bytes = read_file(rt, image)?;
+/// The example's devices.
+pub(crate) fn sim_of(rt: &HostRuntime) -> Result<Sim, Fault> {
+    let bytes = read_file(rt, "devices.toml")?;
     let sim = Sim::from_toml(rt.alloc(), &bytes)?;
     Ok(sim)
 }

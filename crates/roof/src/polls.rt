@@ -8,11 +8,10 @@ use office_net::{Round, poll_round};
 use poll_book::Keeper;
 use std::alloc::Global;
 
-/// A poll of a line for a slot: the file of its device, and the queries that are to be sent.
+/// A poll of a line for a slot, and the queries that are to be sent.
 struct Poll {
     line: &'static str,
     slot: u32,
-    image: &'static str,
     queries: &'static [[u8; 12]],
 }
 
@@ -26,20 +25,17 @@ const FIRST: &[Poll] = &[
     Poll {
         line: "hall",
         slot: 1,
-        image: "meter.toml",
         queries: &[METER],
     },
     Poll {
         line: "roof",
         slot: 1,
-        image: "inverter.toml",
         queries: &[INVERTER],
     },
     // All readings of the slot are there.
     Poll {
         line: "roof",
         slot: 1,
-        image: "inverter.toml",
         queries: &[],
     },
 ];
@@ -48,7 +44,6 @@ const FIRST: &[Poll] = &[
 const LAST: &[Poll] = &[Poll {
     line: "roof",
     slot: 2,
-    image: "inverter.toml",
     queries: &[
         [0, 0, 0, 0, 0, 6, 10, 6, 0, 40, 0, 80],
         [0, 1, 0, 0, 0, 6, 10, 3, 0, 10, 0, 31],
@@ -90,7 +85,7 @@ fn round<K: Keeper>(
 }
 
 fn poll_one<K: Keeper>(rt: &HostRuntime, office: &mut Office<K>, poll: &Poll) -> Result<(), Fault> {
-    let mut sim = sim_of(rt, poll.image)?;
+    let mut sim = sim_of(rt)?;
     let bytes = answered(rt.alloc(), &mut sim, poll.queries)?;
     let (round, written) = round(rt.alloc(), office, poll, &bytes)?;
     if written.as_slice() != poll.queries.as_flattened() {
