@@ -43,16 +43,21 @@ fn list_text(alloc: Global) -> Result<String, AllocError> {
     Ok(text)
 }
 
+/// An office of the roof over what a keeper has.
+pub fn opened<K: Keeper + Drop>(alloc: Global, keeper: K) -> Result<Office<K>, OfficeError> {
+    match Office::new(alloc, keeper, site(alloc)?) {
+        Ok(office) => Ok(office),
+        Err((error, _)) => Err(error),
+    }
+}
+
 /// An office of the roof that knows the points of a list, its caller's first.
 pub fn loaded<K: Keeper + Drop>(
     alloc: Global,
     keeper: K,
     list: &str,
 ) -> Result<Office<K>, OfficeError> {
-    let mut office = match Office::new(alloc, keeper, site(alloc)?) {
-        Ok(office) => office,
-        Err((error, _)) => return Err(error),
-    };
+    let mut office = opened(alloc, keeper)?;
     if let Some(caller) = Caller::new("bench")
         && let Some(key) = Key::new("list")
     {

@@ -115,7 +115,8 @@ pub fn measure_pages<R: Print + Clock + AllocGlobal>(rt: &R) -> io::Result<()> {
     compare(rt, few, many)
 }
 
-fn in_file(rt: &HostRuntime, path: &str) -> Option<SqlKeeper<FileStore<File>>> {
+/// A keeper over a new file; `None` where it was refused.
+pub fn in_file(rt: &HostRuntime, path: &str) -> Option<SqlKeeper<FileStore<File>>> {
     match Connection::open(rt, path) {
         Ok(connection) => kept(connection),
         Err(_) => None,
