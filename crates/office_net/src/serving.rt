@@ -2,7 +2,7 @@
 ghost use Rattle.std.specs.Prelude.{◌≡◌, ◌≤◌, ◌<◌, [], IfErr, IfOk, IsErr, MatchResult, None, OnOk, Some, length, string_bytes, take};
 ghost use Rattle.std.specs.Io.KnownBytes.{Appends, Consumes};
 ghost use Rattle.mb_mbap.specs.Counted.{HasRisen, ends_of, failures_of, inner_of};
-ghost use Rattle.office_core.specs.Offices.{keeper_of};
+ghost use Rattle.office_core.specs.Offices.{CauseFrom, keeper_of};
 ghost use Rattle.office_http.specs.declared.asked.Asked.{Asked};
 ghost use Rattle.office_http.specs.Asked.{meaning_of};
 ghost use Rattle.office_net.specs.Following.{Follows, MayLeave, Stays};
@@ -79,6 +79,7 @@ fn reply<K: Keeper>(
     ensures known { K.is_clean (keeper_of office.new) → (asked : Asked) → heard.now ≡ Some asked → MatchResult result
         (λ text. Answers (Follows office.old) (Follows office.new) (MayLeave office.old) (MayLeave office.new) (meaning_of asked) (string_bytes text))
         (λ _. Unanswered (Follows office.old) (Follows office.new) (MayLeave office.old) (MayLeave office.new) (meaning_of asked)) }
+    ensures cause { IfErr result (CauseFrom office.old office.new) }
     ensures unknown { K.is_clean (keeper_of office.new) → heard.now ≡ None → IsErr result × Stays (Follows office.old) (Follows office.new) (MayLeave office.old) (MayLeave office.new) }
     ensures counted { K.refused (keeper_of office.old) ≤ K.refused (keeper_of office.new) }
     ensures clean { K.is_clean (keeper_of office.new) → K.is_clean (keeper_of office.old) }
