@@ -7,3 +7,6 @@ pub mod ScaledTexts
 pub mod Numbers
 pub mod RoundTrips
 pub mod Printable
+pub mod Walked
+pub mod OneWalk
+pub mod CommonModel

@@ -3,3 +3,6 @@ pub mod Digits
 pub mod FixedText
 pub mod Text
 pub mod Value
+pub mod Sources
+pub mod Chains
+pub mod Walks

@@ -1,8 +1,12 @@
 //! Laws of the definitions alone.
 
 ghost use Rattle.std.specs.Prelude.{◌≡◌, ℕ, ℤ, List, Some, option_and_then};
+ghost use Rattle.sunspec.specs.Chains.{IsChain, IsChainless};
 ghost use Rattle.sunspec.specs.PointType.{IsSized, coded, named, resized, row};
+ghost use Rattle.sunspec.specs.Sources.{Image};
 ghost use Rattle.sunspec.specs.Value.{AreRegistersOf, AreWords, value};
+ghost use Rattle.sunspec.specs.declared.chain.Chain.{Chain};
+ghost use Rattle.sunspec.specs.declared.error.SunError.{SunError};
 ghost use Rattle.sunspec.specs.declared.point_type.PointType.{PointType};
 ghost use Rattle.sunspec.specs.declared.value.Value.{Value};
 
@@ -18,4 +22,12 @@ pub fn table()
 pub fn one_spelling()
     ensures { (kind : PointType) (number : ℤ) (a b : List ℕ) → AreWords a → AreWords b → AreRegistersOf kind a → AreRegistersOf kind b
         → value kind a ≡ Value.Number number → value kind b ≡ Value.Number number → a ≡ b }
+{}
+
+/// An image says one thing: one chain of models, or one reason why it has none.
+pub fn one_chain()
+    ensures chain { (image : Image) (x y : Chain) → IsChain image x → IsChain image y
+        → (x.base ≡ y.base) × (x.models.items ≡ y.models.items) × (x.end ≡ y.end) }
+    ensures either { (image : Image) (x : Chain) (e : SunError) → IsChain image x → IsChainless image e → ⊥ }
+    ensures reason { (image : Image) (e f : SunError) → IsChainless image e → IsChainless image f → e ≡ f }
 {}

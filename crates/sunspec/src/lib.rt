@@ -1,7 +1,11 @@
-//! Values of SunSpec points: what registers mean, the registers of a number, and exact texts.
+//! Values of SunSpec points: what registers mean, the registers of a number, and exact texts; and the
+//! chain of models that a device says.
 #![tactic(auto)]
 
+mod chain;
+mod common_model;
 pub mod digits;
+mod discovery;
 mod encode;
 mod error;
 mod fixed_text;
@@ -9,12 +13,17 @@ pub mod laws;
 mod point_type;
 mod scaled;
 mod shown;
+mod source;
 mod value;
 
+pub use chain::{Chain, Common, Model};
+pub use common_model::common;
+pub use discovery::discover;
 pub use encode::to_registers;
 pub use error::SunError;
 pub use fixed_text::{FixedText, ShortText};
 pub use point_type::{Content, PointType, Row};
 pub use scaled::scaled_text;
-pub use shown::shown_text;
+pub use shown::{shown_text, value_text};
+pub use source::{RegisterSource, SourceFault};
 pub use value::{Value, read_value};

@@ -1,8 +1,8 @@
-ghost use Rattle.std.specs.Prelude.{◌≡◌, ◌<◌, ◌≤◌, ◌⊎◌, ◌<ℤ◌, ◌↔◌, IfErr, IfOk, IsErrOf, OnOk, length, map, negsuc, option_map, pos, string_bytes};
+ghost use Rattle.std.specs.Prelude.{[], ◌≡◌, ◌<◌, ◌≤◌, ◌⊎◌, ◌<ℤ◌, ◌↔◌, IfErr, IfOk, IsErrOf, OnOk, length, map, negsuc, option_map, pos, string_bytes};
 ghost use Rattle.mb_pdu.specs.Packing.{words_text};
 ghost use Rattle.sunspec.specs.declared.error.SunError.{SunError};
 ghost use Rattle.sunspec.specs.PointType.{IsSized, row};
-ghost use Rattle.sunspec.specs.Text.{IsScale, dotted, number_shown, printable, shown};
+ghost use Rattle.sunspec.specs.Text.{IsScale, dotted, number_shown, printable, shown, value_shown};
 ghost use Rattle.sunspec.specs.Value.{AreRegistersOf};
 
 use crate::error::SunError;
@@ -52,6 +52,20 @@ fn text_within(
         Value::Unimplemented => None,
         Value::Text(text) => Some(printable_text(alloc, text.as_bytes())?),
         Value::Number(number) => Some(number_text(alloc, kind, words, number, scale)?),
+    })
+}
+
+/// The text of a value on its own, without a scale, as reports and answers show it: a string with `?`
+/// for each byte that can't be printed, a number in decimal digits; `None` where the point is not
+/// implemented.
+pub fn value_text(alloc: Global, value: &Value) -> Result<Option<String>, AllocError>
+    ensures { IfOk result (λ text. option_map string_bytes text
+        ≡ value_shown Content.Unsigned (pos 0) [] value.now) }
+{
+    Ok(match value {
+        Value::Unimplemented => None,
+        Value::Text(text) => Some(printable_text(alloc, text.as_bytes())?),
+        Value::Number(number) => Some(text_at(alloc, *number, 0)?),
     })
 }
 

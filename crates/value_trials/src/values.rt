@@ -386,6 +386,10 @@ fn texts_of_refusals(rt: HostRuntime) -> Result<(), Fail> {
         (SunError::OutOfRange, "out of range"),
         (SunError::BadScale, "bad scale"),
         (SunError::Memory, "out of memory"),
+        (SunError::NoMarker, "no marker"),
+        (SunError::SourceFault, "the source failed"),
+        (SunError::PastEnd, "past the end"),
+        (SunError::TooManyModels, "too many models"),
     ] {
         assert_shown(&rt, rt.alloc(), &refusal, text)?;
     }
