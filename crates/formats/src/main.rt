@@ -14,7 +14,7 @@ mod example;
 mod reading;
 
 /// What can be wrong with a list or a site, but for want of memory.
-const FAULTS: [ListFault; 15] = [
+const FAULTS: [ListFault; 17] = [
     ListFault::BadCsv,
     ListFault::BadHeader,
     ListFault::BadName,
@@ -29,7 +29,9 @@ const FAULTS: [ListFault; 15] = [
     ListFault::BadRoll,
     ListFault::Twice,
     ListFault::TooManyPoints,
+    ListFault::NoModel,
     ListFault::BadSite,
+    ListFault::PastModel,
 ];
 
 /// The examples of a page: each second part between fences is a block.

@@ -1,8 +1,10 @@
 //! Reading an example by the function that it is an example for.
+ghost use Rattle.point_list.specs.Sites.{IsSound};
+
 use crate::example::{Example, Kind};
 use anyhow::{Context, Result};
 use mb_map::Sim;
-use point_list::{Site, read_list, read_site};
+use point_list::{ListError, Site, read_list, read_site, resolve};
 use std::alloc::Global;
 
 /// The line that stands for the records between its neighbours.
@@ -36,10 +38,32 @@ fn whole(alloc: Global, text: &str) -> Result<String> {
     }
 }
 
+/// A site as `read_site` gives it.
+#[derive(Drop)]
+struct SoundSite {
+    site: Site,
+    ghost sound: { IsSound site },
+}
+
+impl SoundSite {
+    fn new(site: Site) -> SoundSite
+        requires { IsSound site }
+    {
+        SoundSite { site }
+    }
+
+    /// Reads a list, and places its points.
+    fn read(&self, alloc: Global, text: &str) -> Result<(), ListError> {
+        let rows = read_list(alloc, text.as_bytes(), &self.site)?;
+        resolve(alloc, rows, &self.site)?;
+        Ok(())
+    }
+}
+
 /// Reads examples in turn: lists are read for the last site.
 #[derive(Drop)]
 pub(crate) struct Reading {
-    site: Option<Site>,
+    site: Option<SoundSite>,
 }
 
 impl Reading {
@@ -59,7 +83,7 @@ impl Reading {
     fn fault_of_site(&mut self, alloc: Global, text: &str) -> Result<String> {
         match read_site(alloc, text.as_bytes()) {
             Ok(site) => {
-                self.site = Some(site);
+                self.site = Some(SoundSite::new(site));
                 Ok(String::new(alloc))
             }
             Err(error) => Ok(error.to_string(alloc)?),
@@ -69,8 +93,8 @@ impl Reading {
     fn fault_of_list(&self, alloc: Global, text: &str) -> Result<String> {
         let site = self.site.as_ref().context("a site before the list")?;
         let text = whole(alloc, text)?;
-        match read_list(alloc, text.as_bytes(), site) {
-            Ok(_) => Ok(String::new(alloc)),
+        match site.read(alloc, text.as_str()) {
+            Ok(()) => Ok(String::new(alloc)),
             Err(error) => Ok(error.to_string(alloc)?),
         }
     }

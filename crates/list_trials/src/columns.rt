@@ -25,6 +25,7 @@ fn site_of(alloc: Global, name: &str) -> Result<Site, AllocError> {
         line: 0,
         unit: 17,
         gap: 8,
+        models: Items::from_vec(Vec::new(alloc)),
     })?;
     Ok(Site {
         lines: Items::from_vec(Vec::<Line>::new(alloc)),
@@ -186,7 +187,7 @@ fn devices_and_tables(rt: HostRuntime) {
 #[test]
 fn addresses_at_their_limits(rt: HostRuntime) {
     use ListFault::*;
-    let cases: [(&str, Option<(ListFault, u8)>); 12] = [
+    let cases: [(&str, Option<(ListFault, u8)>); 11] = [
         ("e,m1,holding,0,uint16,,,gauge,", None),
         ("e,m1,holding,00107,uint16,,,gauge,", None),
         ("e,m1,holding,65535,uint16,,,gauge,", None),
@@ -194,10 +195,6 @@ fn addresses_at_their_limits(rt: HostRuntime) {
         ("e,m1,holding,000107,uint16,,,gauge,", Some((BadAddress, 4))),
         ("e,m1,holding,,uint16,,,gauge,", Some((BadAddress, 4))),
         ("e,m1,holding,+1,uint16,,,gauge,", Some((BadAddress, 4))),
-        (
-            "e,m1,holding,m103+24,uint16,,,gauge,",
-            Some((BadAddress, 4)),
-        ),
         ("e,m1,holding,65534,uint32,,,gauge,", None),
         ("e,m1,holding,65535,uint32,,,gauge,", Some((BadAddress, 4))),
         ("e,m1,holding,65412,string,124,,gauge,", None),

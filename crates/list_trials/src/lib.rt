@@ -8,4 +8,6 @@ mod columns;
 #[cfg(test)]
 mod lists;
 #[cfg(test)]
+mod models;
+#[cfg(test)]
 mod sites;

@@ -2,7 +2,7 @@
 use crate::asserting::{assert_shown, assert_told};
 use crate::columns::{read, read_once, site};
 use mb_pdu::Table;
-use point_list::{ListError, ListFault, Point, Role, read_list, resolve};
+use point_list::{ListError, ListFault, Role, read_list};
 use std::alloc::{AllocError, Global};
 use std::test::Fail;
 
@@ -115,29 +115,8 @@ fn ten_thousand_points(rt: HostRuntime) -> Result<(), Fail> {
 
 const TWO: &str = "e,m1,holding,107,uint16,,,counter,\nf,m1,input,1,int16,,,gauge,\n";
 
-/// The points of a list, and once more where memory was refused.
-fn points(alloc: Global, body: &str) -> Result<Vec<Point>, ListError> {
-    match resolve(alloc, read(alloc, body)?) {
-        Err(e) if e.fault == ListFault::Memory => resolve(alloc, read(alloc, body)?),
-        other => other,
-    }
-}
-
-fn address_at(points: &[Point], place: usize) -> Option<u16> {
-    points.get(place).map(|point| point.address)
-}
-
-#[test]
-fn points_of_rows(rt: HostRuntime) -> Result<(), Fail> {
-    let points = points(rt.alloc(), TWO).ok().ok_or("two points")?;
-    for (place, address) in [(0, Some(107)), (1, Some(1)), (2, None)] {
-        assert_told(&rt, &place, &address_at(&points, place), &address);
-    }
-    Ok(())
-}
-
 fn count_of_points(alloc: Global) -> Result<usize, ListError> {
-    Ok(resolve(alloc, read_once(alloc, TWO)?)?.len())
+    Ok(read_once(alloc, TWO)?.len())
 }
 
 /// Where an allocation is refused the answer is `Memory` and nothing else.
@@ -166,7 +145,9 @@ fn texts_of_faults(rt: HostRuntime) -> Result<(), Fail> {
         (BadRoll, "bad roll"),
         (Twice, "twice"),
         (TooManyPoints, "too many points"),
+        (NoModel, "no model"),
         (BadSite, "bad site"),
+        (PastModel, "past model"),
     ];
     for (fault, text) in cases {
         assert_shown(&rt, rt.alloc(), &fault, text)?;

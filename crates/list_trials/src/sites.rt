@@ -4,6 +4,7 @@ use point_list::{Device, Items, Line, ListError, ListFault, Site, read_site};
 use std::alloc::{AllocError, Global};
 use std::process::Abort;
 use std::test::Fail;
+use sunspec::Model;
 
 const EXAMPLE: &str = "[[line]]
 name = \"roof\"
@@ -44,7 +45,22 @@ fn the_example(rt: HostRuntime) -> Result<(), Fail> {
     assert_told(&rt, &"device", &device.name.as_str(), &"m1");
     let told = (device.line, device.unit, device.gap);
     assert_told(&rt, &"device", &told, &(0, 17, 8));
+    let models = [model(1, 40002, 66), model(103, 40070, 50)];
+    assert_told(
+        &rt,
+        &"models",
+        &device.models.as_slice(),
+        &models.as_slice(),
+    );
     Ok(())
+}
+
+fn model(id: u16, address: u16, length: u16) -> Model {
+    Model {
+        id,
+        address,
+        length,
+    }
 }
 
 #[test]
@@ -171,6 +187,38 @@ fn devices_at_their_limits(rt: HostRuntime) -> Result<(), Fail> {
         assert_fits(&rt, rt.alloc(), members, fits)?;
     }
     Ok(())
+}
+
+#[test]
+fn models_at_their_limits(rt: HostRuntime) -> Result<(), Fail> {
+    for (models, fits) in [
+        ("[]", true),
+        ("[[65534, 65533, 0]]", true),
+        ("[[65534, 65534, 0]]", false),
+        ("[[1, 40002, 25531], [0, 0, 65533]]", true),
+        ("[[1, 40002, 25532]]", false),
+        ("[[0, 0, 65534]]", false),
+        ("[[65535, 0, 0]]", false),
+        ("[[1, 40002]]", false),
+        ("[[1, 40002, 66, 0]]", false),
+        ("[[]]", false),
+        ("[[1, 40002, \"66\"]]", false),
+        ("[[1, -1, 66]]", false),
+        ("[1, 40002, 66]", false),
+        ("66", false),
+    ] {
+        let members = match with_models(rt.alloc(), models) {
+            Ok(members) => members,
+            Err(_) => with_models(rt.alloc(), models)?,
+        };
+        assert_fits(&rt, rt.alloc(), members.as_str(), fits)?;
+    }
+    Ok(())
+}
+
+/// The members of a device with these models.
+fn with_models(alloc: Global, models: &str) -> Result<String, AllocError> {
+    format!(in alloc; "{{name = \"a\", line = \"roof\", unit = 1, models = {models}}}")
 }
 
 #[test]

@@ -1,5 +1,5 @@
 -- A list that is written out, and its meaning computed.
-use Rattle.std.proofs.Common.{◌≡◌, ℕ, List, [], ◌∷◌, Bool, Ok, Err, refl, codes, pos}
+use Rattle.std.proofs.Common.{◌≡◌, ℕ, List, [], ◌∷◌, Bool, None, Ok, Err, refl, codes, pos}
 use Rattle.std.specs.Str.{bytes_eq}
 use Rattle.mb_pdu.specs.declared.table.Table.TheVariants.{Holding}
 use Rattle.sunspec.specs.declared.point_type.PointType.TheVariants.{Uint16}
@@ -35,6 +35,7 @@ counter_row =
     record {
       row = 2;
       point = record { name = codes "e"; device = codes "m1"; table = Holding; address = 107; kind = Uint16; scale = pos 0; role = Counter; roll = 65535 };
+      model = None;
     }
 
 -- the records of the text

@@ -8,7 +8,9 @@ pub mod Checks
 pub mod Judging
 pub mod Whole
 pub mod DeviceNames
+pub mod Models
 pub mod Rows
+pub mod Placing
 pub mod Header
 pub mod OneMeaning
 pub mod OnLiterals

@@ -20,7 +20,7 @@ said_are : (number : ℕ) (rs : List Record) (rows : List ListRow) → SayRows n
 said_are number [] [] h = refl
 said_are number [] (x ∷ xs) h = absurd h
 said_are number (r ∷ rs) [] h = absurd h
-said_are number (r ∷ rs) (x ∷ xs) h = rw (point_is r x.point h.0.point, said_are (number + 1) rs xs h.1, ← h.0.row) refl
+said_are number (r ∷ rs) (x ∷ xs) h = rw (point_is r x.point h.0.point, said_are (number + 1) rs xs h.1, ← h.0.row, ← h.0.model) refl
 
 -- the names before a record are the same when the first record's name is put with the names in front
 further : (names : List (List ℕ)) (r : Record) (rs : List Record) (k : ℕ)

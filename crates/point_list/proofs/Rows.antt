@@ -34,11 +34,11 @@ SayRows-push n m (q ∷ qs) (y ∷ ys) r x e say more = (say.0, SayRows-push (n 
 -- one more row
 pub more_rows : (body : List Row) (i number : ℕ) (x : Row) (rows : List ListRow) (y : ListRow)
     → i < length body → x ≡ get_or body i x → number ≡ i + 2
-    → SayRows 2 (take i (map fields_of body)) rows → y.row ≡ number → Says (fields_of x) y.point
+    → SayRows 2 (take i (map fields_of body)) rows → SaysRow number (fields_of x) y
     → SayRows 2 (take (i + 1) (map fields_of body)) (rows ++ y ∷ [])
-more_rows body i number x rows y lt e place say row says =
+more_rows body i number x rows y lt e place say says =
     let len : length (take i (map fields_of body)) ≡ i = length-take-le i (map fields_of body) (omega (arith, length-map body fields_of)) in
-    rw (next_record body i x lt e) (SayRows-push 2 number (take i (map fields_of body)) rows (fields_of x) y (omega (arith, len)) say (record { row = row; point = says }))
+    rw (next_record body i x lt e) (SayRows-push 2 number (take i (map fields_of body)) rows (fields_of x) y (omega (arith, len)) say says)
 
 -- one more name
 pub more_names : (body : List Row) (i : ℕ) (x : Row) (rows : List ListRow) (y : ListRow) → i < length body → x ≡ get_or body i x

@@ -1,6 +1,6 @@
 -- What the columns of a point list may hold.
-use Rattle.std.specs.Prelude.{ℕ, ◌-◌, ◌^◌, ℤ, pos, List, [], ◌∷◌, Bool, true, false, ◌&&◌, ◌||◌, ◌==◌, Option, Some, None, if◌then◌else◌, nat_le, codes, unwrap_or}
-use Rattle.std.specs.List.{list_any, find}
+use Rattle.std.specs.Prelude.{ℕ, ◌+◌, ◌-◌, ◌^◌, ℤ, pos, List, [], ◌∷◌, take, drop, Bool, true, false, ◌&&◌, ◌||◌, ◌==◌, Option, Some, None, if◌then◌else◌, nat_le, codes, unwrap_or}
+use Rattle.std.specs.List.{list_any, find, position}
 use Rattle.std.specs.Str.{bytes_eq}
 use Rattle.csv.specs.Records.{field_at}
 use Rattle.mb_pdu.specs.declared.table.Table.{Table}
@@ -44,6 +44,31 @@ table_of text =
 
 abbrev pub address_of : List ℕ → Option ℕ
 address_of text = number_of 5 65535 text
+
+-- the identifier of a model; 65,535 is that of the end
+abbrev pub model_id_of : List ℕ → Option ℕ
+model_id_of text = number_of 5 65534 text then (λ id. if nat_le 1 id then Some id else None)
+
+-- an identifier and an offset with a plus between them
+unfoldable pub parts_of : List ℕ → Option (ℕ × ℕ)
+parts_of text =
+    position (λ byte. byte == 43) text then (λ at. model_id_of (take at text) then (λ id.
+    number_of 5 65535 (drop (at + 1) text) then (λ offset. Some (id, offset))))
+
+-- behind an m
+abbrev pub by_model : List ℕ → Option (ℕ × ℕ)
+by_model [] = None
+by_model (first ∷ text) = if first == 109 then parts_of text else None
+
+-- the place by model that an address of holding registers may be: identifier and offset
+abbrev pub model_of : Table → List ℕ → Option (ℕ × ℕ)
+model_of Holding text = by_model text
+model_of table text = None
+
+-- an address by model is 0 until the site says where the model is
+abbrev pub address_unless : Option (ℕ × ℕ) → List ℕ → Option ℕ
+address_unless (Some place) text = Some 0
+address_unless None text = address_of text
 
 -- ---- columns 5 and 6: type and length
 

@@ -10,3 +10,4 @@ pub mod Header
 pub mod FaultTexts
 pub mod ListMeaning
 pub use Rattle.toml_members.specs.Members
+pub mod Resolving

@@ -2,7 +2,7 @@
 use Rattle.std.specs.Prelude.{ℕ, ◌+◌, List, [], ◌∷◌, ◌++◌, Bool, Option, Some, None, Result, Ok, Err, if◌then◌else◌}
 use Rattle.point_list.specs.Columns.{Record, field, ◌then◌}
 use Rattle.point_list.specs.Header.{is_header}
-use Rattle.point_list.specs.Lists.{table_in, address_in, type_in, scale_in, role_in, roll_in, fault_below}
+use Rattle.point_list.specs.Lists.{table_in, address_in, model_in, type_in, scale_in, role_in, roll_in, fault_below}
 use Rattle.point_list.specs.declared.point.Point.{Point}
 use Rattle.point_list.specs.declared.point.ListRow.{ListRow}
 use Rattle.point_list.specs.declared.error.ListError.{ListError}
@@ -19,14 +19,14 @@ point_in r =
     Some (record { name = field r 0; device = field r 1; table = table; address = address; kind = kind; scale = scale; role = role; roll = roll })))))))
 
 -- the row of this number in front of the rows after it, if there is a point
-abbrev pub row_before : ℕ → Option Point → List ListRow → List ListRow
-row_before number None rows = rows
-row_before number (Some point) rows = record { row = number; point = point } ∷ rows
+abbrev pub row_before : ℕ → Option (ℕ × ℕ) → Option Point → List ListRow → List ListRow
+row_before number model None rows = rows
+row_before number model (Some point) rows = record { row = number; point = point; model = model } ∷ rows
 
 -- the rows that these records say, of which the first has this number
 abbrev pub rows_said : ℕ → List Record → List ListRow
 rows_said number [] = []
-rows_said number (r ∷ rs) = row_before number (point_in r) (rows_said (number + 1) rs)
+rows_said number (r ∷ rs) = row_before number (model_in r) (point_in r) (rows_said (number + 1) rs)
 
 -- ---- faults
 

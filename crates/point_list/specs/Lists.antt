@@ -7,7 +7,7 @@ use Rattle.mb_pdu.specs.declared.table.Table.{Table}
 use Rattle.sunspec.specs.declared.point_type.PointType.{PointType}
 use Rattle.sunspec.specs.PointType.{row}
 use Rattle.point_list.specs.Name.{is_name}
-use Rattle.point_list.specs.Columns.{Record, field, ◌then◌, table_of, address_of, is_left_out, named_in, sized, scaled_by, role_of, roll_of}
+use Rattle.point_list.specs.Columns.{Record, field, ◌then◌, table_of, address_unless, model_of, is_left_out, named_in, sized, scaled_by, role_of, roll_of}
 use Rattle.point_list.specs.declared.point.Role.{Role}
 use Rattle.point_list.specs.declared.point.Point.{Point}
 use Rattle.point_list.specs.declared.point.ListRow.{ListRow}
@@ -29,8 +29,12 @@ header =
 unfoldable pub table_in : Record → Option Table
 table_in r = table_of (field r 2)
 
+-- the identifier of a model and the offset in it, where the address is by model
+unfoldable pub model_in : Record → Option (ℕ × ℕ)
+model_in r = table_in r then (λ table. model_of table (field r 3))
+
 unfoldable pub address_in : Record → Option ℕ
-address_in r = address_of (field r 3)
+address_in r = address_unless (model_in r) (field r 3)
 
 unfoldable pub name_of_type_in : Record → Option PointType
 name_of_type_in r = table_in r then (λ table. named_in table (field r 4))
@@ -130,6 +134,7 @@ pub record Says (r : Record) (point : Point) : Type 0 where
 pub record SaysRow (number : ℕ) (r : Record) (said : ListRow) : Type 0 where
   pub row : said.row ≡ number
   pub point : Says r said.point
+  pub model : said.model ≡ model_in r
 
 -- these records, of which the first has this number, say these rows
 abbrev pub SayRows : ℕ → List Record → List ListRow → Type 0

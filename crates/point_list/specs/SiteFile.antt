@@ -1,7 +1,8 @@
 -- What a document of TOML says of a site.
 use Rattle.std.specs.Prelude.{◌≡◌, ℕ, List, Option, Some, None, Result, Ok, Err, if◌then◌else◌, nat_le, length, codes, ⊤}
-use Rattle.toml.specs.Data.{Data, Members, as_table}
-use Rattle.toml_members.specs.Members.{◌>>=◌, each, entries_at, number_at, optional_at, text_at}
+use Rattle.toml.specs.Data.{Data, Items, Members, as_array, as_table, item, no_items}
+use Rattle.toml_members.specs.Members.{◌>>=◌, each, entries_at, number_at, number_in, optional_at, optional_entries_at, text_at}
+use Rattle.sunspec.specs.declared.chain.Model.{Model}
 use Rattle.point_list.specs.declared.site.Site.{Site}
 use Rattle.point_list.specs.declared.site.Line.{Line}
 use Rattle.point_list.specs.declared.site.Device.{Device}
@@ -42,7 +43,23 @@ line_in d = do
   address ← text_at (codes "address") t
   Some (record { name = name; address = address })
 
--- a device: a name, a line of the site, a unit identifier, and a gap that may be missing
+-- a model: identifier, address and length; the identifier 65,535 is that of the end
+abbrev pub model_of : Items → Option Model
+model_of (item id (item address (item long no_items))) = do
+  id ← number_in 65534 id
+  address ← number_in 65535 address
+  long ← number_in 65535 long
+  Some (record { id = id; address = address; length = long })
+model_of _ = None
+
+abbrev pub model_in : Data → Option Model
+model_in d = as_array d >>= model_of
+
+-- the models of a device, which may be missing
+unfoldable pub models_of : Members → Option (List Model)
+models_of t = optional_entries_at (codes "models") t >>= each model_in
+
+-- a device: a name, a line of the site, a unit identifier, and a gap and models that may be missing
 unfoldable pub device_in : List Line → Data → Option Device
 device_in lines d = do
   t ← as_table d
@@ -51,7 +68,8 @@ device_in lines d = do
   place ← line_of lines line
   unit ← number_at (codes "unit") 255 t
   gap ← optional_at (codes "gap") 124 t
-  Some (record { name = name; line = place; unit = unit; gap = gap })
+  models ← models_of t
+  Some (record { name = name; line = place; unit = unit; gap = gap; models = models })
 
 -- the lines of a document, at most 64
 unfoldable pub lines_of : Members → Option (List Line)

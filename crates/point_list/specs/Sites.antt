@@ -1,7 +1,8 @@
 -- Sites whose parts agree with each other.
-use Rattle.std.specs.Prelude.{◌≡◌, ℕ, List, [], ◌∷◌, Option, Bool, true, not, ◌&&◌, ◌==◌, nat_le, nat_lt, length}
+use Rattle.std.specs.Prelude.{◌≡◌, ℕ, ◌+◌, List, [], ◌∷◌, Option, Bool, true, not, ◌&&◌, ◌==◌, nat_le, nat_lt, length}
 use Rattle.std.specs.List.{find, list_any, list_all, position}
 use Rattle.std.specs.Str.{bytes_eq}
+use Rattle.sunspec.specs.declared.chain.Model.{Model}
 use Rattle.point_list.specs.declared.site.Site.{Site}
 use Rattle.point_list.specs.declared.site.Line.{Line}
 use Rattle.point_list.specs.declared.site.Device.{Device}
@@ -39,11 +40,19 @@ same_place x y = (x.line == y.line) && (x.unit == y.unit)
 abbrev pub have_lines : ℕ → List Device → Bool
 have_lines lines devices = list_all (λ (d : Device). nat_lt d.line lines) devices
 
--- there are at most 64 lines and 256 devices, names differ, each device has a line, and no two share line and unit
+-- each device's models end before the last address
+abbrev pub has_room : Model → Bool
+has_room model = nat_le (model.address + 2 + model.length) 65535
+
+abbrev pub have_room : List Device → Bool
+have_room devices = list_all (λ (d : Device). list_all has_room d.models) devices
+
+-- there are at most 64 lines and 256 devices, names differ, each device has a line, no two share line and unit, and
+-- models end before the last address
 abbrev pub is_sound : List Line → List Device → Bool
 is_sound lines devices =
     nat_le (length lines) 64 && (nat_le (length devices) 256 && (all_differ same_line_name lines
-    && (all_differ same_device_name devices && (have_lines (length lines) devices && all_differ same_place devices))))
+    && (all_differ same_device_name devices && (have_lines (length lines) devices && (all_differ same_place devices && have_room devices)))))
 
 -- a site whose parts agree
 abbrev pub IsSound : Site → Type 0

@@ -1,10 +1,10 @@
 //! Reading the columns of a record.
-ghost use Rattle.std.specs.Prelude.{◌≡◌, ◌≤◌, ◌-◌, ◌^◌};
-ghost use Rattle.std.specs.List.{list_any};
+ghost use Rattle.std.specs.Prelude.{◌≡◌, ◌≤◌, ◌-◌, ◌^◌, ◌==◌};
+ghost use Rattle.std.specs.List.{list_any, position};
 ghost use Rattle.std.specs.Str.{bytes_eq};
 ghost use Rattle.csv.specs.Records.{fields_of};
 ghost use Rattle.sunspec.specs.PointType.{IsSized, named};
-ghost use Rattle.point_list.specs.Columns.{field, table_of, address_of, is_left_out, in_table, named_in, sized, is_scaled, scaled_by, can_count, can_be_set, can_be_written, role_of, roll_of, roll_given, scale_in, greatest_of};
+ghost use Rattle.point_list.specs.Columns.{field, table_of, address_of, address_unless, by_model, model_id_of, model_of, parts_of, is_left_out, in_table, named_in, sized, is_scaled, scaled_by, can_count, can_be_set, can_be_written, role_of, roll_of, roll_given, scale_in, greatest_of};
 
 use crate::point::Role;
 use csv::ByteRecord;
@@ -38,12 +38,75 @@ pub(crate) fn table_named(text: &[u8]) -> Option<Table>
     }
 }
 
-pub(crate) fn address_in(text: &[u8]) -> Option<u16>
+fn address_in(text: &[u8]) -> Option<u16>
     ensures { result ≡ address_of text.now }
 {
     match digits::number(text, 5, 65535) {
         Some(address) => Some(address as u16),
         None => None,
+    }
+}
+
+/// The identifier of a model; 65,535 is that of the end.
+fn model_id_in(text: &[u8]) -> Option<u16>
+    ensures { result ≡ model_id_of text.now }
+{
+    match digits::number(text, 5, 65534) {
+        Some(id) if id >= 1 => Some(id as u16),
+        _ => None,
+    }
+}
+
+fn plus_in(text: &[u8]) -> Option<usize>
+    ensures { result ≡ position (λ byte. byte == 43) text.now }
+{
+    text.iter().position(|byte| *byte == b'+')
+}
+
+/// The identifier of a model and an offset in it, with a plus between them.
+#[tactic(auto, unfolding(crate::specs::Columns::parts_of))]
+fn parts_in(text: &[u8]) -> Option<(u16, u16)>
+    ensures { result ≡ parts_of text.now }
+{
+    let Some(at) = plus_in(text) else {
+        return None;
+    };
+    let Some(id) = model_id_in(&text[..at]) else {
+        return None;
+    };
+    let Some(offset) = address_in(&text[at + 1..]) else {
+        return None;
+    };
+    Some((id, offset))
+}
+
+/// The same behind an `m`.
+fn by_model(text: &[u8]) -> Option<(u16, u16)>
+    ensures { result ≡ by_model text.now }
+{
+    match text.split_first() {
+        Some((first, rest)) if *first == b'm' => parts_in(rest),
+        _ => None,
+    }
+}
+
+/// The place by model that an address of holding registers may be: the identifier and the offset.
+pub(crate) fn model_in(table: Table, text: &[u8]) -> Option<(u16, u16)>
+    ensures { result ≡ model_of table text.now }
+{
+    match table {
+        Table::Holding => by_model(text),
+        _ => None,
+    }
+}
+
+/// The address of its column: 0 for a place by model.
+pub(crate) fn address_unless(model: Option<(u16, u16)>, text: &[u8]) -> Option<u16>
+    ensures { result ≡ address_unless model text.now }
+{
+    match model {
+        Some(_) => Some(0),
+        None => address_in(text),
     }
 }
 

@@ -17,7 +17,8 @@ pub enum ListFault {
     UnknownDevice,
     /// The table is none of `coil`, `discrete`, `input`, `holding`.
     BadTable,
-    /// The address isn't 1 to 5 digits up to 65,535, or the point passes the last address.
+    /// The address is neither 1 to 5 digits up to 65,535 nor, of holding registers, a place by model
+    /// (`m103+24`), or the point passes the last address.
     BadAddress,
     /// The type's name is unknown, or `bit` stands with registers, or another type with bits.
     BadType,
@@ -37,8 +38,12 @@ pub enum ListFault {
     TooManyPoints,
     /// Memory was refused.
     Memory,
+    /// The site has no model of this identifier for the device.
+    NoModel,
     /// The text is no site file.
     BadSite,
+    /// The point passes the end of its model.
+    PastModel,
 }
 
 impl fmt::Display for ListFault {
@@ -64,7 +69,9 @@ impl fmt::Display for ListFault {
             ListFault::Twice => "twice",
             ListFault::TooManyPoints => "too many points",
             ListFault::Memory => "memory",
+            ListFault::NoModel => "no model",
             ListFault::BadSite => "bad site",
+            ListFault::PastModel => "past model",
         })
     }
 }

@@ -5,12 +5,12 @@ ghost use Rattle.std.specs.Str.{bytes_eq};
 ghost use Rattle.csv.specs.Records.{fields_of};
 ghost use Rattle.point_list.specs.Label.{is_label};
 ghost use Rattle.point_list.specs.Texts.{has_text};
-ghost use Rattle.point_list.specs.Lists.{Says, ends_in_time, fault_below, first_failed, meaning_checks, place_checks, names_of, table_in};
+ghost use Rattle.point_list.specs.Lists.{SaysRow, ends_in_time, fault_below, first_failed, meaning_checks, place_checks, names_of, table_in};
 ghost use Rattle.point_list.specs.Judged.{SaysPlace, SaysMeaning};
 
 use crate::columns::{
-    address_in, field_of, is_left_out, role_in, roll_in, scale_in, table_named, type_named,
-    type_sized,
+    address_unless, field_of, is_left_out, model_in, role_in, roll_in, scale_in, table_named,
+    type_named, type_sized,
 };
 use crate::error::ListFault;
 use crate::label::Label;
@@ -28,6 +28,7 @@ pub(crate) struct Place {
     device: Label,
     table: Table,
     address: u16,
+    model: Option<(u16, u16)>,
 }
 
 /// Columns 5 to 9: what a point means.
@@ -53,7 +54,7 @@ fn device_named(devices: &Texts<'_>, text: &[u8]) -> Option<Label>
     }
 }
 
-#[tactic(auto, unfolding(crate::specs::Lists::table_in, crate::specs::Lists::address_in))]
+#[tactic(auto, unfolding(crate::specs::Lists::table_in, crate::specs::Lists::model_in, crate::specs::Lists::address_in))]
 fn place_in(
     devices: &Texts<'_>,
     before: usize,
@@ -79,7 +80,8 @@ fn place_in(
     let Some(table) = table_named(field_of(record, 2)) else {
         return Err((ListFault::BadTable, 3));
     };
-    let Some(address) = address_in(field_of(record, 3)) else {
+    let model = model_in(table, field_of(record, 3));
+    let Some(address) = address_unless(model, field_of(record, 3)) else {
         return Err((ListFault::BadAddress, 4));
     };
     Ok(Place {
@@ -87,6 +89,7 @@ fn place_in(
         device,
         table,
         address,
+        model,
     })
 }
 
@@ -129,18 +132,19 @@ fn ends_in_time(address: u16, kind: PointType) -> bool
     address as u32 + kind.registers() as u32 <= 65536
 }
 
-/// The point of a record below these rows, whose names the set has, or its first fault.
+/// The row of a record of this number below these rows, whose names the set has, or its first fault.
 #[tactic(auto, unfolding(crate::specs::Lists::fault_below))]
-pub(crate) fn point_in(
+pub(crate) fn row_in(
     devices: &Texts<'_>,
     names: &Texts<'_>,
     rows: &[ListRow],
+    number: u32,
     record: &ByteRecord,
-) -> Result<Point, (ListFault, u8)>
+) -> Result<ListRow, (ListFault, u8)>
     requires devices { (text : List ℕ) → has_text devices.now text ≡ true → is_label text ≡ true }
     requires names { (text : List ℕ) → has_text names.now text ≡ list_any (λ name. bytes_eq text name) (names_of rows.now) }
-    ensures point { IfOk result (λ x. (fault_below (has_text devices.now) (names_of rows.now) (fields_of record.now) ≡ None)
-        × Says (fields_of record.now) x) }
+    ensures row { IfOk result (λ x. (fault_below (has_text devices.now) (names_of rows.now) (fields_of record.now) ≡ None)
+        × SaysRow number (fields_of record.now) x) }
     ensures fault { IfErr result (λ e. fault_below (has_text devices.now) (names_of rows.now) (fields_of record.now) ≡ Some e) }
 {
     let place = match place_in(devices, rows.len(), record) {
@@ -157,7 +161,7 @@ pub(crate) fn point_in(
     if names.has(place.name.as_bytes()) {
         return Err((ListFault::Twice, 1));
     }
-    Ok(Point {
+    let point = Point {
         name: place.name,
         device: place.device,
         table: place.table,
@@ -166,5 +170,10 @@ pub(crate) fn point_in(
         scale: meaning.scale,
         role: meaning.role,
         roll: meaning.roll,
+    };
+    Ok(ListRow {
+        row: number,
+        point,
+        model: place.model,
     })
 }

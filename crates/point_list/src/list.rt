@@ -12,9 +12,9 @@ ghost use Rattle.std.specs.Prelude.{length};
 
 use crate::columns::field_of;
 use crate::error::{ListError, ListFault};
-use crate::judge::point_in;
+use crate::judge::row_in;
 use crate::label::is_label;
-use crate::point::{ListRow, Point};
+use crate::point::ListRow;
 use crate::site::{Device, Site};
 use crate::texts::Texts;
 use csv::{ByteRecord, ErrorKind, ReaderBuilder};
@@ -101,14 +101,14 @@ fn rows_of(
     let mut names = Texts::new(alloc);
     let mut number = 2;
     for record in body {
-        let point = match point_in(devices, &names, rows.as_slice(), record) {
-            Ok(point) => point,
+        let row = match row_in(devices, &names, rows.as_slice(), number, record) {
+            Ok(row) => row,
             Err((fault, column)) => return Err(ListError::new(fault, number, column)),
         };
         if names.add(field_of(record, 0)).is_err() {
             return Err(ListError::memory());
         }
-        if rows.push(ListRow { row: number, point }).is_err() {
+        if rows.push(row).is_err() {
             return Err(ListError::memory());
         }
         number += 1;
@@ -150,17 +150,6 @@ pub fn read_list(alloc: Global, bytes: &[u8], site: &Site) -> Result<Vec<ListRow
 {
     match records(alloc, bytes) {
         Ok(list) => rows_in(alloc, site, list.as_slice()),
-        Err(_) => Err(ListError::memory()),
-    }
-}
-
-/// The points of a list's rows, in their order.
-pub fn resolve(alloc: Global, rows: Vec<ListRow>) -> Result<Vec<Point>, ListError>
-    ensures points { IfOk result (λ v. v.items ≡ map (λ row. row.point) rows.items) }
-    ensures memory { IfErr result (λ e. IsMemory e) }
-{
-    match rows.iter().map(|row| row.point).collect(alloc) {
-        Ok(points) => Ok(points),
         Err(_) => Err(ListError::memory()),
     }
 }

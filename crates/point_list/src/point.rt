@@ -52,5 +52,9 @@ pub struct Point {
 pub struct ListRow {
     /// The number of the record, of which the header is 1.
     pub row: u32,
+    /// A point that is placed by its model has the address 0 until `resolve` gives it its own.
     pub point: Point,
+    /// The identifier of the model by which the point is placed, and the offset of its first register
+    /// from that of the identifier.
+    pub model: Option<(u16, u16)>,
 }

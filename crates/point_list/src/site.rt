@@ -6,6 +6,7 @@ ghost use Rattle.point_list.specs.Sites.{device_of, line_of};
 use crate::items::Items;
 use crate::site_file::is_sound;
 use crate::text::Text;
+use sunspec::Model;
 
 /// A line: a TCP connection behind which devices answer.
 #[derive(Debug, Drop)]
@@ -34,6 +35,8 @@ pub struct Device {
     pub unit: u8,
     /// How many addresses that no point lists may be read along between two that are, 0 to 124.
     pub gap: u16,
+    /// Its chain of models, as `sunspec::discover` finds it; empty where it isn't known or there is none.
+    pub models: Items<Model>,
 }
 
 impl Device {
@@ -58,8 +61,8 @@ impl Site {
     ghost use Rattle.point_list.specs.Sites as sites;
 
     /// Whether its parts agree: at most 64 lines and 256 devices, names that differ, a line for each
-    /// device, and no two devices that share line and unit identifier. A site that `read_site` gives
-    /// is so.
+    /// device, no two devices that share line and unit identifier, and models that end before the
+    /// last address. A site that `read_site` gives is so.
     pub fn is_sound(&self) -> bool
         ensures { result ≡ sites.is_sound self.now.lines self.now.devices }
     {

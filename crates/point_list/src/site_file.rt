@@ -4,9 +4,9 @@ ghost use Rattle.std.specs.List.{list_all, list_any, position};
 ghost use Rattle.std.specs.Str.{bytes_eq};
 ghost use Rattle.toml.specs.Data.{Members};
 ghost use Rattle.toml.specs.View.{table_view, view, items_view};
-ghost use Rattle.point_list.specs.Sites.{IsSound, all_differ, line_of, have_lines, is_sound, same_line_name, same_device_name, same_place};
+ghost use Rattle.point_list.specs.Sites.{IsSound, all_differ, line_of, have_lines, have_room, has_room, is_sound, same_line_name, same_device_name, same_place};
 ghost use Rattle.toml_members.specs.Members.{IsDocument, each, text_at};
-ghost use Rattle.point_list.specs.SiteFile.{Gives, bad_site, no_memory, device_in, devices_of, line_in, lines_of, name_at, site_of};
+ghost use Rattle.point_list.specs.SiteFile.{Gives, bad_site, no_memory, device_in, devices_of, line_in, lines_of, model_in, model_of, models_of, name_at, site_of};
 
 use crate::error::{ListError, ListFault};
 use crate::items::Items;
@@ -14,8 +14,9 @@ use crate::name::is_name;
 use crate::site::{Device, Line, Site};
 use crate::text::Text;
 use std::alloc::Global;
+use sunspec::Model;
 use toml::{Table, Value};
-use toml_members::{entries_at, number_at, optional_at, text_at};
+use toml_members::{entries_at, number_at, number_in, optional_at, optional_entries_at, text_at};
 
 /// Why there is no site.
 #[derive(Clone, Copy, Debug, PartialEq, Eq)]
@@ -81,6 +82,58 @@ fn line_named(lines: &[Line], name: &str) -> Option<u16>
     Some(place as u16)
 }
 
+/// The model of three numbers.
+fn model_of(entries: &[Value]) -> Option<Model>
+    ensures { result ≡ model_of (items_view entries.now) }
+{
+    if entries.len() != 3 {
+        return None;
+    }
+    let Some(id) = number_in(&entries[0], 65534) else {
+        return None;
+    };
+    let Some(address) = number_in(&entries[1], 65535) else {
+        return None;
+    };
+    let Some(length) = number_in(&entries[2], 65535) else {
+        return None;
+    };
+    Some(Model {
+        id: id as u16,
+        address: address as u16,
+        length: length as u16,
+    })
+}
+
+fn model_in(entry: &Value) -> Result<Model, Refusal>
+    ensures { Gives (λ model. model) result (model_in (view entry.now)) }
+{
+    match entry {
+        Value::Array(entries) => model_of(entries.as_slice()).ok_or(Refusal::BadSite),
+        _ => Err(Refusal::BadSite),
+    }
+}
+
+fn models_in(alloc: Global, entries: &[Value]) -> Result<Vec<Model>, Refusal>
+    ensures { Gives (λ v. v.items) result (each model_in (items_view entries.now)) }
+{
+    let mut models = Vec::new(alloc);
+    for entry in entries {
+        let model = model_in(entry)?;
+        models.push(model).map_err(|_| Refusal::Memory)?;
+    }
+    Ok(models)
+}
+
+#[tactic(auto, unfolding(crate::specs::SiteFile::models_of))]
+fn models_of(alloc: Global, table: &Table) -> Result<Items<Model>, Refusal>
+    ensures { Gives (λ models. models) result (models_of (table_view table.now)) }
+{
+    let entries = optional_entries_at(table, "models").ok_or(Refusal::BadSite)?;
+    let models = models_in(alloc, entries)?;
+    Ok(Items::from_vec(models))
+}
+
 #[tactic(auto, unfolding(crate::specs::SiteFile::device_in))]
 fn device_in(alloc: Global, lines: &[Line], entry: &Value) -> Result<Device, Refusal>
     requires { length lines.now ≤ 64 }
@@ -92,11 +145,13 @@ fn device_in(alloc: Global, lines: &[Line], entry: &Value) -> Result<Device, Ref
     let line = line_named(lines, line).ok_or(Refusal::BadSite)?;
     let unit = number_at(table, "unit", 255).ok_or(Refusal::BadSite)?;
     let gap = optional_at(table, "gap", 124).ok_or(Refusal::BadSite)?;
+    let models = models_of(alloc, table)?;
     Ok(Device {
         name,
         line,
         unit: unit as u8,
         gap: gap as u16,
+        models,
     })
 }
 
@@ -189,6 +244,26 @@ fn have_lines(lines: &[Line], devices: &[Device]) -> bool
         .all(|device| (device.line as usize) < lines.len())
 }
 
+fn has_room(model: &Model) -> bool
+    ensures { result ≡ has_room model.now }
+{
+    model.address as u32 + 2 + model.length as u32 <= 65535
+}
+
+fn models_have_room(models: &[Model]) -> bool
+    ensures { result ≡ list_all has_room models.now }
+{
+    models.iter().all(|model| has_room(model))
+}
+
+fn have_room(devices: &[Device]) -> bool
+    ensures { result ≡ have_room devices.now }
+{
+    devices
+        .iter()
+        .all(|device| models_have_room(device.models.as_slice()))
+}
+
 pub(crate) fn is_sound(lines: &[Line], devices: &[Device]) -> bool
     ensures { result ≡ is_sound lines.now devices.now }
 {
@@ -198,6 +273,7 @@ pub(crate) fn is_sound(lines: &[Line], devices: &[Device]) -> bool
         && device_names_differ(devices)
         && have_lines(lines, devices)
         && device_places_differ(devices)
+        && have_room(devices)
 }
 
 #[tactic(auto, unfolding(crate::specs::SiteFile::lines_of))]
@@ -241,10 +317,12 @@ fn site_in(alloc: Global, document: &Table) -> Result<Site, Refusal>
 }
 
 /// Reads a site file: TOML with the tables `[[line]]` (`name`, `address`) and `[[device]]`
-/// (`name`, `line`, `unit` 0 to 255, and `gap` 0 to 124, which is 0 if missing). Other members are
-/// ignored. It refuses with `BadSite` where the text is no TOML, a member is missing or ill-typed,
-/// a name is used twice, a line is unknown, two devices share line and unit identifier, or there
-/// are more than 64 lines or 256 devices. `docs/FORMATS.md` has an example.
+/// (`name`, `line`, `unit` 0 to 255, `gap` 0 to 124, which is 0 if missing, and `models`, which may
+/// be missing: of each model its identifier 0 to 65,534, its address and its length). Other members
+/// are ignored. It refuses with `BadSite` where the text is no TOML, a member is missing or ill-typed,
+/// a name is used twice, a line is unknown, two devices share line and unit identifier, a model
+/// passes the last address but one, or there are more than 64 lines or 256 devices.
+/// `docs/FORMATS.md` has an example.
 pub fn read_site(alloc: Global, bytes: &[u8]) -> Result<Site, ListError>
     // What is read is the site of the document that the bytes are.
     ensures site { IfOk result (λ s. (doc : Members) × IsDocument bytes.now doc × (site_of doc ≡ Some s)) }

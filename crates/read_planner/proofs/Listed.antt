@@ -1,7 +1,8 @@
 -- The points of a list's rows can be read.
-use Rattle.std.proofs.Common.{◌≡◌, ◌+◌, ◌<◌, ◌≤◌, ℕ, zero, suc, Bool, true, false, cond, List, [], ◌∷◌, ◌++◌, length, get_or, All, Option, Some, None, refl, subst, arith}
+use Rattle.std.proofs.Common.{◌≡◌, ◌+◌, ◌<◌, ◌≤◌, ℕ, zero, suc, Bool, true, false, cond, List, [], ◌∷◌, ◌++◌, length, map, get_or, All, Option, Some, None, refl, subst, arith}
 use Rattle.std.specs.Prelude.{nat_le, ◌&&◌, ◌==◌}
 use Rattle.std.proofs.lemmas.Bool.{and_parts, leb-true}
+use Rattle.std.proofs.lemmas.List.Elements.{All-map}
 use Rattle.std.proofs.lemmas.Option.{cond_some, none-some, same_Some}
 use Rattle.mb_pdu.specs.declared.table.Table.{Table}
 use Rattle.mb_pdu.specs.declared.table.Table.TheVariants.{Coil, Discrete, Input, Holding}
@@ -14,6 +15,10 @@ use Rattle.point_list.specs.declared.point.ListRow.{ListRow}
 use Rattle.point_list.specs.declared.point.Point.{Point}
 use Rattle.point_list.specs.Columns.{Record, field, ◌then◌, sized, unsized}
 use Rattle.point_list.specs.Lists.{AreRows, Check, Says, SayRows, address_in, ends_in_time, fault_below, first_failed, meaning_checks, name_of_type_in, place_checks, type_in, whole_checks}
+use Rattle.point_list.specs.Resolving.{first_misplaced, point_placed}
+use Rattle.point_list.specs.Sites.{IsSound}
+use Rattle.point_list.specs.declared.site.Site.{Site}
+use Rattle.point_list.proofs.Placing.{none_misplaced, placed_inside}
 use Rattle.read_planner.specs.Place.{CanBeRead, size_in}
 
 -- ---- types have a size
@@ -89,16 +94,26 @@ in_table Discrete registers some = some
 in_table Input registers some = omega arith
 in_table Holding registers some = omega arith
 
--- the point that a faultless record says can be read
-said_fits : (known : List ℕ → Bool) (names : List (List ℕ)) (r : Record) (point : Point) → fault_below known names r ≡ None → Says r point → CanBeRead point
-said_fits known names r point none says =
+-- a point whose type has a size can be read, where its registers would end by the last address
+readable : (point : Point) → IsSized point.kind → point.address + (row point.kind).registers ≤ 65536 → CanBeRead point
+readable point is last =
+    let size : size_in point.table (row point.kind).registers ≤ (row point.kind).registers = in_table point.table (row point.kind).registers (some_registers point.kind is) in
+    record { sized = is; inside = omega (arith, last, size) }
+
+-- the point of a faultless record ends by the last address, whatever table it is in
+said_ends : (known : List ℕ → Bool) (names : List (List ℕ)) (r : Record) (point : Point) → fault_below known names r ≡ None → Says r point
+    → IsSized point.kind × (point.address + (row point.kind).registers ≤ 65536)
+said_ends known names r point none says =
     let P : Option ℕ → Type 0 = λ address. ends_in_time address (type_in r) ≡ true in
     let Q : Option PointType → Type 0 = λ kind. ends_in_time (Some point.address) kind ≡ true in
     let in_time : ends_in_time (Some point.address) (Some point.kind) ≡ true = subst Q says.kind (subst P says.address (ends known names r none)) in
-    let last : point.address + (row point.kind).registers ≤ 65536 = leb-true (point.address + (row point.kind).registers) 65536 in_time in
-    let is : IsSized point.kind = type_fits r point.kind says.kind in
-    let size : size_in point.table (row point.kind).registers ≤ (row point.kind).registers = in_table point.table (row point.kind).registers (some_registers point.kind is) in
-    record { sized = is; inside = omega (arith, last, size) }
+    (type_fits r point.kind says.kind, leb-true (point.address + (row point.kind).registers) 65536 in_time)
+
+-- the point that a faultless record says can be read
+said_fits : (known : List ℕ → Bool) (names : List (List ℕ)) (r : Record) (point : Point) → fault_below known names r ≡ None → Says r point → CanBeRead point
+said_fits known names r point none says =
+    let fits = said_ends known names r point none says in
+    readable point fits.0 fits.1
 
 -- ---- rows
 
@@ -116,3 +131,14 @@ pub listed : (known : List ℕ → Bool) (list : List Record) (rows : List ListR
 listed known list rows are = λ k d lt.
     let said = row_said 2 are.body rows are.say k d lt in
     said_fits known _ (get_or are.body k []) (get_or rows k d).point (are.faultless k said.0) said.1
+
+-- ---- points placed by model
+
+pub listed_placed : (site : Site) (known : List ℕ → Bool) (list : List Record) (rows : List ListRow) → IsSound site → AreRows known list rows
+    → first_misplaced site rows ≡ None → All CanBeRead (map (point_placed site) rows)
+listed_placed site known list rows sound are none =
+    All-map CanBeRead (point_placed site) rows (λ k d lt.
+    let said = row_said 2 are.body rows are.say k d lt in
+    let row : ListRow = get_or rows k d in
+    let fits = said_ends known _ (get_or are.body k []) row.point (are.faultless k said.0) said.1 in
+    readable (point_placed site row) fits.0 (placed_inside site row sound (none_misplaced site rows none k d lt) fits.1))

@@ -1,8 +1,11 @@
 //! Laws of the definitions.
-ghost use Rattle.std.specs.Prelude.{◌≡◌, ℕ, List, All, Bool};
+ghost use Rattle.std.specs.Prelude.{◌≡◌, ℕ, List, All, Bool, None, map};
 ghost use Rattle.point_list.specs.declared.point.ListRow.{ListRow};
 ghost use Rattle.point_list.specs.Columns.{Record};
 ghost use Rattle.point_list.specs.Lists.{AreRows};
+ghost use Rattle.point_list.specs.Resolving.{first_misplaced, point_placed};
+ghost use Rattle.point_list.specs.Sites.{IsSound};
+ghost use Rattle.point_list.specs.declared.site.Site.{Site};
 ghost use Rattle.read_planner.specs.declared.Read.{Read};
 ghost use Rattle.read_planner.specs.declared.place.Place.{Place};
 ghost use Rattle.read_planner.specs.Allowed.{HoldsAll};
@@ -14,7 +17,10 @@ pub fn one_plan()
     ensures { (places : List Place) (gap : ℕ) (reads others : List Read) → AreChosen places gap reads → HoldsAll reads places → AreChosen places gap others → HoldsAll others places → reads ≡ others }
 {}
 
-/// The points of a list's rows, as `read_list` gives them, are points that `plan` takes.
+/// The points of a list's rows, as `read_list` gives them, are points that `plan` takes, and so they are at the
+/// addresses that `resolve` gives them.
 pub fn listed_points()
-    ensures { (known : List ℕ → Bool) (list : List Record) (rows : List ListRow) → AreRows known list rows → All (λ (x : ListRow). CanBeRead x.point) rows }
+    ensures rows { (known : List ℕ → Bool) (list : List Record) (rows : List ListRow) → AreRows known list rows → All (λ (x : ListRow). CanBeRead x.point) rows }
+    ensures points { (site : Site) (known : List ℕ → Bool) (list : List Record) (rows : List ListRow) → IsSound site → AreRows known list rows
+        → first_misplaced site rows ≡ None → All CanBeRead (map (point_placed site) rows) }
 {}

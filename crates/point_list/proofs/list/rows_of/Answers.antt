@@ -1,4 +1,4 @@
-use Rattle.std.proofs.Common.{◌≡◌, ◌<◌, ◌||◌, ◌∙◌, ◌∷◌, [], arith, rules, length, below_more, true, sym, ap, refl}
+use Rattle.std.proofs.Common.{◌≡◌, ◌<◌, ◌||◌, ◌∙◌, ◌∷◌, [], arith, rules, length, below_more, true, sym, ap}
 use Rattle.std.proofs.lemmas.List.{length-map, length-append}
 use Rattle.std.specs.List.{list_any}
 use Rattle.std.specs.Str.{bytes_eq}
@@ -19,9 +19,9 @@ loop-record-preserved c =
     let i = c.loop-record.record-index in
     let rows = c.loop-record.rows.items in
     let x = c.record-item.result in
-    let y : ListRow = record { row = c.loop-record.number; point = c.in-Ok.point } in
+    let y : ListRow = c.in-Ok.row in
     let lt : i < length body = omega arith in
-    let judged = rw c.as_slice.ensures.value at c.in-Ok.ensures.point in
+    let judged = rw c.as_slice.ensures.value at c.in-Ok.ensures.row in
     let pushed : is_ok c.push.result ≡ true = search rules in
     let items = rw pushed at c.push.ensures.items in
     let good : is_ok c.add.result ≡ true = search rules in
@@ -32,10 +32,10 @@ loop-record-preserved c =
       count = rw items (omega (arith, length-append rows (y ∷ [])));
       few = omega (arith, few, length-map rows (λ (z : ListRow). z.point.name));
       faultless = below_more _ _ inv.faultless (more_faultless (has_text c.args.devices.now) body i x (names_of rows) _ lt c.record-item.is inv.named judged.0);
-      say = rw items (more_rows body i c.loop-record.number x rows y lt c.record-item.is inv.number inv.say refl judged.1);
-      named = rw items (more_names body i x rows y lt c.record-item.is inv.named judged.1);
+      say = rw items (more_rows body i c.loop-record.number x rows y lt c.record-item.is inv.number inv.say judged.1);
+      named = rw items (more_names body i x rows y lt c.record-item.is inv.named judged.1.point);
       known = λ text. rw items (
           added text ∙ ap (λ b. bytes_eq text (field (fields_of x) 0) || b) (inv.known text)
-          ∙ sym (known_more rows y text ∙ ap (λ name. bytes_eq text name || list_any (λ n. bytes_eq text n) (names_of rows)) judged.1.name)
+          ∙ sym (known_more rows y text ∙ ap (λ name. bytes_eq text name || list_any (λ n. bytes_eq text n) (names_of rows)) judged.1.point.name)
           );
     }

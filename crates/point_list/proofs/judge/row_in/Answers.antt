@@ -1,4 +1,4 @@
-use Rattle.std.proofs.Common.{◌≡◌, ◌∙◌, sym, ap, true, false, rules}
+use Rattle.std.proofs.Common.{◌≡◌, ◌∙◌, sym, ap, refl, true, false, rules}
 use Rattle.std.specs.List.{list_any}
 use Rattle.std.specs.Str.{bytes_eq}
 use Rattle.csv.specs.Records.{fields_of}
@@ -6,7 +6,7 @@ use Rattle.point_list.specs.Columns.{field}
 use Rattle.point_list.specs.Lists.{names_of}
 use Rattle.point_list.specs.Texts.{has_text}
 use Rattle.point_list.proofs.Judging.{below-meaning, below-twice, below-none}
-use Rattle.point_list.proofs.judge.point_in.Goals as goal
+use Rattle.point_list.proofs.judge.row_in.Goals as goal
 
 pub returns-in-Err-meaning_in-clause-fault : goal.returns-in-Err-meaning_in-clause-fault
 returns-in-Err-meaning_in-clause-fault c =
@@ -21,8 +21,8 @@ returns-then-has-clause-fault c =
     below-twice (has_text c.args.devices.now) c.args.rows.now (fields_of c.args.record.now) c.in-Ok.place.address c.in-Ok-meaning_in.meaning.kind place.0 meaning.0 place.1.address meaning.1.kind
     (sym c.ends_in_time.ensures ∙ c.if-not-ends_in_time.false) any
 
-pub returns-clause-point : goal.returns-clause-point
-returns-clause-point c =
+pub returns-clause-row : goal.returns-clause-row
+returns-clause-row c =
     let place = c.in-Ok.ensures.place in
     let meaning = c.in-Ok-meaning_in.ensures.meaning in
     let any : list_any (λ name. bytes_eq (field (fields_of c.args.record.now) 0) name) (names_of c.args.rows.now) ≡ false =
@@ -30,13 +30,17 @@ returns-clause-point c =
       below-none (has_text c.args.devices.now) c.args.rows.now (fields_of c.args.record.now) c.in-Ok.place.address c.in-Ok-meaning_in.meaning.kind place.0 meaning.0 place.1.address meaning.1.kind
           (sym c.ends_in_time.ensures ∙ c.if-not-ends_in_time.false) any,
       record {
-        name = place.1.name;
-        device = place.1.device;
-        table = place.1.table;
-        address = place.1.address;
-        kind = meaning.1.kind;
-        scale = search rules;
-        role = meaning.1.role;
-        roll = meaning.1.roll;
+        row = refl;
+        point = record {
+          name = place.1.name;
+          device = place.1.device;
+          table = place.1.table;
+          address = place.1.address;
+          kind = meaning.1.kind;
+          scale = search rules;
+          role = meaning.1.role;
+          roll = meaning.1.roll;
+        };
+        model = place.1.model;
       },
     )
