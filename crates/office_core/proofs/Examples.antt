@@ -50,7 +50,7 @@ abbrev roof : Site
 roof =
     record {
       lines = record { name = codes "roof"; address = codes "127.0.0.1:502" } ∷ [];
-      devices = record { name = codes "m1"; line = 0; unit = 17; gap = 8 } ∷ [];
+      devices = record { name = codes "m1"; line = 0; unit = 17; gap = 8; models = [] } ∷ [];
     }
 
 -- a request of Ann's for a list, and one for a value of a point
@@ -404,7 +404,7 @@ abbrev wider_roof : Site
 wider_roof =
     record {
       lines = record { name = codes "roof"; address = codes "127.0.0.1:502" } ∷ [];
-      devices = record { name = codes "m1"; line = 0; unit = 17; gap = 8 } ∷ record { name = codes "m2"; line = 0; unit = 18; gap = 8 } ∷ [];
+      devices = record { name = codes "m1"; line = 0; unit = 17; gap = 8; models = [] } ∷ record { name = codes "m2"; line = 0; unit = 18; gap = 8; models = [] } ∷ [];
     }
 
 -- a refusal that names no record

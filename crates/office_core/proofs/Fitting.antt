@@ -187,9 +187,9 @@ rows_fit all known device read slot reply there formed brings =
     one x at form covered = record { point = x; there = at; number = refl; registers = words_fit device read reply x.point form brings covered }
 
 -- what a unit gives where it stands
-new_fit : (before : History) (c n : ℕ) (unit : List ℕ) → IsBytes unit
+new_fit : (before : History) (c n : ℕ) (unit : List ℕ) → Legal before → IsBytes unit
     → All (IsOf (points before)) (cond (is_answered before c n) [] (given_by (points before) (slice_get (asked before c) n) unit))
-new_fit before c n unit bytes = by (is_answered before c n)
+new_fit before c n unit legal bytes = by (is_answered before c n)
   where
     none : All (IsOf (points before)) []
     none = All-nil (IsOf (points before))
@@ -201,7 +201,7 @@ new_fit before c n unit bytes = by (is_answered before c n)
         subst (λ ws. All (IsOf (points before)) (keyed q.slot (given_of (take q.known (points before)) q.device q.read ws))) (sym same.0)
         (rows_fit (points before) (take q.known (points before)) q.device q.read q.slot spelled.0
         (All-take (Contains (points before)) q.known (points before) (All-contains_itself (points before)))
-        (All-take IsFormedRow q.known (points before) (points_formed before)) same.1)
+        (All-take IsFormedRow q.known (points before) (points_formed before legal)) same.1)
 
     fitting : (q : Question) (a b : Bool) → fits (Reads q) unit ≡ a → excepts q.read unit ≡ b
         → All (IsOf (points before)) (cond (a && not b) (given_rows (points before) q unit) [])
@@ -230,7 +230,7 @@ given_fit (Load caller key list ∷ before) legal = by (is_used before (caller, 
     by true earlier = earlier
     by false earlier = All-weaker (IsOf (points before)) (IsOf (points before ++ more)) (of_more (points before) more) (given before) earlier
 given_fit (Reply c n unit ∷ before) legal =
-    All-append (IsOf (points before)) (given before) _ (given_fit before legal.2) (new_fit before c n unit legal.0.0)
+    All-append (IsOf (points before)) (given before) _ (given_fit before legal.2) (new_fit before c n unit legal.2 legal.0.0)
 given_fit (Restart site ∷ before) legal = given_fit before legal.2
 given_fit (Order caller key point value ∷ before) legal = given_fit before legal.2
 given_fit (Open line ∷ before) legal = given_fit before legal.2
@@ -290,7 +290,7 @@ one_point n xs a b numbered there other same =
 pub tables_fit : (before : History) → Legal before → IsFitting (tables before)
 tables_fit before legal k d lt =
     let known = get_or (points before) k d in (
-      (points_formed before k d lt).0,
+      (points_formed before legal k d lt).0,
       λ from to j e within. of_type (Contains-get_or (points before) k d lt) from to
           (get_or (readings_between known.number from to (readings before)) j e)
           (All-filter (λ (x : Key × Reading). is_between known.number from to x.0) (IsOf (points before)) (readings before) all j e within)

@@ -1,6 +1,6 @@
 -- Points that lists say have the form of a type that there is, and can be read.
 use Rattle.std.proofs.Common.{◌≡◌, ◌≤◌, ◌+◌, ℕ, zero, suc, Bool, true, false, cond, eqb, leb, get_or, List, [], ◌∷◌, ◌++◌, length, Option, Some, None, Result, Ok, Err, refl, sym, ◌∙◌, subst, arith, T}
-use Rattle.std.specs.Prelude.{ℤ, pos, neg_ℤ, All, IfOk, ◌&&◌, ◌||◌, not, option_map, find, is_none, ⊤}
+use Rattle.std.specs.Prelude.{ℤ, pos, neg_ℤ, All, IfOk, ◌&&◌, ◌||◌, not, map, option_map, find, is_none, ⊤}
 use Rattle.std.specs.Str.{bytes_eq}
 use Rattle.std.specs.Str.Parse.{digits_value}
 use Rattle.std.specs.Int.Signed.{le_z_yes}
@@ -22,13 +22,18 @@ use Rattle.point_list.specs.declared.point.ListRow.{ListRow}
 use Rattle.point_list.specs.declared.error.ListError.{ListError}
 use Rattle.point_list.specs.Columns.{Record, field, ◌then◌, holds_bits, is_bit, same, in_table, named_in, unsized, sized, is_scaled, is_zero, scaled_by, scale_in as scale_said}
 use Rattle.point_list.specs.Header.{is_header}
-use Rattle.point_list.specs.Lists.{table_in, address_in, name_of_type_in, type_in, scale_in, role_in, roll_in, records_of, ends_in_time, Check, check, place_checks, meaning_checks, whole_checks, first_failed, fault_below}
+use Rattle.point_list.specs.Lists.{table_in, address_in, model_in, name_of_type_in, type_in, scale_in, role_in, roll_in, records_of, ends_in_time, Check, check, place_checks, meaning_checks, whole_checks, first_failed, fault_below}
 use Rattle.point_list.specs.declared.error.ListFault.{ListFault}
 use Rattle.point_list.specs.declared.error.ListFault.TheVariants.{BadAddress, Twice}
 use Rattle.point_list.specs.ListMeaning.{point_in, row_before, rows_said, fault_or_later, first_fault, missing_header, rows_unless, body_meaning, list_meaning}
+use Rattle.point_list.specs.Resolving.{first_misplaced, list_at, misplaced, placed, resolved_list}
+use Rattle.point_list.specs.Sites.{IsSound, all_differ}
+use Rattle.point_list.specs.declared.site.Site.{Site}
+use Rattle.point_list.proofs.Placing.{none_misplaced, placed_inside}
 use Rattle.read_planner.specs.Place.{CanBeRead, size_in, size_of}
 use Rattle.poll_book.specs.declared.rows.PointRow.{PointRow}
 use Rattle.office_core.specs.Fitting.{HasForm}
+use Rattle.office_core.specs.Legal.{Legal}
 use Rattle.office_core.specs.Loads.{Loading, Refused, Taken, known_named, unknown_of, points_of, too_many, loading_rows, differing, loading_of, loading, numbered_on, added}
 use Rattle.office_core.specs.History.{Restart, Load, Order, Open, Ask, Send, Reply, Noise, History, site_of, points, is_used}
 
@@ -212,10 +217,10 @@ rows_formed known names number (r ∷ rs) none =
     by_fault (fault_below known names r) refl none (rows_formed known (names ++ field r 0 ∷ []) (number + 1) rs)
   where
     by : (o : Option Point) → point_in r ≡ o → ends_in_time (address_in r) (type_in r) ≡ true → AreFormed (rows_said (number + 1) rs)
-        → AreFormed (row_before number o (rows_said (number + 1) rs))
+        → AreFormed (row_before number (model_in r) o (rows_said (number + 1) rs))
     by None at ends rest = rest
     by (Some point) at ends rest =
-        All-cons (λ (said : ListRow). IsFormed said.point) (record { row = number; point = point }) (rows_said (number + 1) rs) (point_so r point ends at) rest
+        All-cons (λ (said : ListRow). IsFormed said.point) (record { row = number; point = point; model = model_in r }) (rows_said (number + 1) rs) (point_so r point ends at) rest
 
     by_fault : (o : Option (ListFault × ℕ)) → fault_below known names r ≡ o
         → fault_or_later number o (first_fault known (names ++ field r 0 ∷ []) (number + 1) rs) ≡ None
@@ -235,6 +240,39 @@ meaning_formed known (first ∷ body) = by (is_header first)
     by : (b : Bool) → IfOk (cond b (body_meaning known body) (Err missing_header)) AreFormed
     by true = by_fault (first_fault known [] 2 body) refl
     by false = tt
+
+-- ---- points by model
+
+-- the points of rows that all have a place
+rows_placed : (site : Site) (rows : List ListRow) → IsSound site → All (λ (said : ListRow). misplaced site said ≡ None) rows → AreFormed rows → AreFormed (map (placed site) rows)
+rows_placed site [] sound none formed = All-nil (λ (said : ListRow). IsFormed said.point)
+rows_placed site (said ∷ rows) sound none formed =
+    let here : IsFormed said.point = All-head (λ (x : ListRow). IsFormed x.point) said rows formed in
+    All-cons (λ (x : ListRow). IsFormed x.point) (placed site said) (map (placed site) rows)
+    (here.0, here.1, placed_inside site said sound (All-head (λ (x : ListRow). misplaced site x ≡ None) said rows none) here.2)
+    (rows_placed site rows sound (All-tail (λ (x : ListRow). misplaced site x ≡ None) said rows none) (All-tail (λ (x : ListRow). IsFormed x.point) said rows formed))
+
+-- and those of the rows that a list means at a sound site
+resolved_formed : (site : Site) (m : Result (List ListRow) ListError) → IsSound site → IfOk m AreFormed → IfOk (resolved_list site m) AreFormed
+resolved_formed site (Err e) sound formed = tt
+resolved_formed site (Ok rows) sound formed = by (first_misplaced site rows) refl
+  where
+    by : (o : Option ListError) → first_misplaced site rows ≡ o → IfOk (rows_unless o (map (placed site) rows)) AreFormed
+    by None none = rows_placed site rows sound (none_misplaced site rows none) formed
+    by (Some e) some = tt
+
+-- the site in force is sound
+site_sound : (before : History) → Legal before → IsSound (site_of before)
+unfolding all_differ
+site_sound [] legal = refl
+site_sound (Restart site ∷ before) legal = legal.0.0
+site_sound (Load caller key list ∷ before) legal = site_sound before legal.2
+site_sound (Order caller key point value ∷ before) legal = site_sound before legal.2
+site_sound (Open line ∷ before) legal = site_sound before legal.2
+site_sound (Ask c device slot read ∷ before) legal = site_sound before legal.2
+site_sound (Send c number ∷ before) legal = site_sound before legal.2
+site_sound (Reply c n unit ∷ before) legal = site_sound before legal.2
+site_sound (Noise c frame ∷ before) legal = site_sound before legal.2
 
 -- ---- what a list adds
 
@@ -282,9 +320,9 @@ added_formed n (Refused reason) formed = All-nil IsFormedRow
 added_formed n (Taken count new) formed = numbered_formed n new formed
 
 -- the points that were accepted are formed
-pub points_formed : (before : History) → All IsFormedRow (points before)
-points_formed [] = All-nil IsFormedRow
-points_formed (Load caller key list ∷ before) = by (is_used before (caller, key)) (points_formed before)
+pub points_formed : (before : History) → Legal before → All IsFormedRow (points before)
+points_formed [] legal = All-nil IsFormedRow
+points_formed (Load caller key list ∷ before) legal = by (is_used before (caller, key)) (points_formed before legal.2)
   where
     new : Loading
     new = loading (site_of before) (points before) list
@@ -296,14 +334,15 @@ points_formed (Load caller key list ∷ before) = by (is_used before (caller, ke
     by true earlier = earlier
     by false earlier =
         All-append IsFormedRow (points before) more earlier
-        (added_formed (length (points before)) new (loading_formed (points before) _ (meaning_formed _ (records_of list))))
-points_formed (Restart site ∷ before) = points_formed before
-points_formed (Order caller key point value ∷ before) = points_formed before
-points_formed (Open line ∷ before) = points_formed before
-points_formed (Ask c device slot read ∷ before) = points_formed before
-points_formed (Send c number ∷ before) = points_formed before
-points_formed (Reply c n unit ∷ before) = points_formed before
-points_formed (Noise c frame ∷ before) = points_formed before
+        (added_formed (length (points before)) new (loading_formed (points before) (list_at (site_of before) (records_of list))
+        (resolved_formed (site_of before) _ (site_sound before legal.2) (meaning_formed _ (records_of list)))))
+points_formed (Restart site ∷ before) legal = points_formed before legal.2
+points_formed (Order caller key point value ∷ before) legal = points_formed before legal.2
+points_formed (Open line ∷ before) legal = points_formed before legal.2
+points_formed (Ask c device slot read ∷ before) legal = points_formed before legal.2
+points_formed (Send c number ∷ before) legal = points_formed before legal.2
+points_formed (Reply c n unit ∷ before) legal = points_formed before legal.2
+points_formed (Noise c frame ∷ before) legal = points_formed before legal.2
 
 -- ---- they can be read
 
@@ -321,9 +360,9 @@ addresses_of Holding registers some = omega arith
 addresses_of Input registers some = omega arith
 
 -- the points that were accepted can be read
-pub points_readable : (before : History) → All (λ (known : PointRow). CanBeRead known.point) (points before)
-points_readable before k d lt =
+pub points_readable : (before : History) → Legal before → All (λ (known : PointRow). CanBeRead known.point) (points before)
+points_readable before legal k d lt =
     let point : Point = (get_or (points before) k d).point in
-    let formed = points_formed before k d lt in
+    let formed = points_formed before legal k d lt in
     let few : size_of point ≤ (row point.kind).registers = addresses_of point.table (row point.kind).registers (some_registers point.kind formed.0.0) in
     record { sized = formed.0.0; inside = omega (arith, few, formed.2) }

@@ -1,18 +1,24 @@
 -- What becomes of the rows of a list.
-use Rattle.std.proofs.Common.{◌≡◌, ◌≢◌, ◌≤◌, ◌<◌, ◌+◌, ◌⊎◌, ℕ, suc, Bool, cond, List, [], ◌∷◌, length, take, get_or, Some, None, Option, Result, Ok, Err, inl, inr, refl, sym, ap, ◌∙◌, arith, subst, length-take, ⊎_elim}
-use Rattle.std.specs.Prelude.{option_map, IfOk, OnOk}
-use Rattle.std.proofs.lemmas.Bool.{le-leb, lt-leb, cases_lt}
+use Rattle.std.proofs.Common.{◌≡◌, ◌≢◌, ◌≤◌, ◌<◌, ◌+◌, ◌⊎◌, ℕ, suc, Bool, true, false, cond, not, ltb, map, List, [], ◌∷◌, length, take, get_or, Some, None, Option, Result, Ok, Err, inl, inr, refl, sym, ap, ◌∙◌, arith, subst, length-take, ⊎_elim}
+use Rattle.std.specs.Prelude.{option_map, IfOk, IfErr, OnOk}
+use Rattle.std.specs.List.{position, position_or_len}
+use Rattle.std.proofs.lemmas.Bool.{le-leb, lt-leb, cases_lt, lt-ltb, le-ltb}
 use Rattle.std.proofs.lemmas.List.{length-map}
-use Rattle.point_list.specs.Columns.{Record, field}
+use Rattle.std.proofs.lemmas.Option.{none-some, same_Some}
+use Rattle.point_list.specs.Columns.{Record, field, is_device}
 use Rattle.point_list.specs.Lists.{AreRows, SayRows, names_in, IsFaultOf, IsMemory}
-use Rattle.point_list.specs.ListMeaning.{list_meaning}
+use Rattle.point_list.specs.ListMeaning.{rows_unless}
+use Rattle.point_list.specs.Resolving.{first_misplaced, list_at, placed, point_placed, resolved_list}
+use Rattle.point_list.specs.declared.point.Point.{Point}
+use Rattle.point_list.specs.declared.site.Site.{Site}
 use Rattle.point_list.specs.declared.error.ListError.{ListError}
 use Rattle.point_list.specs.declared.error.ListFault.TheVariants.{Memory}
 use Rattle.point_list.specs.declared.point.ListRow.{ListRow}
-use Rattle.point_list.proofs.OneMeaning.{fault_is}
+use Rattle.point_list.proofs.OneMeaning.{fault_is, rows_are}
 use Rattle.point_list.proofs.Rows.{few_names}
+use Rattle.poll_book.specs.declared.requests.RequestFault.TheVariants.{PointDiffers}
 use Rattle.poll_book.specs.declared.rows.PointRow.{PointRow}
-use Rattle.office_core.specs.Loads.{Refused, Taken, differing, loading_of, loading_rows, loading_new, unknown_of, points_of, numbered_on, too_many}
+use Rattle.office_core.specs.Loads.{AreRowsFrom, ArePointsOf, Refused, Taken, agrees, differing, known_named, loading_of, loading_rows, loading_new, unknown_of, points_of, numbered_on, too_many}
 use Rattle.office_core.proofs.Numbering.{length-numbered}
 
 none_under : (o : Option ListRow) → None ≡ option_map (λ (row : ListRow). row.row) o → o ≡ None
@@ -53,13 +59,97 @@ few_rows known list rows are =
     (λ (le : length are.body ≤ 10000). (let n = count in omega arith))
     (cases_lt 10000 (length are.body))
 
--- a fault that isn't memory's is the list's
-pub not_memory : (known : List ℕ → Bool) (list : List Record) (e : ListError) → e.fault ≢ Memory → IsMemory e ⊎ IsFaultOf known list e → list_meaning known list ≡ Err e
-not_memory known list e other (inl memory) = absurd (other (ap (λ (x : ListError). x.fault) memory))
-not_memory known list e other (inr fault) = fault_is known list e fault
+-- what is said of a refused list holds of what it means, where its fault isn't memory's
+pub refused_so : {X E : Type 0} (m : Result (List ListRow) ListError) (e : ListError) → IsMemory e ⊎ (m ≡ Err e)
+    → (told : Result X E) → OnOk told (e.fault ≢ Memory) → (P : Result (List ListRow) ListError → X → Type 0) → IfOk told (P (Err e)) → IfOk told (P m)
+refused_so m e (inl memory) (Ok x) other P is = absurd (other (ap (λ (x : ListError). x.fault) memory))
+refused_so m e (inr fault) (Ok x) other P is = subst (λ m. P m x) (sym fault) is
+refused_so m e fault (Err y) other P is = is
 
--- what is said of a refused list holds of the list's meaning, where its fault isn't memory's
-pub refused_so : {X E : Type 0} (known : List ℕ → Bool) (list : List Record) (e : ListError) → IsMemory e ⊎ IsFaultOf known list e
-    → (told : Result X E) → OnOk told (e.fault ≢ Memory) → (P : Result (List ListRow) ListError → X → Type 0) → IfOk told (P (Err e)) → IfOk told (P (list_meaning known list))
-refused_so known list e fault (Ok x) other P is = subst (λ m. P m x) (sym (not_memory known list e other fault)) is
-refused_so known list e fault (Err y) other P is = is
+-- what holds of a success holds of it in other words
+pub ok_so : {X E : Type 0} (told : Result X E) (P Q : X → Type 0) → IfOk told P → ((x : X) → P x → Q x) → IfOk told Q
+ok_so (Ok x) P Q is f = f x is
+ok_so (Err e) P Q is f = is
+
+-- and what of a refusal, of that
+pub err_so : {X E : Type 0} (told : Result X E) (P Q : E → Type 0) → IfErr told P → ((e : E) → P e → Q e) → IfErr told Q
+err_so (Ok x) P Q is f = is
+err_so (Err e) P Q is f = f e is
+
+-- ---- rows with their points placed
+
+-- rows that records say follow each other, and still do with their points placed
+numbers_placed : (site : Site) (number : ℕ) (body : List Record) (rows : List ListRow) → SayRows number body rows → AreRowsFrom number (map (placed site) rows)
+numbers_placed site number [] [] say = tt
+numbers_placed site number [] (x ∷ rows) say = absurd say
+numbers_placed site number (r ∷ body) [] say = absurd say
+numbers_placed site number (r ∷ body) (x ∷ rows) say = (say.0.row, numbers_placed site (number + 1) body rows say.1)
+
+-- their points
+points_placed : (site : Site) (rows : List ListRow) → map (point_placed site) rows ≡ points_of (map (placed site) rows)
+points_placed site [] = refl
+points_placed site (x ∷ rows) = ap (λ l. point_placed site x ∷ l) (points_placed site rows)
+
+module _ (site : Site) (list : List Record) (rows : List ListRow) (are : AreRows (is_device site) list rows) where
+  -- the rows of a list at a site are those that it says, placed
+  pub rows_at : first_misplaced site rows ≡ None → list_at site list ≡ Ok (map (placed site) rows)
+  rows_at none = ap (resolved_list site) (rows_are (is_device site) list rows are) ∙ ap (λ o. rows_unless o (map (placed site) rows)) none
+
+  pub fault_at_site : (e : ListError) → first_misplaced site rows ≡ Some e → list_at site list ≡ Err e
+  fault_at_site e some = ap (resolved_list site) (rows_are (is_device site) list rows are) ∙ ap (λ o. rows_unless o (map (placed site) rows)) some
+
+  pub are_points : (points : List Point) → points ≡ map (point_placed site) rows → ArePointsOf (map (placed site) rows) points
+  are_points points is = record { same = is ∙ points_placed site rows; numbered = numbers_placed site 2 are.body rows are.say }
+
+-- the fault of a list alone is its fault at a site
+pub list_fault : (site : Site) (list : List Record) (e : ListError) → IsMemory e ⊎ IsFaultOf (is_device site) list e → IsMemory e ⊎ (list_at site list ≡ Err e)
+list_fault site list e (inl memory) = inl memory
+list_fault site list e (inr fault) = inr (ap (resolved_list site) (fault_is (is_device site) list e fault))
+
+-- ---- the first row that differs
+
+-- it has the number of its place, counted from that of the first row
+pub differing_at : (known : List PointRow) (n : ℕ) (rows : List ListRow) → AreRowsFrom n rows
+    → option_map (λ (row : ListRow). row.row) (differing known rows)
+    ≡ option_map (λ k. k + n) (position (λ (point : Point). not (agrees point (known_named known point.name))) (points_of rows))
+differing_at known n [] from = refl
+differing_at known n (x ∷ rows) from = by (agrees x.point (known_named known x.point.name)) (differing_at known (n + 1) rows from.1)
+  where
+    other : Point → Bool
+    other point = not (agrees point (known_named known point.name))
+
+    -- a place among the later rows, and where that is one more among all
+    later : (k m : ℕ) → option_map (λ k. k + (n + 1)) (cond (ltb k m) (Some k) None) ≡ option_map (λ k. k + n) (cond (ltb (1 + k) (suc m)) (Some (1 + k)) None)
+    later k m =
+        ⊎_elim (λ (lt : k < m).
+        let e : k + (n + 1) ≡ 1 + k + n = omega arith in
+        ap (λ b. option_map (λ k. k + (n + 1)) (cond b (Some k) None)) (lt-ltb k m lt) ∙ ap Some e
+        ∙ ap (λ b. option_map (λ k. k + n) (cond b (Some (1 + k)) None)) (sym (lt-ltb (1 + k) (suc m) (omega (arith, lt)))))
+        (λ (le : m ≤ k).
+        ap (λ b. option_map (λ k. k + (n + 1)) (cond b (Some k) None)) (le-ltb k m le)
+        ∙ ap (λ b. option_map (λ k. k + n) (cond b (Some (1 + k)) None)) (sym (le-ltb (1 + k) (suc m) (omega (arith, le)))))
+        (cases_lt k m)
+
+    by : (b : Bool)
+        → option_map (λ (row : ListRow). row.row) (differing known rows) ≡ option_map (λ k. k + (n + 1)) (position other (points_of rows))
+        → option_map (λ (row : ListRow). row.row) (cond (not b) (Some x) (differing known rows))
+        ≡ option_map (λ k. k + n)
+        (cond (ltb (cond (not (not b)) (1 + position_or_len other (points_of rows)) 0) (suc (length (points_of rows)))) (Some (cond (not (not b)) (1 + position_or_len other (points_of rows)) 0)) None)
+    by false rest =
+        let first : x.row ≡ 0 + n = omega (arith, from.0) in
+        ap Some first ∙ ap (λ b. option_map (λ k. k + n) (cond b (Some 0) None)) (sym (lt-ltb 0 (suc (length (points_of rows))) (omega arith)))
+    by true rest = rest ∙ later (position_or_len other (points_of rows)) (length (points_of rows))
+
+-- what is no Some is None
+pub none_from : {A : Type 0} (o : Option A) → ((x : A) → o ≢ Some x) → o ≡ None
+none_from None other = refl
+none_from (Some x) other = absurd (other x refl)
+
+-- a list is refused for the first row that differs
+pub differs_so : (known : List PointRow) (rows : List ListRow) (n : ℕ) → Some n ≡ option_map (λ (row : ListRow). row.row) (differing known rows)
+    → loading_of known (Ok rows) ≡ Refused (record { fault = PointDiffers; row = n; column = 1 })
+differs_so known rows n is = by (differing known rows) is
+  where
+    by : (o : Option ListRow) → Some n ≡ option_map (λ (row : ListRow). row.row) o → loading_rows known rows o ≡ Refused (record { fault = PointDiffers; row = n; column = 1 })
+    by None e = absurd (none-some n (sym e))
+    by (Some row) e = ap (λ k. Refused (record { fault = PointDiffers; row = k; column = 1 })) (sym (same_Some n row.row e))

@@ -1,10 +1,10 @@
 -- An order is sent while it is the oldest that waits, and the earliest reply that settles it says how it stands.
-use Rattle.std.proofs.Common.{◌≡◌, ◌≢◌, ◌<◌, ◌≤◌, ℕ, zero, suc, ◌+◌, Bool, true, false, cond, not, eqb, leb, List, [], ◌∷◌, ◌++◌, length, Option, Some, None, inl, inr, ◌⊎◌, refl, sym, ap, ◌∙◌, subst, arith}
+use Rattle.std.proofs.Common.{◌≡◌, ◌≢◌, ◌<◌, ◌≤◌, ℕ, ◌+◌, Bool, true, false, cond, not, eqb, leb, List, [], ◌∷◌, ◌++◌, length, Option, Some, None, inl, inr, refl, sym, ap, ◌∙◌, subst, arith}
 use Rattle.std.specs.Prelude.{find, is_some, is_none, slice_get, ◌&&◌, ◌||◌}
 use Rattle.std.specs.Cmp.{unsigned_tied}
 use Rattle.std.specs.FinMap.Entries as rows
 use Rattle.std.specs.Ordering.{eq_by_cmp, nat_cmp}
-use Rattle.std.proofs.lemmas.Bool.{and_parts, eqb-true, eq-eqb, ne_eqb, or_right}
+use Rattle.std.proofs.lemmas.Bool.{and_parts, eqb-true, eq-eqb, ne_eqb}
 use Rattle.std.proofs.lemmas.Cmp.{nat_cmp_total}
 use Rattle.std.proofs.lemmas.Option.{none-some, same_Some}
 use Rattle.mb_pdu.specs.declared.reply.Reply.{Reply as AReply}
@@ -34,7 +34,7 @@ use Rattle.office_core.specs.FirstArrivals.{Happened}
 use Rattle.office_core.specs.SettledOrders.{IsSend, IsOldest, IsReplyToSend, IsFirstToSend, Settles, IsSettledBy}
 use Rattle.office_core.proofs.KeptRequests.{AreOrders, found_in, is_order, last_is, numbered, asked_longer, reply_same}
 use Rattle.office_core.proofs.Standings.{step_later, legal_at, get_last, get_either, asked_stays, answers_on}
-use Rattle.office_core.proofs.Sends.{send_made, sends, sent_one}
+use Rattle.office_core.proofs.Sends.{sends, sent_one}
 use Rattle.office_core.proofs.Written.{state_is}
 
 -- ---- what is sent

@@ -1,42 +1,12 @@
 -- What stands where in a history: it is legal there, and queries keep their numbers and their answers.
-use Rattle.std.proofs.Common.{◌≡◌, ◌⊎◌, ◌<◌, ◌+◌, ℕ, zero, suc, Bool, true, false, cond, eqb, not, ◌&&◌, ◌||◌, List, [], ◌∷◌, ◌++◌, length, map, take, get_or, Option, Some, None, inl, inr, refl, sym, ap, ◌∙◌, subst, arith, append-nil, append_assoc}
-use Rattle.std.specs.Prelude.{slice_get, is_none, Contains}
-use Rattle.std.specs.Option.{option_or}
-use Rattle.std.specs.Ordering.{is_eq, eq_by_cmp}
-use Rattle.std.specs.Cmp.{tied_itself}
-use Rattle.std.specs.declared.cmp.Ordering.{Ordering}
-use Rattle.std.specs.declared.cmp.Ordering.TheVariants.{Less, Equal, Greater}
-use Rattle.std.specs.FinMap.Entries as rows
-use Rattle.std.proofs.lemmas.Bool.{and_parts, eqb-true, eq-eqb}
-use Rattle.std.proofs.lemmas.List.{take_at}
+use Rattle.std.proofs.Common.{◌≡◌, ◌⊎◌, ℕ, zero, suc, Bool, true, false, cond, eqb, ◌&&◌, ◌||◌, List, [], ◌∷◌, ◌++◌, length, Some, inl, inr, refl, sym, ap, ◌∙◌, subst}
+use Rattle.std.specs.Prelude.{slice_get}
+use Rattle.std.proofs.lemmas.Bool.{eq-eqb}
 use Rattle.std.proofs.lemmas.Option.{none-some, same_Some}
-use Rattle.mb_pdu.specs.declared.reply.Normal.{Normal}
-use Rattle.mb_pdu.specs.declared.reply.Normal.TheVariants.{OfBits, OfWords, Echo}
-use Rattle.mb_pdu.specs.declared.reply.Reply.{Reply as AReply}
-use Rattle.mb_pdu.specs.declared.reply.Reply.TheVariants.{Bits, Registers, Written, Excepted}
-use Rattle.mb_pdu.specs.Replies.{IsBytes, spells_reply, normal_of, fits_normal}
-use Rattle.mb_pdu.proofs.Answered.{answered}
-use Rattle.mb_pdu.proofs.Tells.{told}
-use Rattle.read_planner.specs.declared.Read.{Read}
-use Rattle.read_planner.specs.Read.{read_request}
-use Rattle.poll_book.specs.declared.rows.PointRow.{PointRow}
-use Rattle.poll_book.specs.declared.rows.Reading.{Reading}
-use Rattle.poll_book.specs.Tables.{Key, key_cmp, Readings, reading_at, with_rows}
-use Rattle.poll_book.specs.Changes.{keyed, AreNumbered}
-use Rattle.poll_book.specs.Totals.{is_counted}
-use Rattle.poll_book.proofs.Tabled.{keys_total, exact_keys}
-use Rattle.office_core.specs.declared.error.OfficeError.{OfficeError}
-use Rattle.office_core.specs.declared.site.Target.{Target}
-use Rattle.office_core.specs.Sites.{target}
-use Rattle.office_core.specs.Cover.{Question, Brings, covers, covered, words_in, given_of, given_rows, reply_cells, excepts}
-use Rattle.office_core.specs.Queries.{Writing, Query, Reads, Writes, fits}
-use Rattle.office_core.specs.Loads.{loading, added}
-use Rattle.office_core.specs.History.{Happening, Restart, Load, Order, Open, Ask, Send, Reply, Noise, History, site_of, points, is_used, open_line, ask_fault, question, question_to, asked, fits_query, is_answered, given_by, given, readings}
+use Rattle.office_core.specs.Queries.{Query, Reads, Writes}
+use Rattle.office_core.specs.History.{Happening, Restart, Load, Order, Open, Ask, Send, Reply, Noise, History, asked, fits_query, is_answered}
 use Rattle.office_core.specs.Legal.{Legal}
-use Rattle.office_core.specs.FirstArrivals.{Happened, IsQuery, IsReplyTo, IsFirst, Gives, IsReadingOf}
-use Rattle.office_core.proofs.Cells.{cells_spelled, bits_plain, words_plain, no_echo}
-use Rattle.office_core.proofs.Loaded.{numbered_points}
-use Rattle.office_core.proofs.Queries.{same_read}
+use Rattle.office_core.specs.FirstArrivals.{Happened}
 use Rattle.office_core.proofs.Asks.{ask_made, asks}
 use Rattle.office_core.proofs.Sends.{send_made, sends}
 

@@ -1,5 +1,5 @@
 -- What becomes of a list that is loaded.
-use Rattle.std.specs.Prelude.{ℕ, ◌+◌, Bool, true, false, not, ◌&&◌, ◌==◌, nat_le, List, [], ◌∷◌, map, filter, find, length, Option, Some, None, is_none, Result, Ok, Err, if◌then◌else◌}
+use Rattle.std.specs.Prelude.{◌≡◌, ⊤, ℕ, ◌+◌, Bool, true, false, not, ◌&&◌, ◌==◌, nat_le, List, [], ◌∷◌, map, filter, find, length, Option, Some, None, is_none, Result, Ok, Err, if◌then◌else◌}
 use Rattle.std.specs.Ordering.{int_eq}
 use Rattle.std.specs.Str.{bytes_eq}
 use Rattle.mb_pdu.specs.declared.table.Table.{Table}
@@ -12,9 +12,8 @@ use Rattle.point_list.specs.declared.point.ListRow.{ListRow}
 use Rattle.point_list.specs.declared.error.ListError.{ListError}
 use Rattle.point_list.specs.declared.error.ListFault.TheVariants.{TooManyPoints}
 use Rattle.point_list.specs.declared.site.Site.{Site}
-use Rattle.point_list.specs.Columns.{is_device}
 use Rattle.point_list.specs.Lists.{records_of}
-use Rattle.point_list.specs.ListMeaning.{list_meaning}
+use Rattle.point_list.specs.Resolving.{list_at}
 use Rattle.poll_book.specs.declared.rows.PointRow.{PointRow}
 use Rattle.poll_book.specs.declared.requests.Reason.{Reason}
 use Rattle.poll_book.specs.declared.requests.RequestFault.TheVariants.{List as OfList, PointDiffers}
@@ -91,7 +90,17 @@ loading_of known (Ok rows) = loading_rows known rows (differing known rows)
 
 -- a list by the site in force and the points that are known
 abbrev pub loading : Site → List PointRow → List ℕ → Loading
-loading site known list = loading_of known (list_meaning (is_device site) (records_of list))
+loading site known list = loading_of known (list_at site (records_of list))
+
+-- rows one after the other, of which the first has this number
+abbrev pub AreRowsFrom : ℕ → List ListRow → Type 0
+AreRowsFrom number [] = ⊤
+AreRowsFrom number (said ∷ rows) = (said.row ≡ number) × AreRowsFrom (number + 1) rows
+
+-- the points of the rows of a list, whose first row is the second record
+pub record ArePointsOf (rows : List ListRow) (points : List Point) : Type 0 where
+  pub same : points ≡ points_of rows
+  pub numbered : AreRowsFrom 2 rows
 
 abbrev pub outcome : Loading → Outcome
 outcome (Refused reason) = RefusedFor reason

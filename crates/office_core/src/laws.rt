@@ -102,5 +102,5 @@ pub fn crash_leavings()
 
 /// The points that were accepted can be read: each ends by the last address.
 pub fn readable_points()
-    ensures { (before : History) → All (λ known. CanBeRead known.point) (points before) }
+    ensures { (before : History) → Legal before → All (λ known. CanBeRead known.point) (points before) }
 {}

@@ -1,12 +1,17 @@
 //! What becomes of a list that is loaded.
-ghost use Rattle.std.specs.Prelude.{◌≡◌, ◌≢◌, ◌≤◌, ◌+◌, [], false, is_none, length, option_map, IfOk, IfErr, OnOk, Ok};
+ghost use Rattle.std.specs.Prelude.{◌≡◌, ◌≢◌, ◌≤◌, ◌+◌, ◌⊎◌, [], List, false, is_none, length, not, option_map, IfOk, IfErr, OnOk, Ok, Err};
 ghost use Rattle.std.specs.List.{position};
 ghost use Rattle.std.specs.Str.{bytes_eq};
+ghost use Rattle.point_list.specs.Lists.{IsMemory, records_of};
+ghost use Rattle.point_list.specs.Resolving.{list_at};
+ghost use Rattle.point_list.specs.Sites.{IsSound};
+ghost use Rattle.point_list.specs.declared.point.ListRow.{ListRow};
 ghost use Rattle.office_core.specs.ByName.{AreNamesOf};
 ghost use Rattle.office_core.specs.Loads as loads;
+ghost use Rattle.office_core.specs.Loads.{ArePointsOf};
 
 use crate::names::Names;
-use point_list::{ListError, ListFault, ListRow, Point, Site, read_list, resolve};
+use point_list::{ListError, ListFault, Point, Site, read_list, resolve};
 use poll_book::{Outcome, PointRow, Reason, RequestFault, StoreFault};
 use std::alloc::{AllocError, Global};
 
@@ -105,21 +110,22 @@ fn is_unknown(known: &[PointRow], names: &Option<Names>, point: &Point) -> bool
     find_known(known, names, point.name.as_bytes()).is_none()
 }
 
-fn place_differing(known: &[PointRow], names: &Option<Names>, rows: &[ListRow]) -> Option<usize>
+fn place_differing(known: &[PointRow], names: &Option<Names>, points: &[Point]) -> Option<usize>
     requires { AreNamesOf known.now names.now }
-    ensures { result ≡ position (loads.differs known.now) rows.now }
+    ensures { result ≡ position (λ point. not (loads.agrees point (loads.known_named known.now point.name))) points.now }
 {
-    rows.iter()
-        .position(|row| !agrees(known, names, &row.point))
+    points.iter().position(|point| !agrees(known, names, point))
 }
 
-/// The number of the first row whose name is known with another definition.
-fn first_differing(known: &[PointRow], names: &Option<Names>, rows: &[ListRow]) -> Option<u32>
-    requires { AreNamesOf known.now names.now }
-    ensures { result ≡ option_map (λ row. row.row) (loads.differing known.now rows.now) }
+/// The number of the first row of a list whose name is known with another definition. The first row is
+/// the second record.
+fn first_differing(known: &[PointRow], names: &Option<Names>, points: &[Point]) -> Option<u32>
+    requires names_of { AreNamesOf known.now names.now }
+    requires few { length points.now ≤ 10000 }
+    ensures { (rows : List ListRow) → ArePointsOf rows points.now → result ≡ option_map (λ row. row.row) (loads.differing known.now rows) }
 {
-    match place_differing(known, names, rows) {
-        Some(place) => Some(rows[place].row),
+    match place_differing(known, names, points) {
+        Some(place) => Some(place as u32 + 2),
         None => None,
     }
 }
@@ -155,34 +161,29 @@ fn refused(fault: RequestFault, row: u32, column: u8) -> Outcome
     Outcome::RefusedFor(Reason { fault, row, column })
 }
 
-/// What becomes of a list of these rows, and the rows of the points that it adds.
-fn judge_rows(
+/// What becomes of a list of these points, and the rows of those that it adds.
+fn judge_points(
     alloc: Global,
     known: &[PointRow],
-    rows: Vec<ListRow>,
+    points: &[Point],
 ) -> Result<(Outcome, Vec<PointRow>), StoreFault>
     requires many { length known.now ≤ 10000 }
-    requires few { length rows.items ≤ 10000 }
-    ensures outcome { IfOk result (λ x. x.0 ≡ loads.outcome (loads.loading_of known.now (Ok rows.items))) }
-    ensures added { IfOk result (λ x. x.1.items ≡ loads.added (length known.now) (loads.loading_of known.now (Ok rows.items))) }
+    requires few { length points.now ≤ 10000 }
+    ensures outcome { IfOk result (λ x. (rows : List ListRow) → ArePointsOf rows points.now → x.0 ≡ loads.outcome (loads.loading_of known.now (Ok rows))) }
+    ensures added { IfOk result (λ x. (rows : List ListRow) → ArePointsOf rows points.now → x.1.items ≡ loads.added (length known.now) (loads.loading_of known.now (Ok rows))) }
     ensures few { IfOk result (λ x. length known.now + length x.1.items ≤ 10000) }
     ensures memory { IfErr result (λ e. e ≡ StoreFault.Memory) }
 {
-    let count = rows.len() as u32;
-    let names = names_for(alloc, known, rows.len())?;
-    let differing = first_differing(known, &names, &rows);
-    let Ok(points) = resolve(alloc, rows) else {
-        return Err(StoreFault::Memory);
-    };
-    if let Some(row) = differing {
+    let names = names_for(alloc, known, points.len())?;
+    if let Some(row) = first_differing(known, &names, points) {
         return Ok((refused(RequestFault::PointDiffers, row, 1), Vec::new(alloc)));
     }
-    let new = new_points(alloc, known, &names, &points)?;
+    let new = new_points(alloc, known, &names, points)?;
     if known.len() + new.len() > 10000 {
         let fault = RequestFault::List(ListFault::TooManyPoints);
         return Ok((refused(fault, 0, 0), Vec::new(alloc)));
     }
-    Ok((Outcome::Loaded(count), new))
+    Ok((Outcome::Loaded(points.len() as u32), new))
 }
 
 fn judge_fault(alloc: Global, error: ListError) -> Result<(Outcome, Vec<PointRow>), StoreFault>
@@ -200,6 +201,20 @@ fn judge_fault(alloc: Global, error: ListError) -> Result<(Outcome, Vec<PointRow
     }
 }
 
+/// The points of a list at a site, or its first fault: those of the list alone come before those of
+/// places by model.
+fn points_in(alloc: Global, site: &Site, list: &[u8]) -> Result<Vec<Point>, ListError>
+    requires { IsSound site.now }
+    ensures points { IfOk result (λ v. (rows : List ListRow) × (list_at site.now (records_of list.now) ≡ Ok rows) × ArePointsOf rows v.items) }
+    ensures few { IfOk result (λ v. length v.items ≤ 10000) }
+    ensures fault { IfErr result (λ e. IsMemory e ⊎ (list_at site.now (records_of list.now) ≡ Err e)) }
+{
+    match read_list(alloc, list, site) {
+        Ok(rows) => resolve(alloc, rows, site),
+        Err(error) => Err(error),
+    }
+}
+
 /// What becomes of a list by a site and the points that are known, and the rows of the points that
 /// it adds.
 pub(crate) fn judge(
@@ -208,14 +223,15 @@ pub(crate) fn judge(
     known: &[PointRow],
     list: &[u8],
 ) -> Result<(Outcome, Vec<PointRow>), StoreFault>
-    requires { length known.now ≤ 10000 }
+    requires sound { IsSound site.now }
+    requires many { length known.now ≤ 10000 }
     ensures outcome { IfOk result (λ x. x.0 ≡ loads.outcome (loads.loading site.now known.now list.now)) }
     ensures added { IfOk result (λ x. x.1.items ≡ loads.added (length known.now) (loads.loading site.now known.now list.now)) }
     ensures few { IfOk result (λ x. length known.now + length x.1.items ≤ 10000) }
     ensures memory { IfErr result (λ e. e ≡ StoreFault.Memory) }
 {
-    match read_list(alloc, list, site) {
-        Ok(rows) => judge_rows(alloc, known, rows),
+    match points_in(alloc, site, list) {
+        Ok(points) => judge_points(alloc, known, points.as_slice()),
         Err(error) => judge_fault(alloc, error),
     }
 }

@@ -16,9 +16,9 @@ pub const MEMORY: OfficeError = OfficeError::Store(StoreFault::Memory);
 
 const HEADER: &str = "name,device,table,address,type,length,scale,role,roll\n";
 
-/// Two lines, each with a device of its own.
+/// Two lines, each with a device of its own, of which the first has a chain of models.
 pub const TWO: &str =
-    "[[line]]\nname = \"roof\"\naddress = \"127.0.0.1:502\"\n[[line]]\nname = \"cellar\"\naddress = \"127.0.0.1:503\"\n[[device]]\nname = \"m1\"\nline = \"roof\"\nunit = 17\ngap = 8\n[[device]]\nname = \"m2\"\nline = \"cellar\"\nunit = 17\n";
+    "[[line]]\nname = \"roof\"\naddress = \"127.0.0.1:502\"\n[[line]]\nname = \"cellar\"\naddress = \"127.0.0.1:503\"\n[[device]]\nname = \"m1\"\nline = \"roof\"\nunit = 17\ngap = 8\nmodels = [[1, 40002, 66], [103, 40070, 50]]\n[[device]]\nname = \"m2\"\nline = \"cellar\"\nunit = 17\n";
 
 /// The roof without its device.
 pub const BARE: &str =

@@ -1,14 +1,14 @@
 //! What replies record, and each refusal of each call.
 use crate::scripted::Step::{Is, Points, Total, Unknown, Words};
 use crate::scripted::Told::{
-    Excepted, Loaded, Opened, Recorded, Refused, RefusedFor, Restarted, Sent,
+    Excepted, Loaded, Opened, Recorded, Refused, RefusedBefore, RefusedFor, Restarted, Sent,
 };
 use crate::scripted::{Step, assert_script};
 use crate::steps::Happens::{Arrive, Ask, List, Load, Open, Restart};
 use office_core::OfficeError::{
     NoConnection, NoQuery, NoRead, Repeat, WrongLine, WrongReply, WrongUnit,
 };
-use point_list::ListFault::{BadHeader, BadTable, UnknownDevice};
+use point_list::ListFault::{BadHeader, BadTable, NoModel, PastModel, UnknownDevice};
 use poll_book::RequestFault::{List as OfList, PointDiffers};
 use std::test::Fail;
 
@@ -178,6 +178,65 @@ const REFUSED_LISTS: &[Step] = &[
     Points(4),
 ];
 
+/// Points by model are placed by the site; faults of the list alone come first, then those of places, then other
+/// definitions of known points.
+const POINTS_BY_MODEL: &[Step] = &[
+    Is(
+        Load("l1", "e,m1,holding,m103+24,acc32,,,counter,\n"),
+        Loaded(1),
+    ),
+    Is(
+        Load("l2", "f,m1,holding,m160+2,uint16,,,gauge,\n"),
+        RefusedFor(OfList(NoModel), 2, 4),
+    ),
+    Is(
+        Load("l2", "f,m1,holding,m160+2,uint16,,,gauge,\n"),
+        RefusedBefore(OfList(NoModel), 2, 4),
+    ),
+    Is(
+        Load("l3", "f,m1,holding,m103+51,acc32,,,gauge,\n"),
+        RefusedFor(OfList(PastModel), 2, 4),
+    ),
+    Is(
+        Load("l3", "f,m1,holding,m103+51,acc32,,,gauge,\n"),
+        RefusedBefore(OfList(PastModel), 2, 4),
+    ),
+    Is(
+        Load("l4", "f,m2,holding,m1+2,uint16,,,gauge,\n"),
+        RefusedFor(OfList(NoModel), 2, 4),
+    ),
+    Is(
+        Load(
+            "l5",
+            "f,m1,holding,m160+2,uint16,,,gauge,\ng,m1,wall,1,uint16,,,gauge,\n",
+        ),
+        RefusedFor(OfList(BadTable), 3, 3),
+    ),
+    Is(
+        Load(
+            "l6",
+            "e,m1,holding,1,uint16,,,gauge,\nf,m1,holding,m160+2,uint16,,,gauge,\n",
+        ),
+        RefusedFor(OfList(NoModel), 3, 4),
+    ),
+    Is(
+        Load("l7", "e,m1,holding,40094,acc32,,,counter,\n"),
+        Loaded(1),
+    ),
+    Is(
+        Load(
+            "l8",
+            "f,m1,holding,m103+2,uint16,,,gauge,\ne,m1,holding,m103+26,acc32,,,counter,\n",
+        ),
+        RefusedFor(PointDiffers, 3, 1),
+    ),
+    Points(1),
+    Is(Open("roof"), Opened(1)),
+    Is(Ask(1, "m1", 5, (3, 40094, 2)), Sent(0)),
+    Is(Arrive(1, 0, 17, FOUR), Recorded(1)),
+    Words("e", 5, &[1, 2]),
+];
+
 const CONNECTIONS_OF_LINES: &[Step] = &[
     Is(Load("l1", GAUGES), Loaded(3)),
     Is(Open("attic"), Refused(WrongLine)),
@@ -194,7 +253,7 @@ const CONNECTIONS_OF_LINES: &[Step] = &[
     Is(Open("roof"), Opened(4)),
 ];
 
-const SCRIPTS: [(&str, &[Step]); 9] = [
+const SCRIPTS: [(&str, &[Step]); 10] = [
     ("a reply records once", REPLY_RECORDS_ONCE),
     ("an exception records nothing", EXCEPTION_RECORDS_NOTHING),
     ("points of later lists wait", POINTS_OF_LATER_LISTS_WAIT),
@@ -203,6 +262,7 @@ const SCRIPTS: [(&str, &[Step]); 9] = [
     ("refused asks", REFUSED_ASKS),
     ("refused arrivals", REFUSED_ARRIVALS),
     ("refused lists", REFUSED_LISTS),
+    ("points by model", POINTS_BY_MODEL),
     ("connections of lines", CONNECTIONS_OF_LINES),
 ];
 

@@ -1,5 +1,5 @@
 -- An office of a script may begin anew: its site has the devices of its points.
-use Rattle.std.proofs.Common.{◌≡◌, ◌≢◌, ◌+◌, ℕ, Bool, true, false, cond, List, [], ◌∷◌, ◌++◌, length, Option, Some, None, Result, Ok, Err, refl, sym, ap, ◌∙◌}
+use Rattle.std.proofs.Common.{◌≡◌, ◌≢◌, ◌+◌, ℕ, Bool, true, false, cond, List, [], ◌∷◌, ◌++◌, length, map, Option, Some, None, Result, Ok, Err, refl, sym, ap, ◌∙◌}
 use Rattle.std.specs.Prelude.{ℤ, ◌==◌, IfOk, filter, is_none, is_some, nat_le, nat_lt, slice_get, ⊤}
 use Rattle.std.specs.List.{list_all}
 use Rattle.std.proofs.lemmas.Bool.{and_from, and_parts}
@@ -18,8 +18,9 @@ use Rattle.point_list.specs.declared.error.ListFault.TheVariants.{BadCsv, TooMan
 use Rattle.point_list.specs.Columns.{Record, field, is_device, ◌then◌}
 use Rattle.point_list.specs.Header.{is_header}
 use Rattle.point_list.specs.Name.{is_name}
-use Rattle.point_list.specs.Lists.{check, first_failed, meaning_checks, whole_checks, table_in, address_in, type_in, scale_in, role_in, roll_in, fault_below, records_of}
+use Rattle.point_list.specs.Lists.{check, first_failed, meaning_checks, whole_checks, table_in, address_in, type_in, scale_in, role_in, roll_in, fault_below, model_in, records_of}
 use Rattle.point_list.specs.ListMeaning.{point_in, row_before, rows_said, fault_or_later, first_fault, missing_header, rows_unless, body_meaning, list_meaning}
+use Rattle.point_list.specs.Resolving.{first_misplaced, list_at, placed, resolved_list}
 use Rattle.poll_book.specs.declared.rows.PointRow.{PointRow}
 use Rattle.office_core.specs.declared.event.Event.{Event}
 use Rattle.office_core.specs.declared.event.Event.TheVariants as event
@@ -82,7 +83,7 @@ module _ (known : List ℕ → Bool) where
   rows_known names number [] e = refl
   rows_known names number (r ∷ rs) e = by (fault_below known names r) refl (λ h. rows_known (names ++ field r 0 ∷ []) (number + 1) rs h) e
     where
-      put : (o : Option Point) → point_in r ≡ o → known (field r 1) ≡ true → AreKnown (rows_said (number + 1) rs) → AreKnown (row_before number o (rows_said (number + 1) rs))
+      put : (o : Option Point) → point_in r ≡ o → known (field r 1) ≡ true → AreKnown (rows_said (number + 1) rs) → AreKnown (row_before number (model_in r) o (rows_said (number + 1) rs))
       put None is here rest = rest
       put (Some point) is here rest = and_from (known point.device) _ (ap known (device_said r point is) ∙ here) rest
 
@@ -104,6 +105,22 @@ module _ (known : List ℕ → Bool) where
       by : (b : Bool) → IfOk (cond b (body_meaning known body) (Err missing_header)) AreKnown
       by true = by_fault (first_fault known [] 2 body) refl
       by false = tt
+
+  -- they are the same with the points placed
+  placed_known : (site : Site) (rows : List ListRow) → AreKnown rows → AreKnown (map (placed site) rows)
+  placed_known site [] all = refl
+  placed_known site (said ∷ rows) all =
+      let parts = and_parts (known said.point.device) (list_all (λ (x : ListRow). known x.point.device) rows) all in
+      and_from (known said.point.device) _ parts.0 (placed_known site rows parts.1)
+
+  -- and those of the rows that a list means at a site
+  resolved_known : (site : Site) (m : Result (List ListRow) ListError) → IfOk m AreKnown → IfOk (resolved_list site m) AreKnown
+  resolved_known site (Err e) all = tt
+  resolved_known site (Ok rows) all = by (first_misplaced site rows)
+    where
+      by : (o : Option ListError) → IfOk (rows_unless o (map (placed site) rows)) AreKnown
+      by None = placed_known site rows all
+      by (Some e) = tt
 
   -- those of points that are picked from such rows are known
   picked_known : (pick : Point → Bool) (rows : List ListRow) → AreKnown rows → list_all (λ (p : Point). known p.device) (filter pick (points_of rows)) ≡ true
@@ -162,7 +179,8 @@ may_restart_on before (event.Load caller key list) may = (may.0, by (is_used bef
 
     new : has_devices site more ≡ true
     new = added_known (is_device site) (length (points before)) (loading site (points before) list)
-        (taken_known (is_device site) (points before) (list_meaning (is_device site) (records_of list)) (meaning_known (is_device site) (records_of list)))
+        (taken_known (is_device site) (points before) (list_at site (records_of list))
+        (resolved_known (is_device site) site (list_meaning (is_device site) (records_of list)) (meaning_known (is_device site) (records_of list))))
 
     by : (b : Bool) → has_devices site (cond b (points before) (points before ++ more)) ≡ true
     by true = may.1

@@ -43,7 +43,7 @@ place_with lines None = length lines
 abbrev pub with_device : Site → Declared → Site
 with_device site said = record {
   lines = lines_with site.lines said.line (line_place site said.line);
-  devices = site.devices ++ record { name = said.name; line = place_with site.lines (line_place site said.line); unit = said.unit; gap = 0 } ∷ [];
+  devices = site.devices ++ record { name = said.name; line = place_with site.lines (line_place site said.line); unit = said.unit; gap = 0; models = [] } ∷ [];
 }
 
 -- its parts agree

@@ -93,6 +93,7 @@ pub(crate) fn with_device(alloc: Global, site: Site, said: Declared) -> Result<S
         line,
         unit: said.unit,
         gap: 0,
+        models: Items::from_vec(Vec::new(alloc)),
     })?;
     Ok(Site {
         lines: Items::from_vec(lines),

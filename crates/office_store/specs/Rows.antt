@@ -30,7 +30,7 @@ use Rattle.poll_book.specs.declared.requests.Outcome.{Outcome}
 use Rattle.poll_book.specs.declared.requests.Outcome.TheVariants.{Loaded, Ordered, RefusedFor}
 use Rattle.poll_book.specs.declared.requests.RequestFault.{RequestFault}
 use Rattle.poll_book.specs.declared.requests.RequestFault.TheVariants as fault
-use Rattle.point_list.specs.declared.error.ListFault.TheVariants.{BadCsv, BadHeader, BadName, UnknownDevice, BadTable, BadAddress, BadType, LeftOutType, BadLength, BadScale, BadRole, BadRoll, Twice, TooManyPoints}
+use Rattle.point_list.specs.declared.error.ListFault.TheVariants.{BadCsv, BadHeader, BadName, UnknownDevice, BadTable, BadAddress, BadType, LeftOutType, BadLength, BadScale, BadRole, BadRoll, Twice, TooManyPoints, NoModel, PastModel}
 
 -- ---- values
 
@@ -157,8 +157,8 @@ reason_coded n =
     if n == 1 then Some (fault.List BadCsv) else (if n == 2 then Some (fault.List BadHeader) else (if n == 3 then Some (fault.List BadName) else (if n == 4 then Some (fault.List UnknownDevice)
     else (if n == 5 then Some (fault.List BadTable) else (if n == 6 then Some (fault.List BadAddress) else (if n == 7 then Some (fault.List BadType) else (if n == 8 then Some (fault.List LeftOutType)
     else (if n == 9 then Some (fault.List BadLength) else (if n == 10 then Some (fault.List BadScale) else (if n == 11 then Some (fault.List BadRole) else (if n == 12 then Some (fault.List BadRoll)
-    else (if n == 13 then Some (fault.List Twice) else (if n == 14 then Some (fault.List TooManyPoints) else (if n == 20 then Some fault.PointDiffers else (if n == 21 then Some fault.UnknownPoint
-    else (if n == 22 then Some fault.NotASetting else (if n == 23 then Some fault.OutOfRange else (if n == 24 then Some fault.TooManyOrders else None))))))))))))))))))
+    else (if n == 13 then Some (fault.List Twice) else (if n == 14 then Some (fault.List TooManyPoints) else (if n == 16 then Some (fault.List NoModel) else (if n == 18 then Some (fault.List PastModel) else (if n == 20 then Some fault.PointDiffers else (if n == 21 then Some fault.UnknownPoint
+    else (if n == 22 then Some fault.NotASetting else (if n == 23 then Some fault.OutOfRange else (if n == 24 then Some fault.TooManyOrders else None))))))))))))))))))))
 
 -- 1 loaded rows, 2 ordered a number, 3 refused for a reason at a row and a column. Unused numbers are 0
 abbrev pub outcome_coded : ℕ → ℕ → ℕ → ℕ → Option Outcome

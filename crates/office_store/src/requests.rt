@@ -17,7 +17,7 @@ use crate::error::fault_of;
 use crate::values::{byte_of, number_of, value_at};
 use point_list::ListFault::{
     BadAddress, BadCsv, BadHeader, BadLength, BadName, BadRole, BadRoll, BadScale, BadTable,
-    BadType, LeftOutType, TooManyPoints, Twice, UnknownDevice,
+    BadType, LeftOutType, NoModel, PastModel, TooManyPoints, Twice, UnknownDevice,
 };
 use point_list::{Items, Text};
 use poll_book::RequestFault::{
@@ -79,6 +79,8 @@ fn reason_of(code: u32) -> Option<RequestFault>
         12 => Some(List(BadRoll)),
         13 => Some(List(Twice)),
         14 => Some(List(TooManyPoints)),
+        16 => Some(List(NoModel)),
+        18 => Some(List(PastModel)),
         20 => Some(PointDiffers),
         21 => Some(UnknownPoint),
         22 => Some(NotASetting),

@@ -14,7 +14,8 @@ ghost use Rattle.office_store.specs.Writing.{Within};
 use crate::run::run;
 use point_list::ListFault::{
     self, BadAddress, BadCsv, BadHeader, BadLength, BadName, BadRole, BadRoll, BadScale, BadSite,
-    BadTable, BadType, LeftOutType, Memory, TooManyPoints, Twice, UnknownDevice,
+    BadTable, BadType, LeftOutType, Memory, NoModel, PastModel, TooManyPoints, Twice,
+    UnknownDevice,
 };
 use poll_book::RequestFault::{
     List, NotASetting, OutOfRange, PointDiffers, TooManyOrders, UnknownPoint,
@@ -53,6 +54,8 @@ fn reason_number(fault: RequestFault) -> Option<u32>
         List(BadRoll) => Some(12),
         List(Twice) => Some(13),
         List(TooManyPoints) => Some(14),
+        List(NoModel) => Some(16),
+        List(PastModel) => Some(18),
         List(Memory | BadSite) => None,
         PointDiffers => Some(20),
         UnknownPoint => Some(21),

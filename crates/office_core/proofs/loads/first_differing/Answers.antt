@@ -1,13 +1,17 @@
-use Rattle.std.proofs.Common.{sym, ap}
-use Rattle.std.specs.Prelude.{option_map}
-use Rattle.point_list.specs.declared.point.ListRow.{ListRow}
-use Rattle.office_core.specs.Loads.{differs}
-use Rattle.office_core.proofs.Finding.{found, missed}
+use Rattle.std.proofs.Common.{◌+◌, ap, sym, ◌∙◌}
+use Rattle.std.specs.Prelude.{not, option_map}
+use Rattle.std.specs.List.{position}
+use Rattle.point_list.specs.declared.point.Point.{Point}
+use Rattle.office_core.specs.Loads.{agrees, known_named}
+use Rattle.office_core.proofs.Loading.{differing_at}
 use Rattle.office_core.proofs.loads.first_differing.Goals as goal
 
 pub returns-in-Some : goal.returns-in-Some
-returns-in-Some c =
-    ap (option_map (λ (row : ListRow). row.row)) (found (differs c.args.known.now) c.args.rows.now c.in-Some.place c.index-rows-place.result (sym c.in-Some.ensures))
+returns-in-Some c = λ rows are.
+    let other : Point → _ = λ (point : Point). not (agrees point (known_named c.args.known.now point.name)) in
+    ap (option_map (λ k. k + 2)) (c.in-Some.ensures ∙ ap (position other) are.same) ∙ sym (differing_at c.args.known.now 2 rows are.numbered)
 
 pub returns-in-None : goal.returns-in-None
-returns-in-None c = ap (option_map (λ (row : ListRow). row.row)) (missed (differs c.args.known.now) c.args.rows.now (sym c.in-None.ensures))
+returns-in-None c = λ rows are.
+    let other : Point → _ = λ (point : Point). not (agrees point (known_named c.args.known.now point.name)) in
+    ap (option_map (λ k. k + 2)) (c.in-None.ensures ∙ ap (position other) are.same) ∙ sym (differing_at c.args.known.now 2 rows are.numbered)
