@@ -13,7 +13,7 @@ pub returns-clause-goes : goal.returns-clause-goes
 returns-clause-goes g c = λ clean before follows.
     let jobs = c.in_ok-jobs.jobs.items in
     let are = jobs_made before c.args.conn c.in-Some.line c.line_of.result c.points.result.now c.site.result.now jobs (c.line_of.ensures before follows.0) c.in-Some.is
-    (c.points.ensures.history before follows.0) (c.site.ensures.history before follows.0) (c.readable_points.ensures before) c.in_ok-jobs.ensures in
+    (c.points.ensures.history before follows.0) (c.site.ensures.history before follows.0) (c.readable_points.ensures before follows.1) c.in_ok-jobs.ensures in
     by_result c.poll_jobs.result _ _ _ _
     (c.poll_jobs.ensures.goes clean before follows are (all_can before c.args.conn jobs (subst IsSound (c.site.ensures.history before follows.0) c.site.ensures.sound) are))
     (λ round whole. (jobs, are, whole)) (λ fault cut. (jobs, cut))

@@ -1,0 +1,20 @@
+use Rattle.std.proofs.Common.{[], ◌∷◌, ◌++◌, ◌∙◌, ap, sym, subst, take, arith, All}
+use Rattle.std.proofs.lemmas.List.{take_more, take_all}
+use Rattle.office_net.specs.LineSources.{IsOther}
+use Rattle.office_net.proofs.Skipping.{answers_first}
+use Rattle.office_net.proofs.hearing.first_reply.Goals as goal
+
+pub returns-in-Some : goal.returns-in-Some
+returns-in-Some c =
+    let i = c.loop-frame.frame-index in
+    let frames = c.args.frames.now in
+    let frame = c.frame-item.result in
+    answers_first c.args.query.now c.args.span c.in-Some.reply frames i frame
+    (take_more frames i frame c.loop-frame-test.true ∙ ap (λ e. take i frames ++ e ∷ []) (sym c.frame-item.is))
+    c.loop-frame.invariant c.in-Some.ensures.answer
+
+pub returns : goal.returns
+returns c =
+    let i = c.loop-frame.frame-index in
+    let frames = c.args.frames.now in
+    subst (All (IsOther c.args.query.now c.args.span)) (take_all i frames (omega (arith, c.loop-frame-test.false))) c.loop-frame.invariant

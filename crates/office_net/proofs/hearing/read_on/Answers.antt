@@ -1,0 +1,14 @@
+use Rattle.std.proofs.Common.{take, arith, refl, subst, length-take-le}
+use Rattle.mb_mbap.specs.Counted.{inner_of}
+use Rattle.office_net.specs.LineSources.{Tells}
+use Rattle.office_net.proofs.Piecewise.{hears_piece}
+use Rattle.office_net.proofs.hearing.read_on.Goals as goal
+
+pub returns-clause-heard : goal.returns-clause-heard
+returns-clause-heard g c =
+    let count = c.in_ok-count.count in
+    let piece = take count c.read_piece.new.piece in
+    hears_piece (Tells c.args.query.now c.args.span c.first_reply-reply.result) c.args.stream.now c.feed.new.self
+    (g.R.Read.remaining (inner_of c.args.reader.now)) (g.R.Read.remaining (inner_of c.read_piece.new.reader)) piece piece c.in-Ok.fed.frames.items c.in-Ok.fed.fault count refl
+    (length-take-le count c.read_piece.new.piece (omega (arith, c.in_ok-count.ensures.some, c.requires.few, c.read_piece.ensures.same)))
+    c.in_ok-count.ensures.bytes c.in-Ok.ensures.stream (subst (Tells c.args.query.now c.args.span c.first_reply-reply.result) c.deref.ensures.value c.first_reply-reply.ensures)
