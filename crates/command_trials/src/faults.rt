@@ -10,6 +10,7 @@ use poll_book::StoreFault;
 use std::alloc::{AllocError, Global};
 use std::process::Abort;
 use std::test::Fail;
+use sunspec::SunError;
 
 /// Each fault, its text behind the program's name, and the program's status.
 const FAULTS: &[(Fault, &str, u8)] = &[
@@ -22,6 +23,9 @@ const FAULTS: &[(Fault, &str, u8)] = &[
     (Fault::Line, "line", 1),
     (Fault::Noise, "noise", 1),
     (Fault::Frames, "frames", 1),
+    (Fault::NoMarker, "no marker", 1),
+    (Fault::PastEnd, "past end", 1),
+    (Fault::TooManyModels, "too many models", 1),
     (Fault::Memory, "memory", 1),
     (Fault::Store(StoreFault::Memory), "store memory", 1),
     (Fault::Store(StoreFault::Full), "store full", 1),
@@ -73,6 +77,11 @@ fn faults_come_of_others(rt: HostRuntime) {
         (Fault::from(ReplayFault::Memory), Fault::Memory),
         (Fault::from(MapError::BadImage), Fault::File),
         (Fault::from(MapError::Memory), Fault::Memory),
+        (Fault::from(SunError::NoMarker), Fault::NoMarker),
+        (Fault::from(SunError::PastEnd), Fault::PastEnd),
+        (Fault::from(SunError::TooManyModels), Fault::TooManyModels),
+        (Fault::from(SunError::SourceFault), Fault::Line),
+        (Fault::from(SunError::Memory), Fault::Memory),
         (Fault::from(AllocError), Fault::Memory),
     ] {
         assert_told(&rt, &expected, &fault, &expected);

@@ -5,6 +5,8 @@
 #[cfg(test)]
 mod asserting;
 #[cfg(test)]
+mod discoveries;
+#[cfg(test)]
 mod faults;
 #[cfg(test)]
 mod plans;

@@ -8,7 +8,7 @@ use std::test::Fail;
 
 /// Two devices on a line, of which the second bridges gaps, and a third without points.
 const SITE: &str =
-    "[[line]]\nname = \"roof\"\naddress = \"127.0.0.1:502\"\n[[device]]\nname = \"m2\"\nline = \"roof\"\nunit = 18\n[[device]]\nname = \"m1\"\nline = \"roof\"\nunit = 17\ngap = 124\n[[device]]\nname = \"m3\"\nline = \"roof\"\nunit = 19\n";
+    "[[line]]\nname = \"roof\"\naddress = \"127.0.0.1:502\"\n[[device]]\nname = \"m2\"\nline = \"roof\"\nunit = 18\n[[device]]\nname = \"m1\"\nline = \"roof\"\nunit = 17\ngap = 124\nmodels = [[1, 40002, 66], [103, 40070, 50]]\n[[device]]\nname = \"m3\"\nline = \"roof\"\nunit = 19\n";
 
 const HEADER: &str = "name,device,table,address,type,length,scale,role,roll\n";
 
@@ -29,7 +29,16 @@ const CASES: &[(&str, Result<&str, Fault>)] = &[
     ),
     ("a,m1,holding,0,float32,,,gauge,\n", Err(Fault::BadList)),
     ("a,m9,holding,0,uint16,,,gauge,\n", Err(Fault::BadList)),
-    ("a,m1,holding,m103+2,uint16,,,gauge,\n", Err(Fault::BadList)),
+    (
+        "a,m1,holding,m103+2,uint16,,,gauge,\nb,m1,holding,m1+50,string,16,,gauge,\n",
+        Ok("device m1\n03 40052 21\n"),
+    ),
+    ("a,m1,holding,m160+2,uint16,,,gauge,\n", Err(Fault::BadList)),
+    (
+        "a,m1,holding,m103+52,uint16,,,gauge,\n",
+        Err(Fault::BadList),
+    ),
+    ("a,m2,holding,m103+2,uint16,,,gauge,\n", Err(Fault::BadList)),
 ];
 
 fn planned(alloc: Global, records: &str) -> Result<String, Fault> {

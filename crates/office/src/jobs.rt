@@ -2,9 +2,10 @@
 //! the store, names, the line, and the work itself.
 use crate::files::{listen, print, read_file, sim_of, site_of};
 use crate::stores::work_on;
-use crate::work::Work;
+use crate::work::{Work, seconds};
 use mb_mbap::Counted;
-use office_commands::{Fault, answer_lines, answer_stream, plan};
+use office_commands::{Fault, answer_lines, answer_stream, connect, discover, plan};
+use office_net::LineSource;
 use office_script::{Replayed, replay};
 use office_words::Job;
 use poll_book::{Caller, Key};
@@ -25,6 +26,23 @@ fn plan_file(rt: &HostRuntime, site: &str, list: &str) -> Result<(), Fault> {
     let site = site_of(rt, site)?;
     let list = read_file(rt, list)?;
     let text = plan(rt.alloc(), &site, &list)?;
+    print(rt, text.as_str())
+}
+
+/// Asks a device which models it has.
+fn discover_device(rt: &HostRuntime, site: &str, timeout: u16, device: &str) -> Result<(), Fault> {
+    let site = site_of(rt, site)?;
+    let Some(device) = site.device(device) else {
+        return Err(Fault::Unknown);
+    };
+    let Some(line) = site.lines.as_slice().get(device.line as usize) else {
+        return Err(Fault::Unknown);
+    };
+    let stream = connect(rt, line.address.as_str(), seconds(timeout))?;
+    let reader = Counted::new(&stream);
+    let writer = Counted::new(&stream);
+    let mut source = LineSource::new(rt.alloc(), device.unit, reader, writer);
+    let text = discover(rt.alloc(), &mut source)?;
     print(rt, text.as_str())
 }
 
@@ -89,6 +107,11 @@ pub(crate) fn carry_out(rt: &HostRuntime, job: &Job) -> Result<ExitCode, Fault> 
             list.as_str(),
         )?,
         Job::Plan { site, list } => plan_file(rt, site.as_str(), list.as_str())?,
+        Job::Discover {
+            site,
+            timeout,
+            device,
+        } => discover_device(rt, site.as_str(), *timeout, device.as_str())?,
         Job::Poll {
             store,
             site,

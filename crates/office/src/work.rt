@@ -62,7 +62,7 @@ fn address_of(rt: &HostRuntime, site: &Site, line: &str) -> Result<String, Fault
     Err(Fault::Unknown)
 }
 
-fn seconds(count: u16) -> Duration {
+pub(crate) fn seconds(count: u16) -> Duration {
     Duration::from_secs(u64::from(count))
 }
 

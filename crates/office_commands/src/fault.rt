@@ -12,6 +12,7 @@ use poll_book::StoreFault;
 use std::alloc::AllocError;
 use std::error::Error;
 use std::fmt;
+use sunspec::SunError;
 
 /// A fault that ends a command.
 #[derive(Clone, Copy, Debug, PartialEq, Eq)]
@@ -34,6 +35,12 @@ pub enum Fault {
     Noise,
     /// What came over a connection is no frame.
     Frames,
+    /// A device has the SunSpec marker at none of the bases.
+    NoMarker,
+    /// A register of a device's chain of models isn't there.
+    PastEnd,
+    /// A device's chain has more than 256 models.
+    TooManyModels,
     /// Memory was refused.
     Memory,
     /// The store refused.
@@ -77,6 +84,9 @@ impl fmt::Display for Fault {
             Fault::File => f.write_str("file"),
             Fault::Line => f.write_str("line"),
             Fault::Noise => f.write_str("noise"),
+            Fault::NoMarker => f.write_str("no marker"),
+            Fault::PastEnd => f.write_str("past end"),
+            Fault::TooManyModels => f.write_str("too many models"),
             Fault::Memory => f.write_str("memory"),
             Fault::Store(fault) => write!(f, "store {fault}"),
             Fault::BadVersion => f.write_str("bad version"),
@@ -146,6 +156,19 @@ impl From<ListError> for Fault {
             ListFault::Memory => Fault::Memory,
             ListFault::BadSite => Fault::BadSite,
             _ => Fault::BadList,
+        }
+    }
+}
+
+impl From<SunError> for Fault {
+    /// Of a device's chain of models, which is never out of a range or a scale.
+    fn from(error: SunError) -> Fault {
+        match error {
+            SunError::NoMarker => Fault::NoMarker,
+            SunError::PastEnd => Fault::PastEnd,
+            SunError::TooManyModels => Fault::TooManyModels,
+            SunError::Memory => Fault::Memory,
+            SunError::SourceFault | SunError::OutOfRange | SunError::BadScale => Fault::Line,
         }
     }
 }

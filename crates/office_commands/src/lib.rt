@@ -3,6 +3,7 @@
 //! program's matter.
 #![tactic(auto)]
 
+mod discovering;
 mod fault;
 mod frame_line;
 mod listing;
@@ -12,6 +13,7 @@ mod serving;
 mod simulating;
 mod timed;
 
+pub use discovering::discover;
 pub use fault::Fault;
 pub use listing::{load, plan};
 pub use ordering::order;

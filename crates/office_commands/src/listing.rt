@@ -1,4 +1,6 @@
 //! Point lists: loading them, and planning their reads.
+ghost use Rattle.point_list.specs.Sites.{IsSound};
+
 use crate::Fault;
 use office_core::{Office, RequestAnswer};
 use point_list::{Device, Point, Site, read_list, resolve};
@@ -83,9 +85,11 @@ fn push_device(
 /// The fewest reads that give the points of a list, as they are printed: for each device of the site
 /// that has points a line `device NAME`, and then a line for each of its reads, with the function
 /// code, the start and the quantity, as `03 0 125`. A list that isn't one is `BadList`.
-pub fn plan(alloc: Global, site: &Site, list: &[u8]) -> Result<String, Fault> {
+pub fn plan(alloc: Global, site: &Site, list: &[u8]) -> Result<String, Fault>
+    requires { IsSound site.now }
+{
     let rows = read_list(alloc, list, site)?;
-    let points = resolve(alloc, rows)?;
+    let points = resolve(alloc, rows, site)?;
     let mut text = String::new(alloc);
     for device in site.devices.as_slice() {
         push_device(alloc, &mut text, &points, device)?;

@@ -15,6 +15,7 @@ pub data JobView : Type 0 where
   replay : JobView
   load : (store site caller key list : Text) → JobView
   plan : (site list : Text) → JobView
+  discover : (site : Text) (timeout : ℕ) (device : Text) → JobView
   poll : (store site : Text) (slot timeout : ℕ) (line : Text) → JobView
   order : (store site caller key point : Text) (value : ℤ) → JobView
   report : (store site point : Text) (from to : ℕ) → JobView
@@ -25,6 +26,7 @@ abbrev pub job_view : Job → JobView
 job_view job.Replay = replay
 job_view (job.Load store site caller key list) = load (string_bytes store) (string_bytes site) caller key (string_bytes list)
 job_view (job.Plan site list) = plan (string_bytes site) (string_bytes list)
+job_view (job.Discover site timeout device) = discover (string_bytes site) timeout (string_bytes device)
 job_view (job.Poll store site slot timeout line) = poll (string_bytes store) (string_bytes site) slot timeout (string_bytes line)
 job_view (job.Order store site caller key point value) = order (string_bytes store) (string_bytes site) caller key (string_bytes point) value
 job_view (job.Report store site point from to) = report (string_bytes store) (string_bytes site) (string_bytes point) from to
@@ -47,6 +49,13 @@ plan_of rows = do
   site ← first_of (codes "site") rows
   list ← first_of (codes "list") rows
   Some (plan site list)
+
+unfoldable pub discover_of : List Row → Option JobView
+discover_of rows = do
+  site ← first_of (codes "site") rows
+  timeout ← first_of (codes "timeout") rows >>= seconds_of
+  device ← first_of (codes "device") rows
+  Some (discover site timeout device)
 
 unfoldable pub poll_of : List Row → Option JobView
 poll_of rows = do
@@ -98,6 +107,7 @@ job_in (name, rows) =
     if bytes_eq name (codes "replay") then Some replay
     else if bytes_eq name (codes "load") then load_of rows
     else if bytes_eq name (codes "plan") then plan_of rows
+    else if bytes_eq name (codes "discover") then discover_of rows
     else if bytes_eq name (codes "poll") then poll_of rows
     else if bytes_eq name (codes "order") then order_of rows
     else if bytes_eq name (codes "report") then report_of rows

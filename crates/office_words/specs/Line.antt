@@ -68,6 +68,9 @@ load_line = with_values (named (codes "load")) (store ∷ site ∷ caller ∷ ke
 unfoldable pub plan_line : App
 plan_line = with_values (named (codes "plan")) (site ∷ place (codes "list") ∷ [])
 
+unfoldable pub discover_line : App
+discover_line = with_values (named (codes "discover")) (site ∷ timeout ∷ place (codes "device") ∷ [])
+
 unfoldable pub poll_line : App
 poll_line = with_values (named (codes "poll")) (store ∷ site ∷ option (codes "slot") ∷ timeout ∷ place (codes "line") ∷ [])
 
@@ -90,7 +93,7 @@ with_lines a [] = a
 with_lines a (line ∷ lines) = with_lines (with_line a line) lines
 
 unfoldable pub with_commands : App → App
-with_commands a = with_lines a (replay_line ∷ load_line ∷ plan_line ∷ poll_line ∷ order_line ∷ report_line ∷ serve_line ∷ sim_line ∷ [])
+with_commands a = with_lines a (replay_line ∷ load_line ∷ plan_line ∷ discover_line ∷ poll_line ∷ order_line ∷ report_line ∷ serve_line ∷ sim_line ∷ [])
 
 -- no word is the program's own name, and a command must be there
 abbrev pub plain_top : Shape → Shape

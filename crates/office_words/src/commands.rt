@@ -1,6 +1,6 @@
 //! The job of each command, by the values that its matches have.
 ghost use Rattle.clap.specs.Words.{found_of, rows_of, subcommand_rows_of};
-ghost use Rattle.office_words.specs.Jobs.{job_found, job_view, load_of, order_of, plan_of, poll_of, report_of, serve_of, sim_of};
+ghost use Rattle.office_words.specs.Jobs.{discover_of, job_found, job_view, load_of, order_of, plan_of, poll_of, report_of, serve_of, sim_of};
 ghost use Rattle.office_words.specs.Values.{Gives};
 
 use crate::given::{
@@ -38,6 +38,20 @@ fn plan(alloc: Global, matches: &ArgMatches) -> Result<Job, WordFault>
     let site = text(alloc, matches, "site")?;
     let list = text(alloc, matches, "list")?;
     Ok(Job::Plan { site, list })
+}
+
+#[tactic(auto, unfolding(crate::specs::Jobs::discover_of))]
+fn discover(alloc: Global, matches: &ArgMatches) -> Result<Job, WordFault>
+    ensures { Gives job_view result (discover_of (rows_of (found_of matches.now))) }
+{
+    let site = text(alloc, matches, "site")?;
+    let timeout = seconds(matches, "timeout")?;
+    let device = text(alloc, matches, "device")?;
+    Ok(Job::Discover {
+        site,
+        timeout,
+        device,
+    })
 }
 
 #[tactic(auto, unfolding(crate::specs::Jobs::poll_of))]
@@ -134,6 +148,7 @@ pub(crate) fn job_in(alloc: Global, matches: &ArgMatches) -> Result<Job, WordFau
         Some(("replay", _)) => Ok(Job::Replay),
         Some(("load", inner)) => load(alloc, inner),
         Some(("plan", inner)) => plan(alloc, inner),
+        Some(("discover", inner)) => discover(alloc, inner),
         Some(("poll", inner)) => poll(alloc, inner),
         Some(("order", inner)) => order(alloc, inner),
         Some(("report", inner)) => report(alloc, inner),

@@ -25,6 +25,13 @@ pub enum Job {
         site: String,
         list: String,
     },
+    /// Prints the chain of models of a device.
+    Discover {
+        site: String,
+        /// Seconds, 1 to 3,600.
+        timeout: u16,
+        device: String,
+    },
     /// Polls the devices of a line for a slot.
     Poll {
         store: String,

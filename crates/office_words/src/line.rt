@@ -1,7 +1,7 @@
 //! The command line, with what help says of each command.
 ghost use Rattle.std.specs.Prelude.{◌≡◌, IfOk, false};
 ghost use Rattle.clap.specs.declared.builder.command.Command.TheViews.{out-Command};
-ghost use Rattle.office_words.specs.Line.{bare_line, help_line, without_help, line_of, load_line, named, office_line, order_line, plan_line, poll_line, replay_line, report_line, serve_line, sim_line, with_version, with_commands};
+ghost use Rattle.office_words.specs.Line.{bare_line, discover_line, help_line, without_help, line_of, load_line, named, office_line, order_line, plan_line, poll_line, replay_line, report_line, serve_line, sim_line, with_version, with_commands};
 
 use crate::builders::{
     with_caller, with_key, with_option, with_place, with_site, with_spare, with_store,
@@ -87,6 +87,29 @@ fn plan<'a>(alloc: Global) -> Result<Command<'a>, AllocError>
         "list",
         "LIST",
         "The point list, as points.csv",
+    )?;
+    Ok(command)
+}
+
+#[tactic(auto, unfolding(crate::specs::Line::discover_line))]
+fn discover<'a>(alloc: Global) -> Result<Command<'a>, AllocError>
+    ensures line { IfOk result (λ c. line_of c ≡ discover_line) }
+    ensures plain { IfOk result (λ c. (out-Command c).has_globals ≡ false) }
+{
+    let command = command(
+        alloc,
+        "discover",
+        "Asks a SunSpec device which models it has and where, and prints a line for the site file",
+        "Asks a SunSpec device which models it has and where, and prints a line for the site file.\n\nExample: office discover --site site.toml inverter",
+    );
+    let command = with_site(alloc, command)?;
+    let command = with_timeout(alloc, command)?;
+    let command = with_place(
+        alloc,
+        command,
+        "device",
+        "DEVICE",
+        "The device, as the site file names it, as inverter",
     )?;
     Ok(command)
 }
@@ -252,6 +275,7 @@ fn with_commands<'a>(alloc: Global, command: Command<'a>) -> Result<Command<'a>,
     let replay = replay(alloc)?;
     let load = load(alloc)?;
     let plan = plan(alloc)?;
+    let discover = discover(alloc)?;
     let poll = poll(alloc)?;
     let order = order(alloc)?;
     let report = report(alloc)?;
@@ -260,7 +284,8 @@ fn with_commands<'a>(alloc: Global, command: Command<'a>) -> Result<Command<'a>,
     let replayed = with_subcommand(command, replay)?;
     let loaded = with_subcommand(replayed, load)?;
     let planned = with_subcommand(loaded, plan)?;
-    let polled = with_subcommand(planned, poll)?;
+    let discovered = with_subcommand(planned, discover)?;
+    let polled = with_subcommand(discovered, poll)?;
     let ordered = with_subcommand(polled, order)?;
     let reported = with_subcommand(ordered, report)?;
     let served = with_subcommand(reported, serve)?;

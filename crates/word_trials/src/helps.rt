@@ -37,6 +37,17 @@ const HELPS: &[(&str, &[&str])] = &[
         ],
     ),
     (
+        "discover",
+        &[
+            "Usage: office discover",
+            "--site <FILE>",
+            "--timeout <SECONDS>",
+            "[default: 5]",
+            "<DEVICE>",
+            "Example: office discover --site",
+        ],
+    ),
+    (
         "poll",
         &[
             "Usage: office poll",

@@ -20,6 +20,8 @@ const JOBS: &[(&str, &str)] = &[
     ),
     ("plan --site s points.csv", "plan s points.csv"),
     ("plan --site s -- --site", "plan s --site"),
+    ("discover --site s m1", "discover s 5 m1"),
+    ("discover m1 --timeout=3600 --site=s", "discover s 3600 m1"),
     ("poll --store f --site s --slot 0 roof", "poll f s 0 5 roof"),
     (
         "poll --store f --site s --slot 4294967295 --timeout 1 roof",

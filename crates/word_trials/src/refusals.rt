@@ -16,6 +16,7 @@ const PARTS: &[&[&str]] = &[
         "list",
     ],
     &["plan", "--site s", "list"],
+    &["discover", "--site s", "m1"],
     &["poll", "--store f", "--site s", "--slot 1", "roof"],
     &[
         "order",
@@ -38,7 +39,9 @@ const REFUSED: &[&str] = &[
     "office replay",
     "Replay",
     "replay --store f",
-    "discover --site s m1",
+    "discover --store f --site s m1",
+    "discover --site s --timeout 0 m1",
+    "discover --site s --timeout 3601 m1",
     "--help",
     "help",
     "--version",

@@ -36,6 +36,11 @@ fn job_text(alloc: Global, job: &Job) -> Result<String, AllocError> {
             format!(in alloc; "load {store} {site} {caller} {key} {list}")
         }
         Job::Plan { site, list } => format!(in alloc; "plan {site} {list}"),
+        Job::Discover {
+            site,
+            timeout,
+            device,
+        } => format!(in alloc; "discover {site} {timeout} {device}"),
         Job::Poll {
             store,
             site,
