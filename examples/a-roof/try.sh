@@ -3,12 +3,12 @@
 #
 #     bash examples/a-roof/try.sh PATH-OF-OFFICE
 #
-# It works in a new folder of its own, which it leaves, and needs curl and the ports 15020 and 15021.
+# It works in a new folder of its own, which it leaves, and needs curl and the ports 15020 to 15022.
 set -euo pipefail
 office=$(realpath "$(command -v "${1:-office}")")
 here=$(realpath "$(dirname "$0")")
 cd "$(mktemp -d)"
-cp "$here"/*.toml "$here"/points.csv .
+cp "$here"/*.toml "$here"/*.csv .
 store=(--store roof.db --site site.toml)
 players=()
 trap 'for player in "${players[@]}"; do kill "$player" 2> stopping || true; done' EXIT
@@ -98,3 +98,22 @@ ask "$at/callers/ann/orders/k2"
 ask -i -X PUT -d '{"point":"inverter.limit","value":90}' "$at/callers/ann/orders/k3"
 ask -X PUT -d '{"point":"inverter.limit","value":90}' "$at/callers/ann/orders/k3"
 wait "${players[-1]}"
+
+# A SunSpec device says itself which models it has and where; the last line that is printed is its member in
+# the site file, and its list names points by model.
+start sim --image sunspec.toml --port 15022
+run discover --site sunspec-site.toml --timeout 1 string > discovered
+wait "${players[-1]}"
+cat discovered
+tail -n 1 discovered >> sunspec-site.toml
+
+store=(--store sunspec.db --site sunspec-site.toml)
+run plan --site sunspec-site.toml sunspec-points.csv
+run load "${store[@]}" --caller ann --key l1 sunspec-points.csv
+poll sunspec.toml 15022 1 yard
+# An hour later it has made 4,300 Wh more.
+sed 's/1, 34464, 0/1, 38764, 0/' sunspec.toml > sunspec-now.toml
+poll sunspec-now.toml 15022 2 yard
+for point in string.power string.energy string.state string.serial string.east string.west; do
+    run report "${store[@]}" "$point" 1 2
+done
