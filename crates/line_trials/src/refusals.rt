@@ -25,6 +25,8 @@ const RECORDS: &[(&str, &str)] = &[
     ("a,m1,holding,,uint16,,,gauge,", "bad address"),
     ("a,m1,holding,000107,uint16,,,gauge,", "bad address"),
     ("a,m1,holding,65535,uint32,,,gauge,", "bad address"),
+    ("a,m1,input,m103+2,uint16,,,gauge,", "bad address"),
+    ("a,m1,holding,m103+2,uint16,,,gauge,", "no model"),
     ("a,m1,holding,107,uint8,,,gauge,", "bad type"),
     ("a,m1,holding,107,bit,,,gauge,", "bad type"),
     ("a,m1,coil,107,uint16,,,gauge,", "bad type"),
