@@ -21,5 +21,3 @@ pub mod Turned
 pub mod Requested
 pub mod Shown
 pub mod Connected
-pub mod Skipping
-pub mod Piecewise

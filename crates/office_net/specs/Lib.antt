@@ -7,4 +7,3 @@ pub mod Rounds
 pub mod Turned
 pub mod Replies
 pub mod Serving
-pub mod LineSources

@@ -1,15 +1,12 @@
 //! The office at its lines and its callers: poll rounds, which ask what lacks a reading and send the
-//! orders that wait, and requests over HTTP; and a device's registers over a line.
+//! orders that wait, and requests over HTTP.
 #![tactic(auto)]
 
 mod answering;
 mod calls;
-mod exchange;
 mod fault;
-mod hearing;
 mod job;
 pub mod laws;
-mod line;
 mod machine;
 mod planning;
 mod polling;
@@ -22,7 +19,6 @@ mod turns;
 pub use answering::respond;
 pub use fault::PollFault;
 pub use job::Job;
-pub use line::LineSource;
 pub use machine::Poll;
 pub use planning::jobs_of;
 pub use polling::poll_round;

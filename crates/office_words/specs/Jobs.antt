@@ -7,31 +7,40 @@ use Rattle.clap.specs.declared.error.kind.ErrorKind.{ErrorKind}
 use Rattle.clap.specs.declared.error.kind.ErrorKind.TheVariants.{DisplayHelp, DisplayVersion}
 use Rattle.office_words.specs.Line.{help_line, office_line}
 use Rattle.office_words.specs.Values.{◌>>=◌, caller_of, if_given, key_of, number_of, port_of, seconds_of, value_of}
+use Rattle.office_words.specs.declared.job.Errand.{Errand}
+use Rattle.office_words.specs.declared.job.Errand.TheVariants as errand
 use Rattle.office_words.specs.declared.job.Job.{Job}
 use Rattle.office_words.specs.declared.job.Job.TheVariants as job
+
+-- an errand in an office, with texts as lists of bytes
+pub data ErrandView : Type 0 where
+  load : (caller key list : Text) → ErrandView
+  poll : (slot timeout : ℕ) (line : Text) → ErrandView
+  order : (caller key point : Text) (value : ℤ) → ErrandView
+  report : (point : Text) (from to : ℕ) → ErrandView
+  serve : (port : ℕ) (count : Option ℕ) (timeout : ℕ) → ErrandView
+
+abbrev pub errand_view : Errand → ErrandView
+errand_view (errand.Load caller key list) = load caller key (string_bytes list)
+errand_view (errand.Poll slot timeout line) = poll slot timeout (string_bytes line)
+errand_view (errand.Order caller key point value) = order caller key (string_bytes point) value
+errand_view (errand.Report point from to) = report (string_bytes point) from to
+errand_view (errand.Serve port count timeout) = serve port count timeout
 
 -- a job, with texts as lists of bytes
 pub data JobView : Type 0 where
   replay : JobView
-  load : (store site caller key list : Text) → JobView
   plan : (site list : Text) → JobView
   discover : (site : Text) (timeout : ℕ) (device : Text) → JobView
-  poll : (store site : Text) (slot timeout : ℕ) (line : Text) → JobView
-  order : (store site caller key point : Text) (value : ℤ) → JobView
-  report : (store site point : Text) (from to : ℕ) → JobView
-  serve : (store site : Text) (port : ℕ) (count : Option ℕ) (timeout : ℕ) → JobView
   sim : (image : Text) (port : Option ℕ) → JobView
+  office : (store site : Text) (does : ErrandView) → JobView
 
 abbrev pub job_view : Job → JobView
 job_view job.Replay = replay
-job_view (job.Load store site caller key list) = load (string_bytes store) (string_bytes site) caller key (string_bytes list)
 job_view (job.Plan site list) = plan (string_bytes site) (string_bytes list)
 job_view (job.Discover site timeout device) = discover (string_bytes site) timeout (string_bytes device)
-job_view (job.Poll store site slot timeout line) = poll (string_bytes store) (string_bytes site) slot timeout (string_bytes line)
-job_view (job.Order store site caller key point value) = order (string_bytes store) (string_bytes site) caller key (string_bytes point) value
-job_view (job.Report store site point from to) = report (string_bytes store) (string_bytes site) (string_bytes point) from to
-job_view (job.Serve store site port count timeout) = serve (string_bytes store) (string_bytes site) port count timeout
 job_view (job.Sim image port) = sim (string_bytes image) port
+job_view (job.Office store site does) = office (string_bytes store) (string_bytes site) (errand_view does)
 
 -- ---- the job of each command, by the values that were matched
 
@@ -42,7 +51,7 @@ load_of rows = do
   caller ← first_of (codes "caller") rows >>= caller_of
   key ← first_of (codes "key") rows >>= key_of
   list ← first_of (codes "list") rows
-  Some (load store site caller key list)
+  Some (office store site (load caller key list))
 
 unfoldable pub plan_of : List Row → Option JobView
 plan_of rows = do
@@ -64,7 +73,7 @@ poll_of rows = do
   slot ← first_of (codes "slot") rows >>= number_of
   timeout ← first_of (codes "timeout") rows >>= seconds_of
   line ← first_of (codes "line") rows
-  Some (poll store site slot timeout line)
+  Some (office store site (poll slot timeout line))
 
 unfoldable pub order_of : List Row → Option JobView
 order_of rows = do
@@ -74,7 +83,7 @@ order_of rows = do
   key ← first_of (codes "key") rows >>= key_of
   point ← first_of (codes "point") rows
   value ← first_of (codes "value") rows >>= value_of
-  Some (order store site caller key point value)
+  Some (office store site (order caller key point value))
 
 -- the slots are in order, and at most 9,999 apart
 unfoldable pub report_of : List Row → Option JobView
@@ -84,7 +93,7 @@ report_of rows = do
   point ← first_of (codes "point") rows
   from ← first_of (codes "from") rows >>= number_of
   to ← first_of (codes "to") rows >>= number_of
-  if nat_le from to && nat_le to (from + 9999) then Some (report store site point from to) else None
+  if nat_le from to && nat_le to (from + 9999) then Some (office store site (report point from to)) else None
 
 unfoldable pub serve_of : List Row → Option JobView
 serve_of rows = do
@@ -93,7 +102,7 @@ serve_of rows = do
   port ← first_of (codes "port") rows >>= port_of
   count ← if_given number_of (first_of (codes "count") rows)
   timeout ← first_of (codes "timeout") rows >>= seconds_of
-  Some (serve store site port count timeout)
+  Some (office store site (serve port count timeout))
 
 unfoldable pub sim_of : List Row → Option JobView
 sim_of rows = do

@@ -6,7 +6,7 @@ ghost use Rattle.office_words.specs.Values.{Gives};
 use crate::given::{
     caller, key, number, number_if_given, port, port_if_given, seconds, text, value,
 };
-use crate::{Job, WordFault};
+use crate::{Errand, Job, WordFault};
 use clap::ArgMatches;
 use std::alloc::Global;
 
@@ -22,12 +22,11 @@ fn load(alloc: Global, matches: &ArgMatches) -> Result<Job, WordFault>
     let caller = caller(matches, "caller")?;
     let key = key(matches, "key")?;
     let list = text(alloc, matches, "list")?;
-    Ok(Job::Load {
+    let errand = Errand::Load { caller, key, list };
+    Ok(Job::Office {
         store,
         site,
-        caller,
-        key,
-        list,
+        errand,
     })
 }
 
@@ -63,12 +62,15 @@ fn poll(alloc: Global, matches: &ArgMatches) -> Result<Job, WordFault>
     let slot = number(matches, "slot")?;
     let timeout = seconds(matches, "timeout")?;
     let line = text(alloc, matches, "line")?;
-    Ok(Job::Poll {
-        store,
-        site,
+    let errand = Errand::Poll {
         slot,
         timeout,
         line,
+    };
+    Ok(Job::Office {
+        store,
+        site,
+        errand,
     })
 }
 
@@ -82,13 +84,16 @@ fn order(alloc: Global, matches: &ArgMatches) -> Result<Job, WordFault>
     let key = key(matches, "key")?;
     let point = text(alloc, matches, "point")?;
     let value = value(matches, "value")?;
-    Ok(Job::Order {
-        store,
-        site,
+    let errand = Errand::Order {
         caller,
         key,
         point,
         value,
+    };
+    Ok(Job::Office {
+        store,
+        site,
+        errand,
     })
 }
 
@@ -104,12 +109,11 @@ fn report(alloc: Global, matches: &ArgMatches) -> Result<Job, WordFault>
     if from > to || to - from > MOST_APART {
         return Err(WordFault::Words);
     }
-    Ok(Job::Report {
+    let errand = Errand::Report { point, from, to };
+    Ok(Job::Office {
         store,
         site,
-        point,
-        from,
-        to,
+        errand,
     })
 }
 
@@ -122,12 +126,15 @@ fn serve(alloc: Global, matches: &ArgMatches) -> Result<Job, WordFault>
     let port = port(matches, "port")?;
     let count = number_if_given(matches, "count")?;
     let timeout = seconds(matches, "timeout")?;
-    Ok(Job::Serve {
-        store,
-        site,
+    let errand = Errand::Serve {
         port,
         count,
         timeout,
+    };
+    Ok(Job::Office {
+        store,
+        site,
+        errand,
     })
 }
 

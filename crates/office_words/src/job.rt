@@ -12,14 +12,6 @@ use std::fmt;
 pub enum Job {
     /// Plays a script.
     Replay,
-    /// Loads a point list.
-    Load {
-        store: String,
-        site: String,
-        caller: Caller,
-        key: Key,
-        list: String,
-    },
     /// Prints the reads of a point list.
     Plan {
         site: String,
@@ -32,10 +24,30 @@ pub enum Job {
         timeout: u16,
         device: String,
     },
-    /// Polls the devices of a line for a slot.
-    Poll {
+    /// Plays the devices of an image, on a port or on standard input and output.
+    Sim {
+        image: String,
+        port: Option<u16>,
+    },
+    /// Does an errand in the office of a store, over a site.
+    Office {
         store: String,
         site: String,
+        errand: Errand,
+    },
+}
+
+/// What is done in an office.
+#[derive(Debug, Drop)]
+pub enum Errand {
+    /// Loads a point list.
+    Load {
+        caller: Caller,
+        key: Key,
+        list: String,
+    },
+    /// Polls the devices of a line for a slot.
+    Poll {
         slot: u32,
         /// Seconds, 1 to 3,600.
         timeout: u16,
@@ -43,8 +55,6 @@ pub enum Job {
     },
     /// Orders a setting.
     Order {
-        store: String,
-        site: String,
         caller: Caller,
         key: Key,
         point: String,
@@ -52,26 +62,17 @@ pub enum Job {
     },
     /// Prints the readings of a point, with `from` at most `to` and the two at most 9,999 apart.
     Report {
-        store: String,
-        site: String,
         point: String,
         from: u32,
         to: u32,
     },
     /// Answers over HTTP.
     Serve {
-        store: String,
-        site: String,
         port: u16,
         /// How many connections; without it there is no end.
         count: Option<u32>,
         /// Seconds, 1 to 3,600.
         timeout: u16,
-    },
-    /// Plays the devices of an image, on a port or on standard input and output.
-    Sim {
-        image: String,
-        port: Option<u16>,
     },
 }
 

@@ -11,5 +11,5 @@ mod values;
 mod words;
 
 pub use help::help_of;
-pub use job::{Job, WordFault};
+pub use job::{Errand, Job, WordFault};
 pub use words::read_words;

@@ -5,7 +5,7 @@ ghost use Rattle.mb_mbap.specs.Counted.{inner_of};
 ghost use Rattle.mb_mbap.specs.Stream.{spelled};
 ghost use Rattle.mb_pdu.specs.Replies.{spells_reply};
 ghost use Rattle.mb_pdu.specs.declared.request.Request.TheVariants.{ReadHolding};
-ghost use Rattle.office_net.specs.LineSources.{HearsReply, query_of, reply_of};
+ghost use Rattle.line_source.specs.LineSources.{HearsReply, query_of, reply_of};
 
 use crate::hearing::await_reply;
 use mb_mbap::{Counted, Frame, FrameReader};

@@ -9,8 +9,8 @@ use Rattle.mb_pdu.specs.declared.reply.Reply.{Reply}
 use Rattle.mb_mbap.specs.declared.fault.FrameFault.{FrameFault}
 use Rattle.mb_mbap.specs.declared.frame.Frame.{Frame}
 use Rattle.mb_mbap.specs.Feeding.{Adds, StandsFor}
-use Rattle.office_net.specs.LineSources.{Completes, FirstAnswers, Hears, HearsReply, IsOther}
-use Rattle.office_net.proofs.Skipping.{answers_later}
+use Rattle.line_source.specs.LineSources.{Completes, FirstAnswers, Hears, HearsReply, IsOther}
+use Rattle.line_source.proofs.Skipping.{answers_later}
 
 -- what a piece adds, it completes
 pub completes : (old new : Option (List ℕ)) (piece : List ℕ) (frames : List Frame) (fault : Option FrameFault)

@@ -2,7 +2,7 @@
 ghost use Rattle.std.specs.Prelude.{◌≡◌, ◌≤◌, ◌<◌, [], IfOk, IfSome, IfNone, MatchOption, length, take};
 ghost use Rattle.std.specs.Io.KnownBytes.{Consumes};
 ghost use Rattle.mb_mbap.specs.Counted.{inner_of};
-ghost use Rattle.office_net.specs.LineSources.{Hears, HearsReply, IsAnswer, IsOther, Tells};
+ghost use Rattle.line_source.specs.LineSources.{Hears, HearsReply, IsAnswer, IsOther, Tells};
 
 use mb_mbap::{Counted, Frame, FrameReader};
 use mb_pdu::{Reply, Request, Span};

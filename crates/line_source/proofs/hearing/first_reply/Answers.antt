@@ -1,8 +1,8 @@
 use Rattle.std.proofs.Common.{[], ◌∷◌, ◌++◌, ◌∙◌, ap, sym, subst, take, arith, All}
 use Rattle.std.proofs.lemmas.List.{take_more, take_all}
-use Rattle.office_net.specs.LineSources.{IsOther}
-use Rattle.office_net.proofs.Skipping.{answers_first}
-use Rattle.office_net.proofs.hearing.first_reply.Goals as goal
+use Rattle.line_source.specs.LineSources.{IsOther}
+use Rattle.line_source.proofs.Skipping.{answers_first}
+use Rattle.line_source.proofs.hearing.first_reply.Goals as goal
 
 pub returns-in-Some : goal.returns-in-Some
 returns-in-Some c =

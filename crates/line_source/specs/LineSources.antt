@@ -10,7 +10,7 @@ use Rattle.mb_pdu.specs.Replies.{spells_reply}
 use Rattle.mb_mbap.specs.declared.frame.Frame.{Frame}
 use Rattle.mb_mbap.specs.declared.counted.Counted.{Counted}
 use Rattle.mb_mbap.specs.Feeding.{StandsFor}
-use Rattle.office_net.specs.declared.line.LineSource.{LineSource}
+use Rattle.line_source.specs.declared.source.LineSource.{LineSource}
 
 -- ---- what contracts see of a source
 

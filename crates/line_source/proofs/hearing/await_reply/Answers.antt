@@ -1,8 +1,8 @@
 use Rattle.std.proofs.Common.{arith, subst}
 use Rattle.mb_mbap.specs.Counted.{inner_of}
-use Rattle.office_net.specs.LineSources.{Hears, IsOther, Tells}
-use Rattle.office_net.proofs.Piecewise.{hears_none, hears_others, hears_reply}
-use Rattle.office_net.proofs.hearing.await_reply.Goals as goal
+use Rattle.line_source.specs.LineSources.{Hears, IsOther, Tells}
+use Rattle.line_source.proofs.Piecewise.{hears_none, hears_others, hears_reply}
+use Rattle.line_source.proofs.hearing.await_reply.Goals as goal
 
 pub pieces-init : goal.pieces-init
 pieces-init g c = record {

@@ -3,7 +3,7 @@ ghost use Rattle.std.specs.Prelude.{◌≡◌, ◌+◌, ◌%◌, ◌≤◌, Opti
 ghost use Rattle.std.specs.Io.KnownBytes.{Appends};
 ghost use Rattle.mb_mbap.specs.Counted.{failures_after, inner_of};
 ghost use Rattle.mb_mbap.specs.Stream.{spelled};
-ghost use Rattle.office_net.specs.LineSources.{HearsReply, failed_of, held_by, next_of, next_query, reader_of, reply_of, span_of, unit_of, writer_of};
+ghost use Rattle.line_source.specs.LineSources.{HearsReply, failed_of, held_by, next_of, next_query, reader_of, reply_of, span_of, unit_of, writer_of};
 ghost use Rattle.sunspec.specs.Sources.{CountsFailures, Image, IsRead};
 
 use crate::exchange::{exchange, query_for};

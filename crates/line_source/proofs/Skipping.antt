@@ -4,7 +4,7 @@ use Rattle.std.proofs.lemmas.List.Elements.{All-append}
 use Rattle.mb_pdu.specs.declared.request.Span.{Span}
 use Rattle.mb_pdu.specs.declared.reply.Reply.{Reply}
 use Rattle.mb_mbap.specs.declared.frame.Frame.{Frame}
-use Rattle.office_net.specs.LineSources.{FirstAnswers, IsAnswer, IsOther}
+use Rattle.line_source.specs.LineSources.{FirstAnswers, IsAnswer, IsOther}
 
 -- the frame at a place is the first that answers
 pub answers_first : (query : Frame) (span : Span) (reply : Reply) (frames : List Frame) (i : ℕ) (frame : Frame) → take (i + 1) frames ≡ take i frames ++ frame ∷ []

@@ -1,7 +1,7 @@
 use Rattle.std.proofs.Common.{◌-◌, ◌≤◌, All}
 use Rattle.mb_mbap.specs.Counted.{inner_of}
-use Rattle.office_net.specs.LineSources.{Hears, IsOther}
-use Rattle.office_net.proofs.hearing.await_reply.Given as goal
+use Rattle.line_source.specs.LineSources.{Hears, IsOther}
+use Rattle.line_source.proofs.hearing.await_reply.Given as goal
 
 abbrev pub invariant-pieces : goal.invariant-pieces
 invariant-pieces g l = record {

@@ -1,8 +1,8 @@
 use Rattle.std.proofs.Common.{take, arith, refl, subst, length-take-le}
 use Rattle.mb_mbap.specs.Counted.{inner_of}
-use Rattle.office_net.specs.LineSources.{Tells}
-use Rattle.office_net.proofs.Piecewise.{hears_piece}
-use Rattle.office_net.proofs.hearing.read_on.Goals as goal
+use Rattle.line_source.specs.LineSources.{Tells}
+use Rattle.line_source.proofs.Piecewise.{hears_piece}
+use Rattle.line_source.proofs.hearing.read_on.Goals as goal
 
 pub returns-clause-heard : goal.returns-clause-heard
 returns-clause-heard g c =

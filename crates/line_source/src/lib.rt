@@ -1,0 +1,8 @@
+//! A device's registers over a line, as a source that a device's models can be discovered from.
+#![tactic(auto)]
+
+mod exchange;
+mod hearing;
+mod source;
+
+pub use source::LineSource;
