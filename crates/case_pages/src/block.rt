@@ -49,3 +49,13 @@ pub fn blocks_of(alloc: Global, page: &str) -> Result<Vec<Block<'_>>, Trouble> {
     }
     Ok(blocks)
 }
+
+/// The text of a page's file of this name.
+pub fn file_of<'a>(page: &[Block<'a>], name: &str) -> Result<&'a str, Trouble> {
+    for block in page {
+        if block.file_name() == Some(name) {
+            return Ok(block.text);
+        }
+    }
+    Err(Trouble::Page("no file of this name"))
+}

@@ -2,33 +2,58 @@
 use crate::Trouble;
 use std::alloc::Global;
 
-/// The byte that the part behind a `\` begins with, and what follows it.
-fn escape_of(part: &str) -> Option<(u8, &str)> {
+/// What stands for itself behind a `\`.
+#[derive(Clone, Copy)]
+enum Escape {
+    Byte(u8),
+    /// The byte before comes so often.
+    Times(u32),
+}
+
+/// The escape that the part behind a `\` begins with, and what follows it.
+fn escape_of(part: &str) -> Option<(Escape, &str)> {
     if let Some(rest) = part.strip_prefix('n') {
-        return Some((b'\n', rest));
+        return Some((Escape::Byte(b'\n'), rest));
     }
     if let Some(rest) = part.strip_prefix('r') {
-        return Some((b'\r', rest));
+        return Some((Escape::Byte(b'\r'), rest));
     }
     if let Some(rest) = part.strip_prefix('t') {
-        return Some((b'\t', rest));
+        return Some((Escape::Byte(b'\t'), rest));
+    }
+    if let Some(rest) = part.strip_prefix('*') {
+        let (times, rest) = rest.split_once(';')?;
+        return Some((Escape::Times(times.parse::<u32>().ok()?), rest));
     }
     let (digits, rest) = part.strip_prefix('x')?.split_at_checked(2)?;
-    Some((u8::from_str_radix(digits, 16).ok()?, rest))
+    Some((Escape::Byte(u8::from_str_radix(digits, 16).ok()?), rest))
+}
+
+fn push_escape(bytes: &mut Vec<u8>, escape: Escape) -> Result<(), Trouble> {
+    match escape {
+        Escape::Byte(byte) => push(bytes, byte),
+        Escape::Times(times) => {
+            let byte = bytes.last().copied().unwrap_or(0);
+            for _ in 1..times {
+                push(bytes, byte)?;
+            }
+            Ok(())
+        }
+    }
 }
 
 /// The bytes that a text stands for: each `\n`, `\r` and `\t` is the byte that it is in Rust, `\xNN` any byte, as
-/// `\x5C` for `\`, and all else is itself.
+/// `\x5C` for `\`, `\*N;` has the byte before it come N times, and all else is itself.
 pub fn bytes_of(alloc: Global, text: &str) -> Result<Vec<u8>, Trouble> {
     let mut bytes = Vec::new(alloc);
     for (place, part) in text.split('\\').enumerate() {
         let rest = if place == 0 {
             part
         } else {
-            let Some((byte, rest)) = escape_of(part) else {
+            let Some((escape, rest)) = escape_of(part) else {
                 return Err(Trouble::Page("no escape of this kind"));
             };
-            push(&mut bytes, byte)?;
+            push_escape(&mut bytes, escape)?;
             rest
         };
         bytes.extend_from_slice(rest.as_bytes())?;

@@ -10,7 +10,7 @@ mod rows;
 mod tally;
 mod trouble;
 
-pub use block::{Block, blocks_of};
+pub use block::{Block, blocks_of, file_of};
 pub use escapes::{bytes_of, hex_of, pieces_of};
 pub use pages::{Player, play_pages};
 pub use rows::{Outcomes, play_rows};

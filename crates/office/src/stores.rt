@@ -2,8 +2,8 @@
 //! proof then carries no file.
 ghost use Rattle.point_list.specs.Sites.{IsSound};
 
-use crate::work::{Work, work_in};
-use office_commands::Fault;
+use crate::machine::Machine;
+use office_commands::{Fault, Task, work_in};
 use office_core::Office;
 use office_store::{SqlKeeper, StoreError, create};
 use point_list::Site;
@@ -34,7 +34,7 @@ fn opening_fault(error: &Error) -> Fault {
     }
 }
 
-fn connect(rt: &HostRuntime, path: &str) -> Result<Connection<FileStore<File>>, Fault> {
+fn open(rt: &HostRuntime, path: &str) -> Result<Connection<FileStore<File>>, Fault> {
     match Connection::open(rt, path) {
         Ok(connection) => Ok(connection),
         Err(error) => Err(opening_fault(&error)),
@@ -66,31 +66,31 @@ fn office_over<K: Keeper + Drop>(alloc: Global, keeper: K, site: Site) -> Result
 }
 
 fn work_over<S: Alter + Drop>(
-    rt: &HostRuntime,
+    machine: &mut Machine<'_>,
     connection: Connection<S>,
     is_new: bool,
     site: Site,
-    work: &Work<'_>,
+    task: &Task<'_>,
 ) -> Result<(), Fault>
     requires { IsSound site }
 {
     let keeper = keeper_over(connection, is_new)?;
-    let mut office = office_over(rt.alloc(), keeper, site)?;
-    work_in(rt, &mut office, work)
+    let mut office = office_over(machine.0.alloc(), keeper, site)?;
+    work_in(machine, &mut office, task)
 }
 
-/// Does work in the office of a store's file. A file that exists is never written over.
+/// Does a task in the office of a store's file. A file that exists is never written over.
 pub(crate) fn work_on(
-    rt: &HostRuntime,
+    machine: &mut Machine<'_>,
     path: &str,
     site: Site,
-    work: &Work<'_>,
+    task: &Task<'_>,
 ) -> Result<(), Fault>
     requires { IsSound site }
 {
-    let Ok(exists) = fs::exists(rt, path) else {
+    let Ok(exists) = fs::exists(machine.0, path) else {
         return Err(Fault::File);
     };
-    let connection = connect(rt, path)?;
-    work_over(rt, connection, !exists, site, work)
+    let connection = open(machine.0, path)?;
+    work_over(machine, connection, !exists, site, task)
 }

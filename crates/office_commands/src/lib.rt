@@ -1,22 +1,28 @@
-//! What the commands of the program `office` do, over an office, readers, writers and sockets that are
-//! handed in: where the office's store lies, and what the words of the command line were, is the
-//! program's matter.
+//! What the program `office` does with the words of its command line, over an office, readers, writers and
+//! sockets that are handed in: where files, streams and the office's store are is the host's matter.
 #![tactic(auto)]
 
 mod discovering;
+mod errands;
 mod fault;
 mod frame_line;
+mod host;
 mod listing;
 mod ordering;
+mod output;
 mod polling;
+mod running;
 mod serving;
 mod simulating;
 mod timed;
 
 pub use discovering::discover;
+pub use errands::{Task, work_in};
 pub use fault::Fault;
+pub use host::{Host, Stores};
 pub use listing::{load, plan};
 pub use ordering::order;
 pub use polling::{connect, poll};
+pub use running::run;
 pub use serving::serve;
 pub use simulating::{answer_lines, answer_stream};

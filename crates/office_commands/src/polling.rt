@@ -1,11 +1,11 @@
-//! Polling a line over a socket.
+//! Polling a line.
 use crate::Fault;
 use mb_mbap::Counted;
 use office_core::Office;
 use office_net::{Round, poll_round};
 use poll_book::Keeper;
 use std::alloc::{AllocError, Global};
-use std::io;
+use std::io::{self, Read, Write};
 use std::net::{Net, TcpStream, ToSocketAddrs};
 use std::time::Duration;
 
@@ -45,19 +45,19 @@ fn round_text(alloc: Global, round: &Round) -> Result<String, AllocError> {
     format!(in alloc; "asked {asked} recorded {recorded} excepted {excepted} refused {refused}\n")
 }
 
-/// Polls the devices of a line for a slot over a stream to the line's address, and gives what is
+/// Polls the devices of a line for a slot over a connection to the line's address, and gives what is
 /// printed: `asked A recorded B excepted C refused D`, the queries, the new readings, the exceptions
 /// and the frames that answered none of the queries. What was recorded before a fault stays.
-pub fn poll<K: Keeper>(
+pub fn poll<K: Keeper, R: Read + Drop, W: Write + Drop>(
     alloc: Global,
     office: &mut Office<K>,
     line: &str,
     slot: u32,
-    stream: &TcpStream,
+    reader: R,
+    writer: W,
 ) -> Result<String, Fault> {
     let conn = office.open_line(line)?;
-    let mut reader = Counted::new(stream);
-    let mut writer = Counted::new(stream);
+    let (mut reader, mut writer) = (Counted::new(reader), Counted::new(writer));
     let round = poll_round(alloc, office, conn, slot, &mut reader, &mut writer)?;
     let text = round_text(alloc, &round)?;
     Ok(text)

@@ -1,0 +1,79 @@
+//! Plays the cases of Modbus, SunSpec, lists, sites and plans: the pages of `data/`, which its arguments name.
+#![tactic(auto)]
+
+mod chains;
+mod formats;
+mod images;
+mod kind;
+mod lists;
+mod names;
+mod numbers;
+mod plans;
+mod registers;
+mod simulators;
+mod sites;
+mod streams;
+mod tables;
+mod units;
+mod values;
+
+use crate::formats::Examples;
+use crate::kind::{Kind, Rows};
+use crate::simulators::Simulator;
+use crate::tables::Tables;
+use case_pages::{Block, Player, Tally, Trouble, play_pages, play_rows};
+use std::alloc::Global;
+use std::process::ExitCode;
+
+/// The page whose examples have to show each fault of lists and sites.
+const FORMATS: &str = "FORMATS.md";
+
+#[derive(Drop)]
+struct Pages {
+    alloc: Global,
+}
+
+fn play_kind<R: Print>(
+    alloc: Global,
+    tally: &mut Tally<'_, R>,
+    page: &[Block<'_>],
+    block: &Block<'_>,
+    words: &str,
+) -> Result<(), Trouble> {
+    if let Some(sizes) = words.strip_prefix("tables ") {
+        return play_rows(tally, block, &mut Tables::new(alloc, sizes)?);
+    }
+    if let Some(name) = words.strip_prefix("simulator ") {
+        return play_rows(tally, block, &mut Simulator::new(alloc, page, name)?);
+    }
+    let Some(kind) = Kind::of(words) else {
+        return Err(Trouble::Page("no such kind of rows"));
+    };
+    play_rows(tally, block, &mut Rows { alloc, kind, page })
+}
+
+impl Player for Pages {
+    fn play<R: Print>(
+        &mut self,
+        tally: &mut Tally<'_, R>,
+        name: &str,
+        page: &[Block<'_>],
+    ) -> Result<(), Trouble> {
+        let mut examples = Examples::new(self.alloc);
+        for block in page {
+            match block.words.strip_prefix("rows ") {
+                Some(words) => play_kind(self.alloc, tally, page, block, words)?,
+                None => examples.play(tally, block)?,
+            }
+        }
+        if name == FORMATS {
+            formats::play_faults(self.alloc, tally, page)?;
+        }
+        Ok(())
+    }
+}
+
+fn main(rt: HostRuntime) -> Result<ExitCode, Trouble> {
+    let mut pages = Pages { alloc: rt.alloc() };
+    play_pages(&rt, &mut pages)
+}

@@ -1,0 +1,108 @@
+//! Consoles: lines `$ office ..`, each with what it prints below it.
+use crate::cut::Cut;
+use crate::shell::typed;
+use crate::world::World;
+use case_pages::{Block, Tally, Trouble};
+
+/// A line of what is wanted that stands for any lines.
+const ANY_LINES: &str = "...";
+
+/// Whether a text is one that is wanted, in which lines may be left out.
+fn is_wanted(told: &str, wanted: &str) -> bool {
+    let mut lines = told.lines();
+    let mut skips = false;
+    for line in wanted.lines() {
+        if line == ANY_LINES {
+            skips = true;
+        } else if skips {
+            skips = false;
+            if !lines.any(|it| it == line) {
+                return false;
+            }
+        } else if lines.next() != Some(line) {
+            return false;
+        }
+    }
+    skips || lines.next().is_none()
+}
+
+/// Whether memory was refused, so that the command is to be typed again.
+fn is_refused(told: &str) -> bool {
+    told.ends_with("office: memory\nstatus 1\n")
+        || told.ends_with("office: store memory\nstatus 1\n")
+}
+
+/// What a command prints, typed once more where memory was refused.
+fn told_by(world: &mut World<'_>, command: &str) -> Result<String, Trouble> {
+    match typed(world, command) {
+        Ok(told) if !is_refused(told.as_str()) => Ok(told),
+        Ok(_) | Err(Trouble::Memory) => typed(world, command),
+        Err(trouble) => Err(trouble),
+    }
+}
+
+/// Counts a case where all comes whole; else a case that differs is counted besides.
+pub(crate) fn judge<R: Print>(
+    world: &World<'_>,
+    tally: &mut Tally<'_, R>,
+    line: usize,
+    told: &str,
+    wanted: &str,
+) -> Result<(), Trouble> {
+    if world.cut == Cut::Whole || told != wanted {
+        tally.told(line, told, wanted)?;
+    }
+    Ok(())
+}
+
+fn play_step<R: Print>(
+    world: &mut World<'_>,
+    tally: &mut Tally<'_, R>,
+    line: usize,
+    step: &str,
+) -> Result<(), Trouble> {
+    let Some((command, wanted)) = step.split_once('\n') else {
+        return Err(Trouble::Page("a command without its line's end"));
+    };
+    let told = told_by(world, command)?;
+    let told = if is_wanted(told.as_str(), wanted) {
+        wanted
+    } else {
+        told.as_str()
+    };
+    judge(world, tally, line, told, wanted)
+}
+
+/// The part of a console from its next command on, without the `$ `, up to the command behind it, and what
+/// follows.
+fn next_step(text: &str) -> (&str, &str) {
+    match text.find("\n$ ") {
+        Some(place) => (
+            text.get(..=place).unwrap_or(""),
+            text.get(place..).unwrap_or("").trim_start(),
+        ),
+        None => (text, ""),
+    }
+}
+
+pub(crate) fn play<R: Print>(
+    world: &mut World<'_>,
+    tally: &mut Tally<'_, R>,
+    block: &Block<'_>,
+) -> Result<(), Trouble> {
+    let mut rest = block.text;
+    let mut line = block.line.saturating_add(1);
+    for _ in 0..block.text.len() {
+        if rest.is_empty() {
+            break;
+        }
+        let Some(text) = rest.strip_prefix("$ ") else {
+            return Err(Trouble::Page("a console that doesn't begin with a command"));
+        };
+        let (step, behind) = next_step(text);
+        play_step(world, tally, line, step)?;
+        line = line.saturating_add(step.lines().count());
+        rest = behind;
+    }
+    Ok(())
+}

@@ -1,0 +1,34 @@
+//! Parts of files, as a page shows them.
+use crate::console::judge;
+use crate::world::World;
+use case_pages::{Block, Tally, Trouble};
+use std::str;
+
+/// Whether a text has these lines in this order, perhaps with others between them.
+fn has_lines(text: &str, part: &str) -> bool {
+    let mut lines = text.lines();
+    for line in part.lines() {
+        if !lines.any(|it| it == line) {
+            return false;
+        }
+    }
+    true
+}
+
+/// Sees that a file has the lines of a block.
+pub(crate) fn play<R: Print>(
+    world: &mut World<'_>,
+    tally: &mut Tally<'_, R>,
+    block: &Block<'_>,
+    name: &str,
+) -> Result<(), Trouble> {
+    let Ok(bytes) = world.file(name) else {
+        return Err(Trouble::Page("no file of this name"));
+    };
+    let told = if has_lines(str::from_utf8(&bytes).unwrap_or(""), block.text) {
+        block.text
+    } else {
+        "not these lines\n"
+    };
+    judge(world, tally, block.line, told, block.text)
+}

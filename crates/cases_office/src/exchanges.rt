@@ -1,0 +1,106 @@
+//! Requests over HTTP and their answers: lines `> ..` of a request, and below them lines `< ..` of its answer. The
+//! lines of a head end with a carriage return and a line feed, unless a `\` ends them; those behind the head's empty
+//! line are a body, and stand side by side.
+use crate::console::judge;
+use crate::shell::serve;
+use crate::world::World;
+use case_pages::{Block, Tally, Trouble, bytes_of};
+use std::alloc::Global;
+use std::str;
+
+/// What is sent one way.
+#[derive(Drop)]
+struct Message {
+    bytes: Vec<u8>,
+    has_head: bool,
+    lines: usize,
+}
+
+impl Message {
+    fn new(alloc: Global) -> Message {
+        Message {
+            bytes: Vec::new(alloc),
+            has_head: false,
+            lines: 0,
+        }
+    }
+
+    fn push_line(&mut self, alloc: Global, line: &str) -> Result<(), Trouble> {
+        let (text, ends) = match line.strip_suffix('\\') {
+            Some(text) => (text, false),
+            None => (line, !self.has_head),
+        };
+        let bytes = bytes_of(alloc, text)?;
+        self.bytes.extend_from_slice(&bytes)?;
+        if ends {
+            self.bytes.extend_from_slice(b"\r\n")?;
+        }
+        self.has_head = self.has_head || line.is_empty();
+        self.lines = self.lines.saturating_add(1);
+        Ok(())
+    }
+}
+
+/// The text of a line behind its mark.
+fn marked(line: &str, mark: char) -> Option<&str> {
+    let text = line.strip_prefix(mark)?;
+    Some(text.strip_prefix(' ').unwrap_or(text))
+}
+
+/// The message of the lines with this mark that a part of a block begins with, and what follows them.
+fn message_of<'b>(alloc: Global, part: &'b str, mark: char) -> Result<(Message, &'b str), Trouble> {
+    let mut message = Message::new(alloc);
+    let mut passed = 0usize;
+    for line in part.split_inclusive('\n') {
+        let Some(text) = marked(line.trim_end(), mark) else {
+            break;
+        };
+        message.push_line(alloc, text)?;
+        passed = passed.saturating_add(line.len());
+    }
+    Ok((message, part.get(passed..).unwrap_or("")))
+}
+
+fn shown(bytes: &[u8]) -> &str {
+    str::from_utf8(bytes).unwrap_or("bytes that are no text")
+}
+
+/// What a request is told, told once more where the store or memory refused.
+fn told(world: &mut World<'_>, request: &[u8]) -> Result<String, Trouble> {
+    let alloc = world.rt.alloc();
+    let told = serve(world, Vec::from_slice(alloc, request)?)?;
+    if told.as_str().starts_with("HTTP/1.1 503") {
+        return serve(world, Vec::from_slice(alloc, request)?);
+    }
+    Ok(told)
+}
+
+/// Plays the requests of a block, whose words behind `http ` are those of the office that serves.
+pub(crate) fn play<R: Print>(
+    world: &mut World<'_>,
+    tally: &mut Tally<'_, R>,
+    block: &Block<'_>,
+    office: &str,
+) -> Result<(), Trouble> {
+    let alloc = world.rt.alloc();
+    world.server = format!(in alloc; "serve {office} --port 80 --count 1")?;
+    let mut rest = block.text;
+    let mut line = block.line.saturating_add(1);
+    for _ in 0..block.text.len() {
+        if rest.is_empty() {
+            break;
+        }
+        let (request, answered) = message_of(alloc, rest, '>')?;
+        let (answer, behind) = message_of(alloc, answered, '<')?;
+        if behind.len() == rest.len() {
+            return Err(Trouble::Page("a line of neither a request nor an answer"));
+        }
+        let told = told(world, &request.bytes)?;
+        judge(world, tally, line, told.as_str(), shown(&answer.bytes))?;
+        line = line
+            .saturating_add(request.lines)
+            .saturating_add(answer.lines);
+        rest = behind;
+    }
+    Ok(())
+}

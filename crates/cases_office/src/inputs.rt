@@ -1,0 +1,54 @@
+//! Rows of standard inputs.
+use crate::shell::office;
+use crate::world::World;
+use case_pages::{Outcomes, Trouble, bytes_of};
+use std::alloc::{AllocError, Global};
+use std::str;
+
+/// The lines of a text on one line.
+fn joined(alloc: Global, text: &str) -> Result<String, AllocError> {
+    let mut all = String::new(alloc);
+    for (place, line) in text.lines().enumerate() {
+        if place > 0 {
+            all.push_str(" / ")?;
+        }
+        all.push_str(line)?;
+    }
+    Ok(all)
+}
+
+/// A frame's text with these bytes in it.
+fn framed(alloc: Global, frame: &str, bytes: &[u8]) -> Result<Vec<u8>, Trouble> {
+    let Some((before, behind)) = frame.split_once("...") else {
+        return Err(Trouble::Page("a file without its line ..."));
+    };
+    let mut script = Vec::from_slice(alloc, before.as_bytes())?;
+    script.extend_from_slice(bytes)?;
+    script.extend_from_slice(behind.as_bytes())?;
+    Ok(script)
+}
+
+impl World<'_> {
+    /// The standard input that these bytes are, or are a part of.
+    fn whole_input(&self, bytes: Vec<u8>) -> Result<Vec<u8>, Trouble> {
+        if self.frame.is_empty() {
+            return Ok(bytes);
+        }
+        let Ok(frame) = self.file(self.frame.as_str()) else {
+            return Err(Trouble::Page("no file of this name"));
+        };
+        let frame = str::from_utf8(&frame).unwrap_or("");
+        framed(self.rt.alloc(), frame, &bytes)
+    }
+}
+
+impl Outcomes for World<'_> {
+    /// What the command prints for a standard input.
+    fn outcome(&mut self, input: &str) -> Result<String, Trouble> {
+        let alloc = self.rt.alloc();
+        self.input = self.whole_input(bytes_of(alloc, input)?)?;
+        let words = String::from_str(alloc, self.words.as_str())?;
+        let told = office(self, words.as_str())?;
+        Ok(joined(alloc, told.as_str())?)
+    }
+}

@@ -1,0 +1,139 @@
+//! What bytes of HTTP ask for.
+use crate::cut::Cut;
+use case_pages::{Outcomes, Trouble, bytes_of};
+use office_http::{Asked, Exchange, Methods, Refusal};
+use std::alloc::{AllocError, Global};
+use std::str;
+
+/// A list of more bytes is told by their number.
+const MOST_SHOWN: usize = 100;
+
+fn methods(methods: Methods) -> &'static str {
+    match methods {
+        Methods::Get => "405 GET",
+        Methods::Put => "405 PUT",
+        Methods::GetPut => "405 GET, PUT",
+    }
+}
+
+fn refusal(refusal: Refusal) -> &'static str {
+    match refusal {
+        Refusal::BadRequest => "400",
+        Refusal::NotFound => "404",
+        Refusal::NotAllowed(allowed) => methods(allowed),
+        Refusal::LengthRequired => "411",
+        Refusal::TooLarge => "413",
+    }
+}
+
+fn text(bytes: &[u8]) -> &str {
+    str::from_utf8(bytes).unwrap_or("?")
+}
+
+/// What is asked for, in words.
+fn told(alloc: Global, asked: &Asked) -> Result<String, AllocError> {
+    match asked {
+        Asked::Nothing => String::from_str(alloc, "nothing"),
+        Asked::Refused(why) => String::from_str(alloc, refusal(*why)),
+        Asked::Load { caller, key, list } => {
+            let (caller, key) = (text(caller.as_bytes()), text(key.as_bytes()));
+            if list.len() > MOST_SHOWN {
+                format!(in alloc; "load {caller} {key} of {} bytes", list.len())
+            } else {
+                format!(in alloc; "load {caller} {key} {}", text(list))
+            }
+        }
+        Asked::Order {
+            caller,
+            key,
+            point,
+            value,
+        } => {
+            format!(in alloc;
+                "order {} {} {point} {value}",
+                text(caller.as_bytes()),
+                text(key.as_bytes())
+            )
+        }
+        Asked::OrderUnder { caller, key } => {
+            format!(in alloc;
+                "under {} {}",
+                text(caller.as_bytes()),
+                text(key.as_bytes())
+            )
+        }
+        Asked::Readings { point, from, to } => { format!(in alloc; "readings {point} {from} {to}") }
+        Asked::Total { point } => format!(in alloc; "total {point}"),
+    }
+}
+
+/// More bytes than these don't come one by one, since all that came so far is judged anew with each piece.
+const MOST_ONE_BY_ONE: usize = 1000;
+
+/// What bytes ask for that come cut in some way, and then end.
+fn taken(alloc: Global, bytes: &[u8], cut: Cut) -> Result<Asked, AllocError> {
+    let least = if bytes.len() > MOST_ONE_BY_ONE {
+        MOST_ONE_BY_ONE
+    } else {
+        1
+    };
+    let mut exchange = Exchange::new(alloc);
+    let mut rest = bytes;
+    for _ in 0..bytes.len() {
+        let (part, behind) = rest.split_at(cut.next(rest.len()).max(least).min(rest.len()));
+        if let Some(asked) = exchange.take(part)? {
+            return Ok(asked);
+        }
+        rest = behind;
+        if rest.is_empty() {
+            break;
+        }
+    }
+    Ok(exchange.end())
+}
+
+/// What is asked for, in words, by bytes that are whole, and cut.
+#[derive(Clone, Copy)]
+pub(crate) struct Requests {
+    pub(crate) alloc: Global,
+}
+
+impl Outcomes for Requests {
+    fn outcome(&mut self, input: &str) -> Result<String, Trouble> {
+        let alloc = self.alloc;
+        let bytes = bytes_of(alloc, input)?;
+        let whole = told(alloc, &taken(alloc, &bytes, Cut::Whole)?)?;
+        for cut in [Cut::Halves, Cut::Bytes] {
+            let asked = told(alloc, &taken(alloc, &bytes, cut)?)?;
+            if asked.as_str() != whole.as_str() {
+                return Ok(format!(in alloc; "{whole}, but cut {asked}")?);
+            }
+        }
+        Ok(whole)
+    }
+}
+
+/// What is asked for by the beginnings of a request that are shorter than it: from which length on, and what.
+#[derive(Clone, Copy)]
+pub(crate) struct Beginnings {
+    pub(crate) alloc: Global,
+}
+
+impl Outcomes for Beginnings {
+    fn outcome(&mut self, input: &str) -> Result<String, Trouble> {
+        let alloc = self.alloc;
+        let bytes = bytes_of(alloc, input)?;
+        let mut all = String::new(alloc);
+        let mut last = String::new(alloc);
+        for length in 0..bytes.len() {
+            let beginning = bytes.get(..length).unwrap_or(&[]);
+            let now = told(alloc, &taken(alloc, beginning, Cut::Whole)?)?;
+            if now.as_str() != last.as_str() {
+                let change = format!(in alloc; "; from {length} {now}")?;
+                all.push_str(change.as_str())?;
+                last = now;
+            }
+        }
+        Ok(String::from_str(alloc, all.as_str().trim_start_matches("; "))?)
+    }
+}

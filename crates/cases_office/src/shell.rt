@@ -1,0 +1,153 @@
+//! What commands print that are typed into a page's console.
+use crate::curl::{asked_by, shown};
+use crate::world::World;
+use case_pages::Trouble;
+use mb_map::Sim;
+use office_commands::{Fault, run};
+use office_words::{Errand, Job, WordFault, read_words};
+use std::alloc::{AllocError, Global};
+use std::str;
+
+fn push_word(alloc: Global, words: &mut Vec<String>, word: &str) -> Result<(), AllocError> {
+    words.push(String::from_str(alloc, word)?)?;
+    Ok(())
+}
+
+fn push_words(alloc: Global, words: &mut Vec<String>, line: &str) -> Result<(), AllocError> {
+    for word in line.split(' ') {
+        if !word.is_empty() {
+            push_word(alloc, words, word)?;
+        }
+    }
+    Ok(())
+}
+
+/// The words of a line, with spaces between them. What stands in single quotes is one word.
+pub(crate) fn words_of(alloc: Global, line: &str) -> Result<Vec<String>, AllocError> {
+    let mut words = Vec::new(alloc);
+    for (place, part) in line.split('\'').enumerate() {
+        if place % 2 == 1 {
+            push_word(alloc, &mut words, part)?;
+        } else {
+            push_words(alloc, &mut words, part)?;
+        }
+    }
+    Ok(words)
+}
+
+fn text_of(alloc: Global, bytes: &[u8]) -> Result<String, AllocError> {
+    String::from_str(
+        alloc,
+        str::from_utf8(bytes).unwrap_or("bytes that are no text\n"),
+    )
+}
+
+/// What the program prints for the words behind its name, and its status where that isn't 0.
+pub(crate) fn office(world: &mut World<'_>, line: &str) -> Result<String, Trouble> {
+    let alloc = world.rt.alloc();
+    world.output = Vec::new(alloc);
+    let status = run(world, words_of(alloc, line)?)?;
+    let mut text = text_of(alloc, &world.output)?;
+    if status != 0 {
+        let status = format!(in alloc; "status {status}\n")?;
+        text.push_str(status.as_str())?;
+    }
+    Ok(text)
+}
+
+fn file(world: &World<'_>, name: &str) -> Result<Vec<u8>, Trouble> {
+    match world.file(name) {
+        Ok(bytes) => Ok(bytes),
+        Err(Fault::Memory) => Err(Trouble::Memory),
+        Err(_) => Err(Trouble::Page("no file of this name")),
+    }
+}
+
+/// Has an image's devices wait at a port of this machine.
+fn simulate(world: &mut World<'_>, image: &str, port: u16) -> Result<(), Trouble> {
+    let alloc = world.rt.alloc();
+    let image = file(world, image)?;
+    let Ok(sim) = Sim::from_toml(alloc, &image) else {
+        return Err(Trouble::Page("an image that can't be read"));
+    };
+    let address = format!(in alloc; "127.0.0.1:{port}")?;
+    match world.devices.try_borrow_mut() {
+        Ok(mut devices) => Ok(devices.wait(address, sim)?),
+        Err(_) => Err(Trouble::Page("devices in use")),
+    }
+}
+
+/// Begins what goes on behind the next commands: devices, or a server, which answers each `curl`.
+fn begin_job(world: &mut World<'_>, line: &str, job: &Job) -> Result<(), Trouble> {
+    match job {
+        Job::Sim {
+            image,
+            port: Some(port),
+        } => simulate(world, image.as_str(), *port),
+        Job::Office {
+            errand: Errand::Serve { .. },
+            ..
+        } => {
+            world.server = String::from_str(world.rt.alloc(), line)?;
+            Ok(())
+        }
+        _ => Err(Trouble::Page("a command that doesn't go on")),
+    }
+}
+
+fn begin(world: &mut World<'_>, line: &str) -> Result<(), Trouble> {
+    let alloc = world.rt.alloc();
+    match read_words(alloc, words_of(alloc, line)?) {
+        Ok(job) => begin_job(world, line, &job),
+        Err(WordFault::Memory) => Err(Trouble::Memory),
+        Err(WordFault::Words) => Err(Trouble::Page("no command")),
+    }
+}
+
+/// What the page's server answers to a request.
+pub(crate) fn serve(world: &mut World<'_>, request: Vec<u8>) -> Result<String, Trouble> {
+    let alloc = world.rt.alloc();
+    world.request = request;
+    let server = String::from_str(alloc, world.server.as_str())?;
+    office(world, server.as_str())
+}
+
+fn curl(world: &mut World<'_>, line: &str) -> Result<String, Trouble> {
+    let alloc = world.rt.alloc();
+    let words = words_of(alloc, line)?;
+    let request = asked_by(alloc, &words)?;
+    let answer = serve(world, request)?;
+    Ok(shown(alloc, &words, answer.as_str())?)
+}
+
+fn change_folder(world: &mut World<'_>, path: &str) -> Result<(), AllocError> {
+    let former = world.folder.as_str();
+    world.folder = format!(in world.rt.alloc(); "{former}{path}/")?;
+    Ok(())
+}
+
+/// What a command prints: `cd` to a folder below, `office` with words, with a file as standard input behind ` < `, or going on behind the
+/// others with ` &` at its end, and `curl` of the server that goes on.
+pub(crate) fn typed(world: &mut World<'_>, command: &str) -> Result<String, Trouble> {
+    let alloc = world.rt.alloc();
+    if let Some(path) = command.strip_prefix("cd ") {
+        change_folder(world, path)?;
+        return Ok(String::new(alloc));
+    }
+    if let Some(line) = command.strip_prefix("curl ") {
+        return curl(world, line);
+    }
+    let Some(line) = command.strip_prefix("office") else {
+        return Err(Trouble::Page("a program other than office and curl"));
+    };
+    if let Some(line) = line.strip_suffix(" &") {
+        begin(world, line)?;
+        return Ok(String::new(alloc));
+    }
+    let (line, input) = match line.split_once(" < ") {
+        Some((line, name)) => (line, file(world, name)?),
+        None => (line, Vec::new(alloc)),
+    };
+    world.input = input;
+    office(world, line)
+}

@@ -1,0 +1,78 @@
+//! Rows of command lines: the job that words ask for.
+use crate::shell::words_of;
+use case_pages::{Outcomes, Trouble};
+use office_words::{Errand, Job, WordFault, read_words};
+use std::alloc::{AllocError, Global};
+use std::str;
+
+fn shown(bytes: &[u8]) -> &str {
+    str::from_utf8(bytes).unwrap_or("?")
+}
+
+/// An errand, with its values in the order of its fields.
+fn errand_text(alloc: Global, errand: &Errand) -> Result<String, AllocError> {
+    match errand {
+        Errand::Load { caller, key, list } => {
+            let (caller, key) = (shown(caller.as_bytes()), shown(key.as_bytes()));
+            format!(in alloc; "load {caller} {key} {list}")
+        }
+        Errand::Poll {
+            slot,
+            timeout,
+            line,
+        } => format!(in alloc; "poll {slot} {timeout} {line}"),
+        Errand::Order {
+            caller,
+            key,
+            point,
+            value,
+        } => {
+            let (caller, key) = (shown(caller.as_bytes()), shown(key.as_bytes()));
+            format!(in alloc; "order {caller} {key} {point} {value}")
+        }
+        Errand::Report { point, from, to } => format!(in alloc; "report {point} {from} {to}"),
+        Errand::Serve {
+            port,
+            count,
+            timeout,
+        } => format!(in alloc; "serve {port} {count:?} {timeout}"),
+    }
+}
+
+fn job_text(alloc: Global, job: &Job) -> Result<String, AllocError> {
+    match job {
+        Job::Replay => String::from_str(alloc, "replay"),
+        Job::Plan { site, list } => format!(in alloc; "plan {site} {list}"),
+        Job::Discover {
+            site,
+            timeout,
+            device,
+        } => format!(in alloc; "discover {site} {timeout} {device}"),
+        Job::Sim { image, port } => format!(in alloc; "sim {image} {port:?}"),
+        Job::Office {
+            store,
+            site,
+            errand,
+        } => {
+            let errand = errand_text(alloc, errand)?;
+            format!(in alloc; "{store} {site}: {errand}")
+        }
+    }
+}
+
+/// What lines ask for: a job with its values, for an office behind its store and its site, or `command`.
+#[derive(Clone, Copy)]
+pub(crate) struct Lines {
+    pub(crate) alloc: Global,
+}
+
+impl Outcomes for Lines {
+    fn outcome(&mut self, input: &str) -> Result<String, Trouble> {
+        let alloc = self.alloc;
+        match read_words(alloc, words_of(alloc, input)?) {
+            Ok(job) => Ok(job_text(alloc, &job)?),
+            Err(WordFault::Words) => Ok(String::from_str(alloc, "command")?),
+            Err(WordFault::Memory) => Err(Trouble::Memory),
+        }
+    }
+}

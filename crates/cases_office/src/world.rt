@@ -1,0 +1,236 @@
+//! What a page has in the place of a machine: its files, its stores in memory, and its devices.
+ghost use Rattle.point_list.specs.Sites.{IsSound};
+
+use crate::cut::{Bytes, Cut};
+use crate::wire::{Devices, End};
+use case_pages::Block;
+use mb_mbap::Counted;
+use office_commands::{Fault, Host, Stores, Task, work_in};
+use office_core::Office;
+use office_net::serve_one;
+use point_list::Site;
+use poll_book::{Keeper, MemKeeper};
+use std::alloc::{AllocError, Global};
+use std::cell::RefCell;
+use std::fs;
+use std::io::{self, ErrorKind};
+
+/// A store in memory.
+#[derive(Drop)]
+struct Store {
+    name: String,
+    keeper: MemKeeper,
+}
+
+/// A page's world, of which nothing was written yet.
+#[derive(Drop)]
+pub(crate) struct World<'a> {
+    pub(crate) rt: &'a HostRuntime,
+    pub(crate) blocks: &'a [Block<'a>],
+    /// The folder of files that no block is, with a slash at its end.
+    pub(crate) folder: String,
+    pub(crate) devices: &'a RefCell<Devices>,
+    pub(crate) cut: Cut,
+    stores: Vec<Store>,
+    /// Standard input of the next command.
+    pub(crate) input: Vec<u8>,
+    /// The words behind the program's name for which rows are standard inputs, and the file in which such an input
+    /// stands in the place of `...`, which has no name where there is none.
+    pub(crate) words: String,
+    pub(crate) frame: String,
+    /// The words of the office that serves, behind the program's name.
+    pub(crate) server: String,
+    /// The bytes of the request that is served next.
+    pub(crate) request: Vec<u8>,
+    /// What was written to standard output, to standard error, or to the caller of a request.
+    pub(crate) output: Vec<u8>,
+}
+
+/// The folder of a page.
+fn folder_of(page: &str) -> &str {
+    match page.rfind('/') {
+        Some(place) => page.get(..=place).unwrap_or(""),
+        None => "",
+    }
+}
+
+impl<'a> World<'a> {
+    pub(crate) fn new(
+        rt: &'a HostRuntime,
+        page: &str,
+        blocks: &'a [Block<'a>],
+        devices: &'a RefCell<Devices>,
+        cut: Cut,
+    ) -> Result<World<'a>, AllocError> {
+        let alloc = rt.alloc();
+        Ok(World {
+            rt,
+            blocks,
+            folder: String::from_str(alloc, folder_of(page))?,
+            devices,
+            cut,
+            stores: Vec::new(alloc),
+            input: Vec::new(alloc),
+            words: String::new(alloc),
+            frame: String::new(alloc),
+            server: String::new(alloc),
+            request: Vec::new(alloc),
+            output: Vec::new(alloc),
+        })
+    }
+
+    /// The file of a block, or else of the page's folder.
+    pub(crate) fn file(&self, path: &str) -> Result<Vec<u8>, Fault> {
+        let alloc = self.rt.alloc();
+        for block in self.blocks {
+            if block.file_name() == Some(path) {
+                return Ok(Vec::from_slice(alloc, block.text.as_bytes())?);
+            }
+        }
+        let folder = self.folder.as_str();
+        let path = format!(in alloc; "{folder}{path}")?;
+        match fs::read(self.rt, path) {
+            Ok(bytes) => Ok(bytes),
+            Err(error) if error.kind() == ErrorKind::OutOfMemory => Err(Fault::Memory),
+            Err(_) => Err(Fault::File),
+        }
+    }
+
+    /// Takes the keeper of a store out of the world, a new one if there is none.
+    fn take_keeper(&mut self, name: &str) -> MemKeeper {
+        let place = self.stores.iter().position(|it| it.name.as_str() == name);
+        match place {
+            Some(place) if place < self.stores.len() => self.stores.remove(place).keeper,
+            _ => MemKeeper::new(self.rt.alloc()),
+        }
+    }
+
+    fn put_keeper(&mut self, name: String, keeper: MemKeeper) -> Result<(), AllocError> {
+        match self.stores.push(Store { name, keeper }) {
+            Ok(()) => Ok(()),
+            Err(_) => Err(AllocError),
+        }
+    }
+}
+
+/// Answers a request with the bytes that are given back.
+fn answered<K: Keeper>(
+    alloc: Global,
+    office: &mut Office<K>,
+    request: Vec<u8>,
+    cut: Cut,
+) -> Option<Vec<u8>> {
+    let mut reader = Counted::new(Bytes::new(request, cut));
+    let mut writer = Counted::new(Vec::new(alloc));
+    match serve_one(alloc, office, &mut reader, &mut writer) {
+        Ok(_) => Some(writer.into_inner()),
+        Err(_) => None,
+    }
+}
+
+fn office_over(
+    alloc: Global,
+    keeper: MemKeeper,
+    site: Site,
+) -> Result<Office<MemKeeper>, (Fault, MemKeeper)>
+    requires { IsSound site }
+{
+    match Office::new(alloc, keeper, site) {
+        Ok(office) => Ok(office),
+        Err((error, keeper)) => Err((Fault::from(error), keeper)),
+    }
+}
+
+/// Does a task over a keeper, and gives it back.
+fn worked(
+    world: &mut World<'_>,
+    keeper: MemKeeper,
+    site: Site,
+    task: &Task<'_>,
+) -> (Result<(), Fault>, MemKeeper)
+    requires { IsSound site }
+{
+    match office_over(world.rt.alloc(), keeper, site) {
+        Ok(mut office) => {
+            let done = work_in(world, &mut office, task);
+            (done, office.into_keeper())
+        }
+        Err((fault, keeper)) => (Err(fault), keeper),
+    }
+}
+
+impl<'a> Host for World<'a> {
+    type Input = Bytes;
+
+    type Reader = End<'a>;
+
+    type Writer = End<'a>;
+
+    fn alloc(&self) -> Global {
+        self.rt.alloc()
+    }
+
+    fn input(&mut self) -> Bytes {
+        let none = Vec::new(self.rt.alloc());
+        Bytes::new(std::mem::replace(&mut self.input, none), self.cut)
+    }
+
+    fn print(&mut self, bytes: &[u8]) -> io::Result<()> {
+        match self.output.extend_from_slice(bytes) {
+            Ok(()) => Ok(()),
+            Err(_) => Err(io::Error::from(ErrorKind::OutOfMemory)),
+        }
+    }
+
+    fn complain(&mut self, fault: Fault) -> io::Result<()> {
+        let text = format!(in self.rt.alloc(); "office: {fault}\n")?;
+        self.print(text.as_bytes())
+    }
+
+    fn read_file(&mut self, path: &str) -> Result<Vec<u8>, Fault> {
+        self.file(path)
+    }
+
+    fn connect(&mut self, address: &str, _seconds: u16) -> Result<(End<'a>, End<'a>), Fault> {
+        let Ok(mut devices) = self.devices.try_borrow_mut() else {
+            return Err(Fault::Line);
+        };
+        if devices.connect(address, self.cut) {
+            Ok((End(self.devices), End(self.devices)))
+        } else {
+            Err(Fault::Line)
+        }
+    }
+
+    /// Nobody connects to a page.
+    fn accept(&mut self, _port: u16) -> Result<(End<'a>, End<'a>), Fault> {
+        Err(Fault::Line)
+    }
+
+    /// Answers the request of the page.
+    fn serve<K: Keeper>(
+        &mut self,
+        office: &mut Office<K>,
+        _port: u16,
+        _count: Option<u32>,
+        _seconds: u16,
+    ) -> Result<(), Fault> {
+        let alloc = self.rt.alloc();
+        let request = std::mem::replace(&mut self.request, Vec::new(alloc));
+        let Some(answer) = answered(alloc, office, request, self.cut) else {
+            return Err(Fault::Line);
+        };
+        self.output.extend_from_slice(&answer)?;
+        Ok(())
+    }
+}
+
+impl Stores for World<'_> {
+    fn work(&mut self, store: &str, site: Site, task: &Task<'_>) -> Result<(), Fault> {
+        let name = String::from_str(self.rt.alloc(), store)?;
+        let keeper = self.take_keeper(store);
+        let (done, keeper) = worked(self, keeper, site, task);
+        self.put_keeper(name, keeper)?;
+        done
+    }
+}

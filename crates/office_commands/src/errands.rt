@@ -1,0 +1,123 @@
+//! What is done in an office, wherever its store is.
+use crate::output::Output;
+use crate::{Fault, Host, load, order, poll};
+use mb_mbap::Counted;
+use office_core::Office;
+use office_report::write_report;
+use office_words::Errand;
+use point_list::Site;
+use poll_book::{Caller, Keeper, Key};
+use std::alloc::{AllocError, Global};
+
+/// An errand, and the list that it loads, if it loads one.
+#[derive(Clone, Copy)]
+pub struct Task<'a> {
+    pub errand: &'a Errand,
+    pub list: &'a [u8],
+}
+
+fn load_list<H: Host, K: Keeper>(
+    host: &mut H,
+    office: &mut Office<K>,
+    caller: &Caller,
+    key: &Key,
+    list: &[u8],
+) -> Result<(), Fault> {
+    let text = load(host.alloc(), office, caller, key, list)?;
+    print(host, text.as_str())
+}
+
+/// Prints a text as it stands.
+pub(crate) fn print<H: Host>(host: &mut H, text: &str) -> Result<(), Fault> {
+    match host.print(text.as_bytes()) {
+        Ok(()) => Ok(()),
+        Err(_) => Err(Fault::File),
+    }
+}
+
+/// The address of a line, if the site has it.
+fn address_of(alloc: Global, site: &Site, line: &str) -> Result<Option<String>, AllocError> {
+    for known in site.lines.as_slice() {
+        if known.name.as_str() == line {
+            let address = String::from_str(alloc, known.address.as_str())?;
+            return Ok(Some(address));
+        }
+    }
+    Ok(None)
+}
+
+fn poll_line<H: Host, K: Keeper>(
+    host: &mut H,
+    office: &mut Office<K>,
+    slot: u32,
+    timeout: u16,
+    line: &str,
+) -> Result<(), Fault> {
+    let Some(address) = address_of(host.alloc(), office.site(), line)? else {
+        return Err(Fault::Unknown);
+    };
+    let (reader, writer) = host.connect(address.as_str(), timeout)?;
+    let text = poll(host.alloc(), office, line, slot, reader, writer)?;
+    print(host, text.as_str())
+}
+
+fn order_setting<H: Host, K: Keeper>(
+    host: &mut H,
+    office: &mut Office<K>,
+    caller: &Caller,
+    key: &Key,
+    point: &str,
+    value: i128,
+) -> Result<(), Fault> {
+    let text = order(host.alloc(), office, caller, key, point, value)?;
+    print(host, text.as_str())
+}
+
+fn report_point<H: Host, K: Keeper>(
+    host: &mut H,
+    office: &mut Office<K>,
+    point: &str,
+    from: u32,
+    to: u32,
+) -> Result<(), Fault> {
+    if from > to {
+        return Err(Fault::Command);
+    }
+    let alloc = host.alloc();
+    let mut writer = Counted::new(Output(host));
+    if write_report(alloc, office, point, from, to, &mut writer)? {
+        Ok(())
+    } else {
+        Err(Fault::Unknown)
+    }
+}
+
+/// Does a task in an office.
+pub fn work_in<H: Host, K: Keeper>(
+    host: &mut H,
+    office: &mut Office<K>,
+    task: &Task<'_>,
+) -> Result<(), Fault> {
+    match task.errand {
+        Errand::Load { caller, key, .. } => load_list(host, office, caller, key, task.list),
+        Errand::Poll {
+            slot,
+            timeout,
+            line,
+        } => poll_line(host, office, *slot, *timeout, line.as_str()),
+        Errand::Order {
+            caller,
+            key,
+            point,
+            value,
+        } => order_setting(host, office, caller, key, point.as_str(), *value),
+        Errand::Report { point, from, to } => {
+            report_point(host, office, point.as_str(), *from, *to)
+        }
+        Errand::Serve {
+            port,
+            count,
+            timeout,
+        } => host.serve(office, *port, *count, *timeout),
+    }
+}

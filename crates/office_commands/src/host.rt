@@ -1,0 +1,60 @@
+//! Where the files, the streams and the store of a command are.
+ghost use Rattle.point_list.specs.Sites.{IsSound};
+
+use crate::{Fault, Task};
+use office_core::Office;
+use point_list::Site;
+use poll_book::Keeper;
+use std::alloc::Global;
+use std::io::{self, Read, Write};
+
+/// What a command works on: the machine that the program runs on, or what a test has in its place.
+pub trait Host {
+    type Input: Read + Drop;
+    /// What comes over a connection.
+    type Reader: Read + Drop;
+    /// What goes over a connection.
+    type Writer: Write + Drop;
+
+    fn alloc(&self) -> Global;
+
+    /// Standard input.
+    fn input(&mut self) -> Self::Input;
+
+    /// Writes all of this to standard output.
+    fn print(&mut self, bytes: &[u8]) -> io::Result<()>;
+
+    /// Tells a fault on standard error.
+    fn complain(&mut self, fault: Fault) -> io::Result<()>;
+
+    /// The whole of a file.
+    fn read_file(&mut self, path: &str) -> Result<Vec<u8>, Fault>;
+
+    /// Connects to the devices at a line's address. Connecting, each read and each write wait for so many seconds
+    /// at most.
+    fn connect(
+        &mut self,
+        address: &str,
+        seconds: u16,
+    ) -> Result<(Self::Reader, Self::Writer), Fault>;
+
+    /// Waits for one connection on a port of this machine.
+    fn accept(&mut self, port: u16) -> Result<(Self::Reader, Self::Writer), Fault>;
+
+    /// Answers so many connections on a port of this machine, one after the other; without a count there is no
+    /// end. Each read and each write wait for so many seconds at most.
+    fn serve<K: Keeper>(
+        &mut self,
+        office: &mut Office<K>,
+        port: u16,
+        count: Option<u32>,
+        seconds: u16,
+    ) -> Result<(), Fault>;
+}
+
+/// A host that has stores too.
+pub trait Stores: Host {
+    /// Does a task in the office of a store over a site, by `work_in`.
+    fn work(&mut self, store: &str, site: Site, task: &Task<'_>) -> Result<(), Fault>
+        requires { IsSound site };
+}

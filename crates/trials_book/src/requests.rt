@@ -1,0 +1,164 @@
+//! Callers, their keys, and their requests in a keeper.
+use crate::storing::apply;
+use point_list::{Items, Text};
+use poll_book::{
+    Body, Caller, Change, Keeper, Key, MemKeeper, OrderState, Outcome, RequestRow, SettingRow,
+    StoreFault, Words,
+};
+use std::alloc::Global;
+use std::test::Fail;
+use telling::{Trial, twice};
+
+/// Texts, and whether each names a caller and a key.
+const NAMES: &[(&str, bool, bool)] = &[
+    ("", false, false),
+    ("x", true, true),
+    ("A_z-9", true, true),
+    ("a.b", false, false),
+    ("abcdefghijklmnopqrstuvwxyz012345", true, true),
+    ("abcdefghijklmnopqrstuvwxyz0123456", false, true),
+    (
+        "abcdefghijklmnopqrstuvwxyz0123456789_-ABCDEFGHIJKLMNOPQRSTUVWXYZ",
+        false,
+        true,
+    ),
+    (
+        "abcdefghijklmnopqrstuvwxyz0123456789_-ABCDEFGHIJKLMNOPQRSTUVWXYZ0",
+        false,
+        false,
+    ),
+];
+
+fn names(trial: &Trial<'_>) -> Result<(), StoreFault> {
+    for (text, is_caller, is_key) in NAMES {
+        let (caller, key) = (Caller::new(text), Key::new(text));
+        let told = (
+            caller.is_some_and(|caller| caller.as_bytes() == text.as_bytes()),
+            key.is_some_and(|key| key.as_bytes() == text.as_bytes()),
+        );
+        trial.told(text, &told, &(*is_caller, *is_key));
+    }
+    Ok(())
+}
+
+#[test]
+fn callers_and_keys(rt: HostRuntime) -> Result<(), Fail> {
+    Ok(twice!(rt, names)?)
+}
+
+fn named(caller: &str, key: &str) -> Result<(Caller, Key), StoreFault> {
+    match (Caller::new(caller), Key::new(key)) {
+        (Some(caller), Some(key)) => Ok((caller, key)),
+        _ => Err(StoreFault::Other),
+    }
+}
+
+/// Puts a request for a list of three bytes.
+fn ask(
+    alloc: Global,
+    keeper: &mut MemKeeper,
+    caller: &str,
+    key: &str,
+    outcome: Outcome,
+) -> Result<(), StoreFault> {
+    let (caller, key) = named(caller, key)?;
+    let mut change = Change::none(alloc);
+    change.request = Some(RequestRow {
+        caller,
+        key,
+        body: Body::List(Items::from_vec(vec![in alloc; 1, 2, 3]?)),
+        outcome,
+    });
+    apply(keeper, &change)
+}
+
+/// What became of a request.
+fn outcome_of(
+    alloc: Global,
+    keeper: &mut MemKeeper,
+    caller: &str,
+    key: &str,
+) -> Result<Option<Outcome>, StoreFault> {
+    let (caller, key) = named(caller, key)?;
+    let request = keeper.request(alloc, &caller, &key)?;
+    Ok(request.map(|request| request.outcome))
+}
+
+fn keys(trial: &Trial<'_>) -> Result<(), StoreFault> {
+    use Outcome::*;
+    let mut keeper = MemKeeper::new(trial.alloc());
+    ask(trial.alloc(), &mut keeper, "ems", "k1", Loaded(3))?;
+    ask(trial.alloc(), &mut keeper, "desk", "k1", Ordered(8))?;
+    for (caller, key, outcome) in [
+        ("ems", "k1", Some(Loaded(3))),
+        ("desk", "k1", Some(Ordered(8))),
+        ("ems", "k2", None),
+        ("k1", "ems", None),
+    ] {
+        let told = outcome_of(trial.alloc(), &mut keeper, caller, key)?;
+        trial.told(&(caller, key), &told, &outcome);
+    }
+    Ok(())
+}
+
+#[test]
+fn keys_are_of_their_callers(rt: HostRuntime) -> Result<(), Fail> {
+    Ok(twice!(rt, keys)?)
+}
+
+/// Puts an order with the request for it.
+fn order(alloc: Global, keeper: &mut MemKeeper, number: u32, key: &str) -> Result<(), StoreFault> {
+    let (caller, key) = named("ems", key)?;
+    let point = Text::from_string("limit".to_string(alloc)?);
+    let mut change = Change::none(alloc);
+    change.setting = Some(SettingRow {
+        number,
+        point: 1,
+        words: Words::new(alloc, &[1, 2, 3, 4, 5])?,
+        state: OrderState::Waiting,
+    });
+    change.request = Some(RequestRow {
+        caller,
+        key,
+        body: Body::Order { point, value: 7 },
+        outcome: Outcome::Ordered(number),
+    });
+    apply(keeper, &change)
+}
+
+/// Expects how many orders there are, and what became of a request.
+fn is_kept(
+    trial: &Trial<'_>,
+    keeper: &mut MemKeeper,
+    key: &str,
+    orders: u32,
+    outcome: Option<Outcome>,
+) -> Result<(), StoreFault> {
+    let told = (
+        keeper.orders()?,
+        outcome_of(trial.alloc(), keeper, "ems", key)?,
+    );
+    trial.told(&key, &told, &(orders, outcome));
+    Ok(())
+}
+
+/// A refused order is put once more, and before it there is neither it nor its request.
+fn refusals(trial: &Trial<'_>) -> Result<(), StoreFault> {
+    let mut keeper = MemKeeper::new(trial.alloc());
+    for (number, key) in [(1, "a"), (2, "b"), (3, "c"), (4, "d"), (5, "e")] {
+        if let Err(fault) = order(trial.alloc(), &mut keeper, number, key) {
+            trial.told(&key, &fault, &StoreFault::Memory);
+            is_kept(trial, &mut keeper, key, number - 1, None)?;
+            order(trial.alloc(), &mut keeper, number, key)?;
+        }
+        let ordered = Some(Outcome::Ordered(number));
+        is_kept(trial, &mut keeper, key, number, ordered)?;
+    }
+    Ok(())
+}
+
+/// Run under `rt try --test --fail-alloc N`, this one sees each growth refused in turn.
+#[test]
+fn a_refusal_leaves_neither_order_nor_request(rt: HostRuntime) -> Result<(), Fail> {
+    Ok(twice!(rt, refusals)?)
+}

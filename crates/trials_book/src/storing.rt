@@ -1,0 +1,86 @@
+//! Points and their readings in a keeper. The calls of the keeper stand in functions without
+//! clauses: a test needs none of their promises, and each would be a fact in each of its goals.
+use mb_pdu::{Registers, Table};
+use point_list::{Items, Label, Name, Point, Role};
+use poll_book::{
+    Change, Keeper, MemKeeper, Neighbours, PointRow, Reading, ReadingRow, StoreFault, record,
+};
+use std::alloc::Global;
+use sunspec::PointType;
+
+/// A point of a device.
+pub(crate) fn point(
+    number: u32,
+    device: &str,
+    kind: PointType,
+    (role, roll): (Role, u64),
+) -> Result<PointRow, StoreFault> {
+    let (Some(name), Some(device)) = (Name::new(b"energy"), Label::new(device.as_bytes())) else {
+        return Err(StoreFault::Other);
+    };
+    Ok(PointRow {
+        number,
+        point: Point {
+            name,
+            device,
+            table: Table::Holding,
+            address: 107,
+            kind,
+            scale: 0,
+            role,
+            roll,
+        },
+    })
+}
+
+pub(crate) fn apply(keeper: &mut MemKeeper, change: &Change) -> Result<(), StoreFault> {
+    keeper.apply(change)
+}
+
+pub(crate) fn reading(
+    keeper: &mut MemKeeper,
+    point: &PointRow,
+    slot: u32,
+) -> Result<Option<Reading>, StoreFault> {
+    keeper.reading(point, slot)
+}
+
+pub(crate) fn readings(
+    alloc: Global,
+    keeper: &mut MemKeeper,
+    point: u32,
+    from: u32,
+    to: u32,
+) -> Result<Vec<ReadingRow>, StoreFault> {
+    keeper.readings(alloc, point, from, to)
+}
+
+/// The rows that these registers of the point make in the slot.
+fn rows_of(
+    alloc: Global,
+    keeper: &mut MemKeeper,
+    point: &PointRow,
+    slot: u32,
+    words: &[u16],
+) -> Result<Vec<ReadingRow>, StoreFault> {
+    match Registers::from_slice(words) {
+        Some(registers) => record(alloc, keeper, &[(*point, registers)], slot),
+        None => Err(StoreFault::Other),
+    }
+}
+
+/// Records these registers of the point in the slot, and says how many readings were new.
+pub(crate) fn store(
+    alloc: Global,
+    keeper: &mut MemKeeper,
+    point: &PointRow,
+    slot: u32,
+    words: &[u16],
+) -> Result<usize, StoreFault> {
+    let rows = rows_of(alloc, keeper, point, slot, words)?;
+    let count = rows.len();
+    let mut change = Change::none(alloc);
+    change.readings = Items::from_vec(rows);
+    apply(keeper, &change)?;
+    Ok(count)
+}

@@ -1,0 +1,42 @@
+//! Tests of the office at its lines and its callers that data can't say: readers, writers, stores and memory that
+//! fail, noise, and sockets. Nothing stands on this crate.
+#![tactic(auto)]
+
+#[cfg(test)]
+mod command_faults;
+#[cfg(test)]
+mod connections;
+#[cfg(test)]
+mod discoveries;
+#[cfg(test)]
+mod exchanges;
+#[cfg(test)]
+mod offices;
+#[cfg(test)]
+mod refusals;
+#[cfg(test)]
+mod report_faults;
+#[cfg(test)]
+mod reports;
+#[cfg(test)]
+mod request_faults;
+#[cfg(test)]
+mod round_faults;
+#[cfg(test)]
+mod rounds;
+#[cfg(test)]
+mod simulators;
+#[cfg(test)]
+mod socket_polls;
+#[cfg(test)]
+mod socket_serving;
+#[cfg(test)]
+mod sockets;
+#[cfg(test)]
+mod source_faults;
+#[cfg(test)]
+mod source_reads;
+#[cfg(test)]
+mod sources;
+#[cfg(test)]
+mod wires;

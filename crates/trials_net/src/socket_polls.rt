@@ -1,0 +1,134 @@
+//! Poll rounds over sockets, whose devices answered beforehand.
+use crate::sockets::{connected, listen, say};
+use office_commands::{Fault, connect, poll};
+use office_core::Office;
+use office_plays::builders::office_over;
+use office_plays::steps::Happens::Load;
+use office_plays::steps::take_happening;
+use poll_book::{MemKeeper, StoreFault};
+use std::io::Read;
+use std::net::TcpStream;
+use std::test::Fail;
+use std::time::Duration;
+use telling::{Trial, twice};
+
+const QUERY: [u8; 12] = [0, 0, 0, 0, 0, 6, 17, 3, 0, 107, 0, 1];
+
+/// What the device wrote, whether it ended its side then, and what is printed.
+const CASES: &[(&[u8], bool, Result<&str, Fault>)] = &[
+    (
+        &[0, 0, 0, 0, 0, 5, 17, 3, 2, 0, 80],
+        false,
+        Ok("asked 1 recorded 1 excepted 0 refused 0\n"),
+    ),
+    (
+        &[
+            0, 0, 0, 0, 0, 5, 18, 3, 2, 0, 80, 0, 0, 0, 0, 0, 3, 17, 0x83, 2,
+        ],
+        true,
+        Ok("asked 1 recorded 0 excepted 1 refused 1\n"),
+    ),
+    (&[0, 0, 0, 0, 0, 5, 17, 3, 2, 0], true, Err(Fault::Line)),
+    (&[0, 0, 0, 0, 0, 1], false, Err(Fault::Frames)),
+    // Nothing comes for a second.
+    (&[], false, Err(Fault::Line)),
+];
+
+/// An office of one point.
+fn office_of(rt: &HostRuntime) -> Result<Office<MemKeeper>, Fault> {
+    let alloc = rt.alloc();
+    let mut office = office_over(alloc, MemKeeper::new(alloc))?;
+    let load = Load("l1", "e,m1,holding,107,uint16,,,counter,\n");
+    let _ = take_happening(alloc, &mut office, &load)?;
+    Ok(office)
+}
+
+/// A stream to a device, and the device's end.
+fn ends(rt: &HostRuntime) -> Result<(TcpStream, TcpStream), Fault> {
+    let (listener, address) = listen(rt)?;
+    let near = connected(rt, address.as_str())?;
+    match listener.accept() {
+        Ok((far, _)) => Ok((near, far)),
+        Err(_) => Err(Fault::Line),
+    }
+}
+
+/// The query that came to the device.
+fn heard(far: &TcpStream) -> Result<[u8; 12], Fault> {
+    let mut query = [0; 12];
+    let mut reader = far;
+    match reader.read_exact(&mut query) {
+        Ok(()) => Ok(query),
+        Err(_) => Err(Fault::Line),
+    }
+}
+
+fn assert_poll(
+    trial: &Trial<'_>,
+    office: &mut Office<MemKeeper>,
+    slot: u32,
+    (bytes, closes, expected): &(&[u8], bool, Result<&str, Fault>),
+) -> Result<(), Fault> {
+    let (near, far) = ends(trial.runtime())?;
+    say(&far, bytes, *closes)?;
+    let printed = poll(trial.alloc(), office, "roof", slot, &near, &near);
+    let told = match &printed {
+        Ok(text) => Ok(text.as_str()),
+        Err(fault) => Err(*fault),
+    };
+    if told == Err(Fault::Memory) || told == Err(Fault::Store(StoreFault::Memory)) {
+        return Err(Fault::Memory);
+    }
+    trial.told(bytes, &told, expected);
+    trial.told(bytes, &heard(&far)?, &QUERY);
+    Ok(())
+}
+
+fn assert_polls(trial: &Trial<'_>, office: &mut Office<MemKeeper>) -> Result<(), Fault> {
+    let mut slot = 0u32;
+    for case in CASES {
+        assert_poll(trial, office, slot, case)?;
+        slot = slot.saturating_add(1);
+    }
+    let (near, _far) = ends(trial.runtime())?;
+    let attic = poll(trial.alloc(), office, "attic", slot, &near, &near);
+    trial.told(&"attic", &attic, &Err(Fault::Unknown));
+    Ok(())
+}
+
+fn assert_all(trial: &Trial<'_>) -> Result<(), Fault> {
+    assert_polls(trial, &mut office_of(trial.runtime())?)
+}
+
+/// How connecting ends, without the stream.
+fn fault_of(rt: &HostRuntime, address: &str) -> Option<Fault> {
+    connect(rt, address, Duration::from_secs(1)).err()
+}
+
+fn assert_heard(trial: &Trial<'_>) -> Result<(), Fault> {
+    let (listener, address) = listen(trial.runtime())?;
+    trial.told(
+        &"heard",
+        &fault_of(trial.runtime(), address.as_str()),
+        &None,
+    );
+    drop(listener);
+    for address in [address.as_str(), "127.0.0.1", "127.0.0.1:65536", ""] {
+        trial.told(
+            &address,
+            &fault_of(trial.runtime(), address),
+            &Some(Fault::Line),
+        );
+    }
+    Ok(())
+}
+
+fn all(trial: &Trial<'_>) -> Result<(), Fault> {
+    assert_all(trial)?;
+    assert_heard(trial)
+}
+
+#[test]
+fn lines_are_polled_over_sockets(rt: HostRuntime) -> Result<(), Fail> {
+    Ok(twice!(rt, all)?)
+}

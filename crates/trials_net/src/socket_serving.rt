@@ -1,0 +1,110 @@
+//! Callers over sockets, who wrote beforehand and are served one after the other.
+use crate::sockets::{connected, listen, say};
+use office_commands::{Fault, serve};
+use office_core::Office;
+use office_plays::builders::office_over;
+use office_plays::steps::Happens::Load;
+use office_plays::steps::take_happening;
+use poll_book::MemKeeper;
+use std::io;
+use std::net::{TcpListener, TcpStream};
+use std::test::Fail;
+use std::time::Duration;
+use telling::{Trial, twice};
+
+const ORDER: &str =
+    "PUT /callers/ann/orders/k1 HTTP/1.1\r\nContent-Length: 26\r\n\r\n{\"point\":\"lim\",\"value\":80}";
+
+/// What a caller wrote, whether it ended its side then, and what it is told: one is silent, and one
+/// is in the middle of its request.
+const CALLERS: &[(&str, bool, &str)] = &[
+    ("", false, ""),
+    ("GET /points/lim", false, ""),
+    ("", true, ""),
+    (
+        "GET /points/lim",
+        true,
+        "HTTP/1.1 400 Bad Request\r\nContent-Type: application/json\r\nContent-Length: 23\r\nConnection: close\r\n\r\n{\"error\":\"bad request\"}",
+    ),
+    (
+        ORDER,
+        true,
+        "HTTP/1.1 200 OK\r\nContent-Type: application/json\r\nContent-Length: 29\r\nConnection: close\r\n\r\n{\"order\":1,\"state\":\"waiting\"}",
+    ),
+];
+
+/// An office of one setting.
+fn office_of(rt: &HostRuntime) -> Result<Office<MemKeeper>, Fault> {
+    let alloc = rt.alloc();
+    let mut office = office_over(alloc, MemKeeper::new(alloc))?;
+    let load = Load("l1", "lim,m1,holding,40,uint16,,,setting,\n");
+    let _ = take_happening(alloc, &mut office, &load)?;
+    Ok(office)
+}
+
+/// A caller that wrote this.
+fn caller(rt: &HostRuntime, address: &str, bytes: &str, ends: bool) -> Result<TcpStream, Fault> {
+    let end = connected(rt, address)?;
+    say(&end, bytes.as_bytes(), ends)?;
+    Ok(end)
+}
+
+/// Callers who closed at once, of whom the second ordered before, and then the others.
+fn callers(rt: &HostRuntime, address: &str) -> Result<Vec<TcpStream>, Fault> {
+    drop(caller(rt, address, "", false)?);
+    drop(caller(rt, address, ORDER, false)?);
+    let mut callers = Vec::with_capacity(rt.alloc(), CALLERS.len())?;
+    for (bytes, ends, _) in CALLERS {
+        let _ = callers.push(caller(rt, address, bytes, *ends)?);
+    }
+    Ok(callers)
+}
+
+/// Another status ends the attempt: memory can be refused to this request, or to an order before it.
+fn assert_answer(
+    trial: &Trial<'_>,
+    end: &TcpStream,
+    bytes: &str,
+    expected: &str,
+) -> Result<(), Fault> {
+    let Ok(answer) = io::read_to_string(trial.alloc(), end) else {
+        return Err(Fault::Line);
+    };
+    if !expected.starts_with(answer.as_str().get(..12).unwrap_or("")) {
+        return Err(Fault::Memory);
+    }
+    trial.told(&bytes, &answer.as_str(), &expected);
+    Ok(())
+}
+
+fn assert_served(
+    trial: &Trial<'_>,
+    office: &mut Office<MemKeeper>,
+    listener: &TcpListener,
+    callers: &[TcpStream],
+) -> Result<(), Fault> {
+    serve(
+        trial.runtime(),
+        office,
+        listener,
+        Some(7),
+        Duration::from_secs(1),
+    )?;
+    for (end, (bytes, _, expected)) in callers.iter().zip(CALLERS) {
+        assert_answer(trial, end, bytes, expected)?;
+    }
+    Ok(())
+}
+
+fn all(trial: &Trial<'_>) -> Result<(), Fault> {
+    let rt = trial.runtime();
+    let mut office = office_of(rt)?;
+    let (listener, address) = listen(rt)?;
+    let callers = callers(rt, address.as_str())?;
+    assert_served(trial, &mut office, &listener, &callers)
+}
+
+#[test]
+fn each_connection_is_served(rt: HostRuntime) -> Result<(), Fail> {
+    Ok(twice!(rt, all)?)
+}

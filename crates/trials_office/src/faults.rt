@@ -1,0 +1,254 @@
+//! A keeper that refuses, each call in turn, by each fault; and an office begun anew over a keeper.
+use crate::scripts::{OTHERS, THREE};
+use office_core::{Event, EventAnswer, Office, OfficeError};
+use office_plays::builders::{BARE, MEMORY, TWO, begun, events_of, office_over, shown};
+use office_plays::refusing::Refusing;
+use office_plays::steps::Happens::{self, Arrive, Ask, Load, Open, Order, Send};
+use office_plays::steps::{
+    answered, has_words, is_refused, opened, rows, state, take, take_happening, total,
+};
+use poll_book::StoreFault::{self, Disk, Full, Memory, Other};
+use poll_book::{MemKeeper, OrderState};
+use std::alloc::Global;
+use std::test::Fail;
+use telling::{Trial, twice};
+
+const PAIR: &str = "a,m1,holding,107,uint16,,,gauge,\ne,m1,holding,108,uint16,,,counter,\n";
+
+const HAPPENINGS: &[Happens] = &[
+    Load("l1", PAIR),
+    Open("roof"),
+    Ask(1, "m1", 5, (3, 107, 3)),
+    Ask(1, "m1", 4, (3, 107, 3)),
+    Arrive(1, 0, 17, THREE),
+    Arrive(1, 0, 17, THREE),
+    Load("l2", "c,m1,holding,109,uint16,,,gauge,\n"),
+    Arrive(1, 1, 17, OTHERS),
+    Ask(1, "m1", 5, (3, 107, 3)),
+    Arrive(1, 2, 17, &[0x83, 2]),
+    Ask(1, "m1", 5, (3, 107, 3)),
+    Arrive(1, 3, 17, OTHERS),
+    Open("roof"),
+    Load("l3", "lim,m1,holding,40,uint16,,,setting,\n"),
+    Order("k1", "lim", 80),
+    Order("k1", "lim", 80),
+    Order("k2", "lim", 65535),
+    Send(2, 1),
+    Arrive(2, 0, 17, &[6, 0, 40, 0, 80]),
+    Send(2, 1),
+];
+
+/// The office and what it answers to a keeper's first refusal.
+fn refusing_office(
+    alloc: Global,
+    at: u32,
+    fault: StoreFault,
+) -> Result<(Office<Refusing>, Option<OfficeError>), OfficeError> {
+    match begun(alloc, Refusing::new(alloc, at, fault), TWO)? {
+        Ok(office) => Ok((office, None)),
+        Err((error, keeper)) => Ok((office_over(alloc, keeper)?, Some(error))),
+    }
+}
+
+/// Takes an event, once more where it was refused, as the twin does that nothing refuses; and tells
+/// how often it was refused. Memory that was refused to the test ends the attempt.
+fn take_as(
+    trial: &Trial<'_>,
+    office: &mut Office<Refusing>,
+    twin: &mut Office<MemKeeper>,
+    event: &Event,
+    fault: StoreFault,
+) -> Result<u32, OfficeError> {
+    let alloc = trial.alloc();
+    let answer = answered(office, event);
+    if is_refused(&answer, fault) {
+        trial.told(&fault, &shown(alloc, office)?, &shown(alloc, twin)?);
+        trial.told(&fault, &take(office, event)?, &take(twin, event)?);
+        return Ok(1);
+    }
+    if is_refused(&answer, Memory) {
+        return Err(MEMORY);
+    }
+    trial.told(&fault, &answer, &take(twin, event)?);
+    Ok(0)
+}
+
+/// Takes the events, and tells how often the office was refused.
+fn take_all_as(
+    trial: &Trial<'_>,
+    office: &mut Office<Refusing>,
+    twin: &mut Office<MemKeeper>,
+    events: &[Event],
+    fault: StoreFault,
+) -> Result<u32, OfficeError> {
+    let mut refused = 0u32;
+    for event in events {
+        let more = take_as(trial, office, twin, event, fault)?;
+        refused = refused.saturating_add(more);
+    }
+    let alloc = trial.alloc();
+    trial.told(&fault, &shown(alloc, office)?, &shown(alloc, twin)?);
+    Ok(refused)
+}
+
+/// Takes the events, of which one meets the refusal, or the office's beginning does. Another number of
+/// refusals is told as an error: it can be of memory refused to the test.
+fn is_refused_once(
+    trial: &Trial<'_>,
+    events: &[Event],
+    at: u32,
+    fault: StoreFault,
+) -> Result<(), OfficeError> {
+    let alloc = trial.alloc();
+    let mut twin = office_over(alloc, MemKeeper::new(alloc))?;
+    let (mut office, error) = refusing_office(alloc, at, fault)?;
+    let refused = take_all_as(trial, &mut office, &mut twin, events, fault)?;
+    match (error, refused) {
+        (None, 1) => Ok(()),
+        (Some(OfficeError::Store(told)), 0) if told == fault => Ok(()),
+        _ => Err(OfficeError::Exhausted),
+    }
+}
+
+/// An office of which nothing was refused, and which refuses the call after those.
+fn used_office(
+    alloc: Global,
+    events: &[Event],
+    at: u32,
+    fault: StoreFault,
+) -> Result<Office<Refusing>, OfficeError> {
+    let (mut office, _) = refusing_office(alloc, at, fault)?;
+    for event in events {
+        let _ = answered(&mut office, event);
+    }
+    Ok(office)
+}
+
+/// How many calls of a keeper the events make.
+fn calls(alloc: Global, events: &[Event]) -> Result<u32, OfficeError> {
+    let office = used_office(alloc, events, u32::MAX, Other)?;
+    Ok(office.into_keeper().calls)
+}
+
+fn calls_refused(trial: &Trial<'_>) -> Result<(), OfficeError> {
+    let events = events_of(trial.alloc(), HAPPENINGS)?;
+    let count = calls(trial.alloc(), &events)?;
+    // They make more calls than they are. Fewer are told as an error: it can be of memory refused to
+    // the test.
+    if count as usize <= events.len() {
+        return Err(OfficeError::Exhausted);
+    }
+    for fault in [Memory, Full, Disk, Other] {
+        for at in 0..count {
+            is_refused_once(trial, &events, at, fault)?;
+        }
+    }
+    Ok(())
+}
+
+#[test]
+fn each_call_refused_once(rt: HostRuntime) -> Result<(), Fail> {
+    Ok(twice!(rt, calls_refused)?)
+}
+
+/// Expects that a total is refused once, and then as if nothing had been.
+fn total_refused(
+    trial: &Trial<'_>,
+    office: &mut Office<Refusing>,
+    fault: StoreFault,
+) -> Result<(), OfficeError> {
+    if total(office, "e").err() != Some(OfficeError::Store(fault)) {
+        return Err(OfficeError::NoRead);
+    }
+    trial.told(&fault, &total(office, "e")?, &Some(65_534));
+    Ok(())
+}
+
+/// Expects that readings are refused once, and then as if nothing had been.
+fn rows_refused(
+    trial: &Trial<'_>,
+    office: &mut Office<Refusing>,
+    fault: StoreFault,
+) -> Result<(), OfficeError> {
+    if rows(office, "a", 0, 9).err() != Some(OfficeError::Store(fault)) {
+        return Err(OfficeError::NoRead);
+    }
+    trial.told(&fault, &has_words(office, "a", 4, &[1])?, &true);
+    trial.told(&fault, &has_words(office, "a", 5, &[555])?, &true);
+    Ok(())
+}
+
+/// The calls that only show.
+fn shows_refused(trial: &Trial<'_>) -> Result<(), OfficeError> {
+    let alloc = trial.alloc();
+    let events = events_of(alloc, HAPPENINGS)?;
+    let count = calls(alloc, &events)?;
+    for fault in [Memory, Disk] {
+        total_refused(
+            trial,
+            &mut used_office(alloc, &events, count, fault)?,
+            fault,
+        )?;
+        rows_refused(
+            trial,
+            &mut used_office(alloc, &events, count, fault)?,
+            fault,
+        )?;
+    }
+    Ok(())
+}
+
+#[test]
+fn shows_refused_once(rt: HostRuntime) -> Result<(), Fail> {
+    Ok(twice!(rt, shows_refused)?)
+}
+
+fn take_all(alloc: Global, office: &mut Office<MemKeeper>) -> Result<(), OfficeError> {
+    for happens in HAPPENINGS {
+        take_happening(alloc, office, happens)?;
+    }
+    Ok(())
+}
+
+/// A keeper to which all has happened.
+fn used_keeper(alloc: Global) -> Result<MemKeeper, OfficeError> {
+    let mut office = office_over(alloc, MemKeeper::new(alloc))?;
+    take_all(alloc, &mut office)?;
+    Ok(office.into_keeper())
+}
+
+/// Expects that an office over a used keeper has its points and readings, and no connection.
+fn is_begun(trial: &Trial<'_>, office: &mut Office<MemKeeper>) -> Result<(), OfficeError> {
+    trial.told(&"points", &office.points().len(), &4);
+    trial.told(&"devices", &office.site().devices.len(), &2);
+    trial.told(&"reading", &has_words(office, "a", 5, &[555])?, &true);
+    let late = take_happening(trial.alloc(), office, &Arrive(2, 0, 17, THREE))?;
+    let refused = EventAnswer::Refused(OfficeError::NoConnection);
+    trial.told(&"late", &late, &refused);
+    trial.told(&"order", &state(office, 1)?, &Some(OrderState::Done));
+    trial.told(&"number", &opened(office, "roof")?, &3);
+    Ok(())
+}
+
+/// The keeper that an office of another site gives back.
+fn given_back(alloc: Global, keeper: MemKeeper) -> Result<MemKeeper, OfficeError> {
+    match begun(alloc, keeper, BARE)? {
+        Ok(_) => Err(OfficeError::NoRead),
+        Err((OfficeError::SiteDiffers, keeper)) => Ok(keeper),
+        Err((error, _)) => Err(error),
+    }
+}
+
+fn goes_on(trial: &Trial<'_>) -> Result<(), OfficeError> {
+    let alloc = trial.alloc();
+    let mut office = office_over(alloc, used_keeper(alloc)?)?;
+    is_begun(trial, &mut office)?;
+    let mut last = office_over(alloc, given_back(alloc, office.into_keeper())?)?;
+    trial.told(&"number", &opened(&mut last, "roof")?, &4);
+    Ok(())
+}
+
+#[test]
+fn a_second_office_goes_on(rt: HostRuntime) -> Result<(), Fail> {
+    Ok(twice!(rt, goes_on)?)
+}

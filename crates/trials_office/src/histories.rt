@@ -1,0 +1,181 @@
+//! An office beside the slow model.
+use crate::draws::{Chance, SLOTS, draw};
+use crate::events::event_of;
+use crate::model::{Book, Given, Placed, Row, total};
+use crate::scripted::refusals;
+use office_core::{Arrival, EventAnswer, Office, OfficeError};
+use office_plays::builders::office_over;
+use office_plays::steps::{rows, state, take, total as total_of};
+use office_plays::stores::stored;
+use office_plays::tables::text_of;
+use point_list::Role;
+use poll_book::{Keeper, MemKeeper, PointRow, ReadingRow};
+use std::test::Fail;
+use telling::{Trial, twice};
+
+const HISTORIES: u64 = 150;
+
+const EVENTS: u32 = 40;
+
+/// The keys under which anything is drawn.
+const KEYS: &[&str] = &[
+    "k0", "k1", "k2", "k3", "k4", "k5", "k6", "k7", "k8", "k9", "k10", "k11", "k12", "k13", "k14",
+    "k15", "k16", "k17", "k18", "k19", "k20", "k21", "k22", "k23", "k30",
+];
+
+/// Expects that a reading was given, and that its words follow on its first.
+fn is_given(trial: &Trial<'_>, given: &[Given], point: usize, row: &Row, reading: &ReadingRow) {
+    let words = reading.words.as_slice();
+    let first = words.first().copied().unwrap_or(0);
+    let expected = Given {
+        point,
+        slot: reading.slot,
+        first,
+    };
+    trial.told(reading, &given.contains(&expected), &true);
+    trial.told(reading, &words.len(), &(row.registers as usize));
+    for (word, offset) in words.iter().zip(0u16..125) {
+        trial.told(reading, word, &first.wrapping_add(offset));
+    }
+}
+
+/// Expects the readings and the total of a known point.
+fn is_kept<K: Keeper>(
+    trial: &Trial<'_>,
+    office: &mut Office<K>,
+    given: &[Given],
+    point: usize,
+    row: &Row,
+) -> Result<(), OfficeError> {
+    let readings = rows(office, row.name, 0, u32::MAX)?.ok_or(OfficeError::NoRead)?;
+    let count = given
+        .iter()
+        .filter(|reading| reading.point == point)
+        .count();
+    trial.told(&row.name, &readings.len(), &count);
+    for reading in &readings {
+        is_given(trial, given, point, row, reading);
+    }
+    let sum = if row.role == Role::Counter {
+        Some(total(given, point, SLOTS))
+    } else {
+        None
+    };
+    trial.told(&row.name, &total_of(office, row.name)?, &sum);
+    Ok(())
+}
+
+fn are_named(trial: &Trial<'_>, points: &[PointRow], known: &[Row]) {
+    trial.told(&"points", &points.len(), &known.len());
+    for (point, row) in points.iter().zip(known) {
+        trial.told(&point.number, &point.point.name.as_str(), &row.name);
+    }
+}
+
+/// Expects how the orders stand, and that there is no order more.
+fn are_ordered<K: Keeper>(
+    trial: &Trial<'_>,
+    office: &mut Office<K>,
+    orders: &[Placed],
+) -> Result<(), OfficeError> {
+    let mut number = 0u32;
+    for placed in orders {
+        number = number.saturating_add(1);
+        trial.told(&number, &state(office, number)?, &Some(placed.state));
+    }
+    let next = number.saturating_add(1);
+    trial.told(&next, &state(office, next)?, &None);
+    Ok(())
+}
+
+fn are_tables<K: Keeper>(
+    trial: &Trial<'_>,
+    office: &mut Office<K>,
+    book: &Book,
+) -> Result<(), OfficeError> {
+    are_named(trial, office.points(), &book.known);
+    for (point, row) in book.known.iter().enumerate() {
+        is_kept(trial, office, &book.given, point, row)?;
+    }
+    are_ordered(trial, office, &book.orders)
+}
+
+/// How many frames were taken, and how many of them were normal replies to orders.
+#[derive(Drop)]
+struct Taken {
+    arrived: u32,
+    settled: u32,
+}
+
+impl Taken {
+    fn count(&mut self, told: &EventAnswer) {
+        let arrived = matches!(told, EventAnswer::Arrived(_));
+        let settled = matches!(told, EventAnswer::Arrived(Arrival::Settled));
+        self.arrived = self.arrived.saturating_add(u32::from(arrived));
+        self.settled = self.settled.saturating_add(u32::from(settled));
+    }
+}
+
+// The office and the book are made in one function and used in another, by reference: each early
+// exit of a function that owns them has to be proved to give back all that they hold.
+
+/// Expects each answer of an office, and its tables after each where what is taken is counted.
+fn go<K: Keeper>(
+    trial: &Trial<'_>,
+    office: &mut Office<K>,
+    book: &mut Book,
+    seed: u64,
+    mut taken: Option<&mut Taken>,
+) -> Result<(), OfficeError> {
+    let mut chance = Chance { state: seed };
+    for place in 0..EVENTS {
+        let happened = draw(trial.alloc(), &mut chance, book, place)?;
+        let told = take(office, &event_of(trial.alloc(), happened)?)?;
+        trial.told(&happened, &told, &book.happen(happened)?);
+        if let Some(taken) = &mut taken {
+            taken.count(&told);
+            are_tables(trial, office, book)?;
+        }
+    }
+    Ok(())
+}
+
+/// The same of an office over an empty keeper, which refuses nothing and whose tables are given as text.
+fn tables_after<K: Keeper + Drop>(
+    trial: &Trial<'_>,
+    keeper: K,
+    seed: u64,
+    taken: Option<&mut Taken>,
+) -> Result<String, OfficeError> {
+    let before = refusals(&keeper);
+    let mut office = office_over(trial.alloc(), keeper)?;
+    let mut book = Book::new(trial.alloc());
+    go(trial, &mut office, &mut book, seed, taken)?;
+    let mut keeper = office.into_keeper();
+    trial.told(&seed, &refusals(&keeper), &before);
+    text_of(trial.alloc(), &mut keeper, KEYS)
+}
+
+/// Histories over each keeper, of which both hold the same at its end. What is in a database takes long to
+/// look at, so it is looked at there alone.
+fn histories(trial: &Trial<'_>) -> Result<(), OfficeError> {
+    let alloc = trial.alloc();
+    let mut taken = Taken {
+        arrived: 0,
+        settled: 0,
+    };
+    for seed in 0..HISTORIES {
+        let stored = tables_after(trial, stored(alloc)?, seed, None)?;
+        let kept = tables_after(trial, MemKeeper::new(alloc), seed, Some(&mut taken))?;
+        trial.told(&seed, &stored, &kept);
+    }
+    let Taken { arrived, settled } = taken;
+    let are_many = arrived > 250 && settled > 25;
+    trial.told(&(arrived, settled), &are_many, &true);
+    Ok(())
+}
+
+#[test]
+fn answers_and_tables_of_histories(rt: HostRuntime) -> Result<(), Fail> {
+    Ok(twice!(rt, histories)?)
+}

@@ -1,0 +1,575 @@
+//! What an office holds and answers, by a book that keeps all that ever happened: every query, and
+//! what each reply gave, with nothing left out.
+use office_core::{Arrival, EventAnswer, OfficeError, RequestAnswer};
+use office_plays::builders::frame;
+use office_plays::steps::push;
+use point_list::{ListFault, Role};
+use poll_book::{OrderState, Outcome, Reason, RequestFault};
+use poll_match::Conn;
+use std::alloc::Global;
+
+/// A point of device m1 in the holding registers. A counter rolls after 999.
+#[derive(Clone, Copy, Debug, PartialEq, Eq)]
+pub(crate) struct Row {
+    pub(crate) name: &'static str,
+    pub(crate) address: u16,
+    pub(crate) registers: u16,
+    pub(crate) role: Role,
+}
+
+#[derive(Clone, Copy, Debug, PartialEq, Eq)]
+pub(crate) enum Brought {
+    /// So many registers, the first of which has this number, and each next one more.
+    Words(u16, u16),
+    /// The write of one register again, by its address and its number.
+    Echo(u16, u16),
+    /// An exception to a function, with its code.
+    Exception(u8, u8),
+    /// A reply to another function.
+    Other,
+}
+
+/// What a caller asks for: a list by its number, of which there are four, or a value for a point.
+#[derive(Clone, Copy, Debug, PartialEq, Eq)]
+pub(crate) enum Wanted {
+    List(u32),
+    Value(&'static str, u32),
+}
+
+#[derive(Clone, Copy, Debug, PartialEq, Eq)]
+pub(crate) enum Happened {
+    /// Under a key by its number.
+    Request {
+        key: u32,
+        wanted: Wanted,
+    },
+    /// A line by its place; there are two.
+    Open(u32),
+    Ask {
+        conn: u32,
+        slot: u32,
+        start: u16,
+        quantity: u16,
+    },
+    Send {
+        conn: u32,
+        order: u32,
+    },
+    Arrive {
+        conn: u32,
+        transaction: u16,
+        unit_id: u8,
+        brought: Brought,
+    },
+    Restart,
+}
+
+fn point(name: &'static str, address: u16, registers: u16, role: Role) -> Row {
+    Row {
+        name,
+        address,
+        registers,
+        role,
+    }
+}
+
+/// The rows of a list. The last list has a fault of its own besides.
+pub(crate) fn rows_of(list: u32) -> [Row; 4] {
+    let a = point("a", 107, 1, Role::Gauge);
+    let c = point("c", 109, 1, Role::Gauge);
+    let e = point("e", 110, 1, Role::Counter);
+    let f = point("f", 111, 2, Role::Gauge);
+    let s = point("s", 40, 1, Role::Setting);
+    let t = point("t", 112, 1, Role::Setting);
+    match list {
+        0 => [a, point("b", 108, 1, Role::Gauge), c, s],
+        1 => [e, a, f, t],
+        2 => [f, point("b", 113, 1, Role::Gauge), c, s],
+        _ => [a, e, c, t],
+    }
+}
+
+pub(crate) fn is_faulty(list: u32) -> bool {
+    list >= 3
+}
+
+/// The first request under a key, and what became of it.
+#[derive(Clone, Copy, Debug, PartialEq, Eq)]
+struct Request {
+    key: u32,
+    wanted: Wanted,
+    outcome: Outcome,
+}
+
+/// What is written for an order, and how it stands.
+#[derive(Clone, Copy, Debug, PartialEq, Eq)]
+pub(crate) struct Placed {
+    address: u16,
+    value: u16,
+    pub(crate) state: OrderState,
+}
+
+#[derive(Clone, Copy, Debug, PartialEq, Eq)]
+pub(crate) enum Asked {
+    /// How many points were known then.
+    Read {
+        slot: u32,
+        start: u16,
+        quantity: u16,
+        known: usize,
+    },
+    /// The place of an order, and what is written for it.
+    Write {
+        order: usize,
+        address: u16,
+        value: u16,
+    },
+}
+
+/// A query that a connection made.
+#[derive(Clone, Copy, Debug, PartialEq, Eq)]
+pub(crate) struct Query {
+    conn: u32,
+    pub(crate) asked: Asked,
+    is_answered: bool,
+}
+
+/// A reading: the place of its point, its slot, the first register's number.
+#[derive(Clone, Copy, Debug, PartialEq, Eq)]
+pub(crate) struct Given {
+    pub(crate) point: usize,
+    pub(crate) slot: u32,
+    pub(crate) first: u16,
+}
+
+/// All that happened.
+#[derive(Drop)]
+pub(crate) struct Book {
+    pub(crate) known: Vec<Row>,
+    requests: Vec<Request>,
+    pub(crate) orders: Vec<Placed>,
+    /// The line of each connection, while it is open.
+    lines: Vec<Option<u32>>,
+    queries: Vec<Query>,
+    pub(crate) given: Vec<Given>,
+}
+
+fn differs(known: &[Row], row: &Row) -> bool {
+    known
+        .iter()
+        .any(|there| there.name == row.name && there != row)
+}
+
+fn refused(fault: RequestFault, row: u32, column: u8) -> Outcome {
+    Outcome::RefusedFor(Reason { fault, row, column })
+}
+
+/// What becomes of a list by the points that are known.
+fn list_outcome(known: &[Row], list: u32) -> Outcome {
+    if is_faulty(list) {
+        return refused(RequestFault::List(ListFault::UnknownDevice), 6, 2);
+    }
+    for (row, number) in rows_of(list).iter().zip([2, 3, 4, 5]) {
+        if differs(known, row) {
+            return refused(RequestFault::PointDiffers, number, 1);
+        }
+    }
+    Outcome::Loaded(4)
+}
+
+fn covers(start: u16, quantity: u16, row: &Row) -> bool {
+    let end = start as u32 + quantity as u32;
+    start <= row.address && row.address as u32 + row.registers as u32 <= end
+}
+
+fn fits(asked: Asked, brought: Brought) -> bool {
+    match (asked, brought) {
+        (Asked::Read { quantity, .. }, Brought::Words(_, count)) => count == quantity,
+        (Asked::Read { .. }, Brought::Exception(function, _)) => function == 3,
+        (Asked::Write { .. }, Brought::Exception(function, _)) => function == 6,
+        (Asked::Write { address, value, .. }, Brought::Echo(at, number)) => {
+            at == address && number == value
+        }
+        _ => false,
+    }
+}
+
+/// How far a counter went from one number to the next.
+fn step(before: u16, after: u16) -> u16 {
+    if after >= before {
+        after - before
+    } else {
+        after.saturating_add(1000 - before.min(1000))
+    }
+}
+
+/// The number of a counter in a slot, where it counts.
+fn number_in(given: &[Given], point: usize, slot: u32) -> Option<u16> {
+    given
+        .iter()
+        .find(|reading| reading.point == point && reading.slot == slot && reading.first <= 999)
+        .map(|reading| reading.first)
+}
+
+/// A counter's total, of slots below so many.
+pub(crate) fn total(given: &[Given], point: usize, slots: u32) -> u128 {
+    let mut sum = 0u64;
+    let mut last = None;
+    for slot in 0..slots {
+        if let Some(number) = number_in(given, point, slot) {
+            sum = sum.saturating_add(step(last.unwrap_or(number), number) as u64);
+            last = Some(number);
+        }
+    }
+    sum as u128
+}
+
+impl Book {
+    pub(crate) fn new(alloc: Global) -> Book {
+        Book {
+            known: Vec::new(alloc),
+            requests: Vec::new(alloc),
+            orders: Vec::new(alloc),
+            lines: Vec::new(alloc),
+            queries: Vec::new(alloc),
+            given: Vec::new(alloc),
+        }
+    }
+
+    /// How many connections were made.
+    pub(crate) fn made(&self) -> u32 {
+        (self.lines.len() % 65536) as u32
+    }
+
+    fn line_of(&self, conn: u32) -> Option<u32> {
+        let place = (conn as usize).checked_sub(1)?;
+        *self.lines.get(place)?
+    }
+
+    /// The queries of a connection in their order.
+    pub(crate) fn queries(&self, alloc: Global, of: u32) -> Result<Vec<Query>, OfficeError> {
+        let mut queries = Vec::new(alloc);
+        for query in &self.queries {
+            if query.conn == of {
+                push(&mut queries, *query)?;
+            }
+        }
+        Ok(queries)
+    }
+
+    fn order_outcome(&self, name: &str, value: u32) -> Outcome {
+        let Some(row) = self.known.iter().find(|row| row.name == name) else {
+            return refused(RequestFault::UnknownPoint, 0, 0);
+        };
+        if row.role != Role::Setting {
+            return refused(RequestFault::NotASetting, 0, 0);
+        }
+        if value >= 65535 {
+            return refused(RequestFault::OutOfRange, 0, 0);
+        }
+        Outcome::Ordered((self.orders.len() % 65536) as u32 + 1)
+    }
+
+    fn outcome(&self, wanted: Wanted) -> Outcome {
+        match wanted {
+            Wanted::List(list) => list_outcome(&self.known, list),
+            Wanted::Value(name, value) => self.order_outcome(name, value),
+        }
+    }
+
+    fn add_points(&mut self, list: u32) -> Result<(), OfficeError> {
+        for row in rows_of(list) {
+            if !self.known.contains(&row) {
+                push(&mut self.known, row)?;
+            }
+        }
+        Ok(())
+    }
+
+    fn add_order(&mut self, name: &str, value: u32) -> Result<(), OfficeError> {
+        let Some(row) = self.known.iter().find(|row| row.name == name) else {
+            return Ok(());
+        };
+        let placed = Placed {
+            address: row.address,
+            value: (value % 65536) as u16,
+            state: OrderState::Waiting,
+        };
+        push(&mut self.orders, placed)
+    }
+
+    fn add(&mut self, wanted: Wanted, outcome: Outcome) -> Result<(), OfficeError> {
+        match (wanted, outcome) {
+            (Wanted::List(list), Outcome::Loaded(_)) => self.add_points(list),
+            (Wanted::Value(name, value), Outcome::Ordered(_)) => self.add_order(name, value),
+            _ => Ok(()),
+        }
+    }
+
+    fn take_request(&mut self, key: u32, wanted: Wanted) -> Result<RequestAnswer, OfficeError> {
+        if let Some(first) = self.requests.iter().find(|request| request.key == key) {
+            return Ok(if first.wanted == wanted {
+                RequestAnswer::Kept {
+                    first: false,
+                    outcome: first.outcome,
+                }
+            } else {
+                RequestAnswer::KeyReused
+            });
+        }
+        let outcome = self.outcome(wanted);
+        let request = Request {
+            key,
+            wanted,
+            outcome,
+        };
+        push(&mut self.requests, request)?;
+        self.add(wanted, outcome)?;
+        Ok(RequestAnswer::Kept {
+            first: true,
+            outcome,
+        })
+    }
+
+    fn open(&mut self, line: u32) -> Result<EventAnswer, OfficeError> {
+        if line >= 2 {
+            return Ok(EventAnswer::Refused(OfficeError::WrongLine));
+        }
+        for former in self.lines.as_mut_slice() {
+            if *former == Some(line) {
+                *former = None;
+            }
+        }
+        push(&mut self.lines, Some(line))?;
+        Ok(EventAnswer::Opened(Conn::new(self.made())))
+    }
+
+    /// How many queries a connection made.
+    fn count(&self, conn: u32) -> u16 {
+        let count = self
+            .queries
+            .iter()
+            .filter(|query| query.conn == conn)
+            .count();
+        (count % 65536) as u16
+    }
+
+    /// The answer to a query, which is kept.
+    fn make_query(&mut self, conn: u32, asked: Asked) -> Result<EventAnswer, OfficeError> {
+        let number = self.count(conn);
+        let query = Query {
+            conn,
+            asked,
+            is_answered: false,
+        };
+        push(&mut self.queries, query)?;
+        let (function, first, second) = match asked {
+            Asked::Read {
+                start,
+                quantity,
+                ..
+            } => (3, start, quantity),
+            Asked::Write { address, value, .. } => (6, address, value),
+        };
+        let [high, low] = first.to_be_bytes();
+        let [above, below] = second.to_be_bytes();
+        let sent = frame(number, 17, &[function, high, low, above, below])?;
+        Ok(EventAnswer::Query(sent))
+    }
+
+    fn ask(
+        &mut self,
+        conn: u32,
+        slot: u32,
+        start: u16,
+        quantity: u16,
+    ) -> Result<EventAnswer, OfficeError> {
+        let some = self.known.iter().any(|row| covers(start, quantity, row));
+        let refusal = match self.line_of(conn) {
+            None => OfficeError::NoConnection,
+            Some(0) if some => {
+                let known = self.known.len();
+                let asked = Asked::Read {
+                    slot,
+                    start,
+                    quantity,
+                    known,
+                };
+                return self.make_query(conn, asked);
+            }
+            Some(0) => OfficeError::NoRead,
+            Some(_) => OfficeError::WrongLine,
+        };
+        Ok(EventAnswer::Refused(refusal))
+    }
+
+    /// The place of the oldest order that waits. All are of device m1.
+    pub(crate) fn oldest(&self) -> Option<usize> {
+        self.orders
+            .iter()
+            .position(|placed| placed.state == OrderState::Waiting)
+    }
+
+    fn send(&mut self, conn: u32, order: u32) -> Result<EventAnswer, OfficeError> {
+        let place = (order as usize).wrapping_sub(1);
+        let placed = self.orders.get(place).copied();
+        let refusal = match (self.line_of(conn), placed) {
+            (None, _) => OfficeError::NoConnection,
+            (Some(_), None) => OfficeError::NoOrder,
+            (Some(0), Some(placed)) if placed.state != OrderState::Waiting => OfficeError::Settled,
+            (Some(0), Some(_)) if self.oldest() != Some(place) => OfficeError::NotNext,
+            (Some(0), Some(placed)) => {
+                let asked = Asked::Write {
+                    order: place,
+                    address: placed.address,
+                    value: placed.value,
+                };
+                return self.make_query(conn, asked);
+            }
+            (Some(_), Some(_)) => OfficeError::WrongLine,
+        };
+        Ok(EventAnswer::Refused(refusal))
+    }
+
+    /// Adds what the first reply to a read gives, but for what is there, and counts it.
+    fn give(&mut self, asked: Asked, number: u16) -> Result<u32, OfficeError> {
+        let Asked::Read {
+            slot,
+            start,
+            quantity,
+            known,
+        } = asked
+        else {
+            return Ok(0);
+        };
+        let mut count = 0u32;
+        for (point, row) in self.known.iter().take(known).enumerate() {
+            let is_there = self
+                .given
+                .iter()
+                .any(|there| there.point == point && there.slot == slot);
+            if covers(start, quantity, row) && !is_there {
+                let first = number.wrapping_add(row.address.wrapping_sub(start));
+                push(&mut self.given, Given { point, slot, first })?;
+                count = count.saturating_add(1);
+            }
+        }
+        Ok(count)
+    }
+
+    fn settle(&mut self, asked: Asked, state: OrderState) {
+        if let Asked::Write { order, .. } = asked
+            && let Some(placed) = self.orders.as_mut_slice().get_mut(order)
+            && placed.state == OrderState::Waiting
+        {
+            placed.state = state;
+        }
+    }
+
+    /// What a reply to a query brings.
+    fn bring(&mut self, asked: Asked, brought: Brought) -> Result<Arrival, OfficeError> {
+        match brought {
+            Brought::Words(number, _) => Ok(Arrival::Recorded(self.give(asked, number)?)),
+            Brought::Exception(_, code) => {
+                if code != 5 && code != 6 {
+                    self.settle(asked, OrderState::Refused(code));
+                }
+                Ok(Arrival::Excepted(code))
+            }
+            _ => {
+                self.settle(asked, OrderState::Done);
+                Ok(Arrival::Settled)
+            }
+        }
+    }
+
+    /// The place of a query of a connection by its number.
+    fn place(&self, conn: u32, number: u16) -> Option<usize> {
+        let mut left = number;
+        for (place, query) in self.queries.iter().enumerate() {
+            if query.conn == conn {
+                if left == 0 {
+                    return Some(place);
+                }
+                left = left.saturating_sub(1);
+            }
+        }
+        None
+    }
+
+    /// The place of the query that a frame answers, or its refusal.
+    fn answered(
+        &self,
+        conn: u32,
+        transaction: u16,
+        unit_id: u8,
+        brought: Brought,
+    ) -> Result<usize, OfficeError> {
+        if self.line_of(conn).is_none() {
+            return Err(OfficeError::NoConnection);
+        }
+        let place = self.place(conn, transaction).ok_or(OfficeError::NoQuery)?;
+        let query = self.queries.get(place).ok_or(OfficeError::NoQuery)?;
+        if unit_id != 17 {
+            Err(OfficeError::WrongUnit)
+        } else if query.is_answered {
+            Err(OfficeError::Repeat)
+        } else if !fits(query.asked, brought) {
+            Err(OfficeError::WrongReply)
+        } else {
+            Ok(place)
+        }
+    }
+
+    fn arrive(
+        &mut self,
+        conn: u32,
+        transaction: u16,
+        unit_id: u8,
+        brought: Brought,
+    ) -> Result<EventAnswer, OfficeError> {
+        let place = match self.answered(conn, transaction, unit_id, brought) {
+            Ok(place) => place,
+            Err(error) => return Ok(EventAnswer::Refused(error)),
+        };
+        let Some(query) = self.queries.as_mut_slice().get_mut(place) else {
+            return Ok(EventAnswer::Refused(OfficeError::NoQuery));
+        };
+        query.is_answered = true;
+        let asked = query.asked;
+        Ok(EventAnswer::Arrived(self.bring(asked, brought)?))
+    }
+
+    fn restart(&mut self) {
+        for line in self.lines.as_mut_slice() {
+            *line = None;
+        }
+    }
+
+    /// The answer to what happens.
+    pub(crate) fn happen(&mut self, happened: Happened) -> Result<EventAnswer, OfficeError> {
+        match happened {
+            Happened::Request { key, wanted } => {
+                Ok(EventAnswer::Request(self.take_request(key, wanted)?))
+            }
+            Happened::Open(line) => self.open(line),
+            Happened::Ask {
+                conn,
+                slot,
+                start,
+                quantity,
+            } => self.ask(conn, slot, start, quantity),
+            Happened::Send { conn, order } => self.send(conn, order),
+            Happened::Arrive {
+                conn,
+                transaction,
+                unit_id,
+                brought,
+            } => self.arrive(conn, transaction, unit_id, brought),
+            Happened::Restart => {
+                self.restart();
+                Ok(EventAnswer::Restarted)
+            }
+        }
+    }
+}
