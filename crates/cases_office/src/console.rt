@@ -1,5 +1,4 @@
 //! Consoles: lines `$ office ..`, each with what it prints below it.
-use crate::cut::Cut;
 use crate::shell::typed;
 use crate::world::World;
 use case_pages::{Block, Tally, Trouble};
@@ -26,13 +25,14 @@ fn is_wanted(told: &str, wanted: &str) -> bool {
     skips || lines.next().is_none()
 }
 
-/// Whether memory was refused, so that the command is to be typed again.
-fn is_refused(told: &str) -> bool {
+/// Whether memory or the store was refused, so that the command is to be typed again.
+pub(crate) fn is_refused(told: &str) -> bool {
     told.ends_with("office: memory\nstatus 1\n")
         || told.ends_with("office: store memory\nstatus 1\n")
+        || told.ends_with("office: store disk\nstatus 1\n")
 }
 
-/// What a command prints, typed once more where memory was refused.
+/// What a command prints, typed once more where memory or the store was refused.
 fn told_by(world: &mut World<'_>, command: &str) -> Result<String, Trouble> {
     match typed(world, command) {
         Ok(told) if !is_refused(told.as_str()) => Ok(told),
@@ -41,7 +41,7 @@ fn told_by(world: &mut World<'_>, command: &str) -> Result<String, Trouble> {
     }
 }
 
-/// Counts a case where all comes whole; else a case that differs is counted besides.
+/// Counts a case where a page is played first; else a case that differs is counted besides.
 pub(crate) fn judge<R: Print>(
     world: &World<'_>,
     tally: &mut Tally<'_, R>,
@@ -49,10 +49,26 @@ pub(crate) fn judge<R: Print>(
     told: &str,
     wanted: &str,
 ) -> Result<(), Trouble> {
-    if world.cut == Cut::Whole || told != wanted {
+    if world.play.is_first() || told != wanted {
         tally.told(line, told, wanted)?;
     }
     Ok(())
+}
+
+/// Judges what the peer heard of a command that is done.
+fn judge_peer<R: Print>(world: &World<'_>, tally: &mut Tally<'_, R>) -> Result<(), Trouble> {
+    let Ok(mut devices) = world.devices.try_borrow_mut() else {
+        return Err(Trouble::Page("a peer in use"));
+    };
+    let Some(heard) = devices.end() else {
+        return Ok(());
+    };
+    match devices.wanted() {
+        Some((wanted, line)) if !wanted.is_empty() => {
+            judge(world, tally, line, heard.as_str(), wanted)
+        }
+        _ => Ok(()),
+    }
 }
 
 fn play_step<R: Print>(
@@ -70,7 +86,8 @@ fn play_step<R: Print>(
     } else {
         told.as_str()
     };
-    judge(world, tally, line, told, wanted)
+    judge(world, tally, line, told, wanted)?;
+    judge_peer(world, tally)
 }
 
 /// The part of a console from its next command on, without the `$ `, up to the command behind it, and what

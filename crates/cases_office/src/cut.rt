@@ -1,7 +1,7 @@
 //! How bytes are cut that are read.
 ghost use Rattle.std.specs.Prelude.{◌≤◌, length};
 
-use std::io::{self, Read};
+use std::io::{self, ErrorKind, Read};
 
 /// How many of the bytes that are there a read gives.
 #[derive(Clone, Copy, PartialEq, Eq)]
@@ -32,6 +32,8 @@ pub(crate) struct Bytes {
     bytes: Vec<u8>,
     taken: usize,
     cut: Cut,
+    /// Behind them a read fails, and doesn't end.
+    fails: bool,
 }
 
 impl Bytes {
@@ -40,6 +42,15 @@ impl Bytes {
             bytes,
             taken: 0,
             cut,
+            fails: false,
+        }
+    }
+
+    /// Bytes behind which a read fails.
+    pub(crate) fn failing(bytes: Vec<u8>, cut: Cut) -> Bytes {
+        Bytes {
+            fails: true,
+            ..Bytes::new(bytes, cut)
         }
     }
 }
@@ -61,6 +72,9 @@ impl Read for Bytes {
 
     fn read(&mut self, buf: &mut [u8]) -> io::Result<usize> {
         let rest = self.bytes.get(self.taken..).unwrap_or(&[]);
+        if rest.is_empty() && self.fails {
+            return Err(io::Error::from(ErrorKind::ConnectionReset));
+        }
         let count = give(rest, self.cut, buf);
         self.taken = self.taken.saturating_add(count);
         Ok(count)

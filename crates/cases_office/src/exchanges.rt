@@ -1,7 +1,7 @@
 //! Requests over HTTP and their answers: lines `> ..` of a request, and below them lines `< ..` of its answer. The
 //! lines of a head end with a carriage return and a line feed, unless a `\` ends them; those behind the head's empty
 //! line are a body, and stand side by side.
-use crate::console::judge;
+use crate::console::{is_refused, judge};
 use crate::shell::serve;
 use crate::world::World;
 use case_pages::{Block, Tally, Trouble, bytes_of};
@@ -65,14 +65,28 @@ fn shown(bytes: &[u8]) -> &str {
     str::from_utf8(bytes).unwrap_or("bytes that are no text")
 }
 
-/// What a request is told, told once more where the store or memory refused.
-fn told(world: &mut World<'_>, request: &[u8]) -> Result<String, Trouble> {
-    let alloc = world.rt.alloc();
-    let told = serve(world, Vec::from_slice(alloc, request)?)?;
-    if told.as_str().starts_with("HTTP/1.1 503") {
-        return serve(world, Vec::from_slice(alloc, request)?);
+fn answer_to(world: &mut World<'_>, request: &[u8]) -> Result<String, Trouble> {
+    serve(world, Vec::from_slice(world.rt.alloc(), request)?)
+}
+
+/// Whether an answer says that what is wanted to be made now was made before.
+fn was_made(told: &str, wanted: &str) -> bool {
+    let told = told.strip_prefix("HTTP/1.1 200 OK\r\n");
+    told.is_some() && told == wanted.strip_prefix("HTTP/1.1 201 Created\r\n")
+}
+
+/// What a request is told, told once more where the store or memory refused. It can be that only its answer was
+/// refused.
+fn told(world: &mut World<'_>, request: &[u8], wanted: &str) -> Result<String, Trouble> {
+    let told = answer_to(world, request)?;
+    if !told.as_str().starts_with("HTTP/1.1 503") && !is_refused(told.as_str()) {
+        return Ok(told);
     }
-    Ok(told)
+    let again = answer_to(world, request)?;
+    if was_made(again.as_str(), wanted) {
+        return Ok(String::from_str(world.rt.alloc(), wanted)?);
+    }
+    Ok(again)
 }
 
 /// Plays the requests of a block, whose words behind `http ` are those of the office that serves.
@@ -95,8 +109,9 @@ pub(crate) fn play<R: Print>(
         if behind.len() == rest.len() {
             return Err(Trouble::Page("a line of neither a request nor an answer"));
         }
-        let told = told(world, &request.bytes)?;
-        judge(world, tally, line, told.as_str(), shown(&answer.bytes))?;
+        let wanted = shown(&answer.bytes);
+        let told = told(world, &request.bytes, wanted)?;
+        judge(world, tally, line, told.as_str(), wanted)?;
         line = line
             .saturating_add(request.lines)
             .saturating_add(answer.lines);

@@ -1,10 +1,11 @@
 //! The blocks of a page, in their order, in one world.
 use crate::cut::Cut;
 use crate::requests::{Beginnings, Requests};
+use crate::sources::Reads;
 use crate::wire::Devices;
 use crate::words::Lines;
-use crate::world::World;
-use crate::{console, excerpts, exchanges};
+use crate::world::{Play, World};
+use crate::{console, excerpts, exchanges, peers};
 use case_pages::{Block, Player, Tally, Trouble, play_rows};
 use std::cell::RefCell;
 
@@ -22,9 +23,10 @@ fn play_row_block<R: Print>(
 ) -> Result<(), Trouble> {
     let alloc = world.rt.alloc();
     match kind {
-        _ if world.cut != Cut::Whole => Ok(()),
+        _ if !world.play.is_first() => Ok(()),
         "words" => play_rows(tally, block, &mut Lines { alloc }),
         "requests" => play_rows(tally, block, &mut Requests { alloc }),
+        "source" => play_rows(tally, block, &mut Reads { alloc }),
         "beginnings" => play_rows(tally, block, &mut Beginnings { alloc }),
         _ => play_inputs(world, tally, block, kind),
     }
@@ -57,6 +59,9 @@ fn play_block<R: Print>(
     if block.words == "console" {
         return console::play(world, tally, block);
     }
+    if let Some(address) = block.words.strip_prefix("peer ") {
+        return peers::wait(world, block, address);
+    }
     if let Some(kind) = block.words.strip_prefix("rows ") {
         return play_row_block(world, tally, block, kind);
     }
@@ -69,32 +74,60 @@ fn play_block<R: Print>(
     }
 }
 
-/// Plays a page in a world whose bytes are cut in some way.
-fn play_cut<'x, R: Print>(
+/// Plays a page in a new world, and gives the number of calls of its stores.
+fn play_once<'x, R: Print>(
     rt: &'x HostRuntime,
     tally: &mut Tally<'_, R>,
     name: &str,
     page: &'x [Block<'x>],
-    cut: Cut,
-) -> Result<(), Trouble> {
+    play: Play,
+) -> Result<u32, Trouble> {
     let devices = RefCell::new(Devices::new(rt.alloc()));
-    let mut world = World::new(rt, name, page, &devices, cut)?;
+    let mut world = World::new(rt, name, page, &devices, play)?;
     for block in page {
         play_block(&mut world, tally, block)?;
     }
-    Ok(())
+    Ok(world.calls)
+}
+
+/// Plays a page once for each call of its stores, which is refused, and counts the calls as one case.
+fn play_refused<'x, R: Print>(
+    rt: &'x HostRuntime,
+    tally: &mut Tally<'_, R>,
+    name: &str,
+    page: &'x [Block<'x>],
+    block: &Block<'_>,
+    calls: u32,
+) -> Result<(), Trouble> {
+    for refused in 0..calls {
+        let play = Play {
+            refused,
+            ..Play::FIRST
+        };
+        let _ = play_once(rt, tally, name, page, play)?;
+    }
+    let told = format!(in rt.alloc(); "{calls} calls\n")?;
+    tally.told(block.line, told.as_str(), block.text)
 }
 
 impl Player for Pages<'_> {
-    /// Plays the page three times: with all that is read whole, cut in halves, and byte by byte.
+    /// Plays the page three times: with all that is read whole, cut in halves, and byte by byte; and where it says
+    /// how many calls of its stores are refused, once more for each of them.
     fn play<R: Print>(
         &mut self,
         tally: &mut Tally<'_, R>,
         name: &str,
         page: &[Block<'_>],
     ) -> Result<(), Trouble> {
-        for cut in Cut::ALL {
-            play_cut(self.rt, tally, name, &*page, cut)?;
+        let calls = play_once(self.rt, tally, name, &*page, Play::FIRST)?;
+        for cut in [Cut::Halves, Cut::Bytes] {
+            let play = Play { cut, ..Play::FIRST };
+            let _ = play_once(self.rt, tally, name, &*page, play)?;
+        }
+        for block in page {
+            if block.words == "refusals" {
+                play_refused(self.rt, tally, name, &*page, block, calls)?;
+            }
         }
         Ok(())
     }

@@ -1,7 +1,8 @@
-//! Devices that images play, and a connection to them.
+//! What waits at the addresses of a page, devices of images and a peer with a script, and a connection to it.
 ghost use Rattle.std.specs.Prelude.{◌≤◌, IfOk, length};
 
 use crate::cut::{Cut, give};
+use crate::peers::Script;
 use mb_map::Sim;
 use mb_mbap::{Frame, FrameReader};
 use std::alloc::{AllocError, Global};
@@ -15,21 +16,26 @@ struct Waiting {
     sim: Sim,
 }
 
-/// Devices that somebody is connected to, and what they have said that wasn't read yet.
+/// The connection that is open: to devices, or to the peer, and what came over it that wasn't read yet.
 #[derive(Drop)]
 struct Line {
-    sim: Sim,
+    sim: Option<Sim>,
     stream: FrameReader,
     said: Vec<u8>,
-    heard: usize,
+    read: usize,
+    /// The frames that the peer heard, a line each.
+    heard: String,
+    frames: usize,
     cut: Cut,
 }
 
-/// All devices of a page. One connection is open at a time.
+/// All that waits for connections in a page. One connection is open at a time.
 #[derive(Drop)]
 pub(crate) struct Devices {
     alloc: Global,
     waiting: Vec<Waiting>,
+    /// It takes any number of connections, and says the same over each.
+    peer: Option<Script>,
     line: Option<Line>,
 }
 
@@ -38,6 +44,7 @@ impl Devices {
         Devices {
             alloc,
             waiting: Vec::new(alloc),
+            peer: None,
             line: None,
         }
     }
@@ -50,40 +57,110 @@ impl Devices {
         }
     }
 
-    /// Connects to the devices that waited longest at an address. They take one connection.
-    pub(crate) fn connect(&mut self, address: &str, cut: Cut) -> bool {
+    /// Has a peer wait in the place of the former one.
+    pub(crate) fn wait_with(&mut self, peer: Script) {
+        self.peer = Some(peer);
+    }
+
+    /// The devices that waited longest at an address. They take one connection.
+    fn take_devices(&mut self, address: &str) -> Option<Sim> {
         let place = self
             .waiting
             .iter()
-            .position(|it| it.address.as_str() == address);
-        let Some(place) = place else {
-            return false;
-        };
+            .position(|it| it.address.as_str() == address)?;
         if place >= self.waiting.len() {
-            return false;
+            return None;
         }
-        let Waiting { sim, .. } = self.waiting.remove(place);
+        Some(self.waiting.remove(place).sim)
+    }
+
+    /// What the peer at an address says at once; `None` where it waits at another one.
+    fn greeting(&self, address: &str) -> Result<Option<Vec<u8>>, AllocError> {
+        match &self.peer {
+            Some(peer) if peer.address.as_str() == address => {
+                Ok(Some(Vec::from_slice(self.alloc, peer.said_behind(0))?))
+            }
+            _ => Ok(None),
+        }
+    }
+
+    fn open(&mut self, sim: Option<Sim>, said: Vec<u8>, cut: Cut) {
         self.line = Some(Line {
             sim,
             stream: FrameReader::new(self.alloc),
-            said: Vec::new(self.alloc),
-            heard: 0,
+            said,
+            read: 0,
+            heard: String::new(self.alloc),
+            frames: 0,
             cut,
         });
-        true
+    }
+
+    /// Connects to the peer at an address, or else to devices there; whether something waits there.
+    pub(crate) fn connect(&mut self, address: &str, cut: Cut) -> Result<bool, AllocError> {
+        if let Some(said) = self.greeting(address)? {
+            self.open(None, said, cut);
+            return Ok(true);
+        }
+        let Some(sim) = self.take_devices(address) else {
+            return Ok(false);
+        };
+        self.open(Some(sim), Vec::new(self.alloc), cut);
+        Ok(true)
+    }
+
+    /// Ends the connection: the frames that the peer heard over it, if it was the peer's.
+    pub(crate) fn end(&mut self) -> Option<String> {
+        match self.line.take() {
+            Some(
+                Line {
+                    sim: None,
+                    heard,
+                    ..
+                },
+            ) => Some(heard),
+            _ => None,
+        }
+    }
+
+    /// The frames that the peer is to hear, and the line of its block.
+    pub(crate) fn wanted(&self) -> Option<(&str, usize)> {
+        match &self.peer {
+            Some(peer) => Some((peer.wanted.as_str(), peer.line)),
+            None => None,
+        }
     }
 
     fn hear(&mut self, bytes: &[u8]) -> io::Result<()> {
-        match &mut self.line {
-            Some(line) => line.hear(bytes),
-            None => Err(io::Error::from(ErrorKind::NotConnected)),
+        let Some(line) = &mut self.line else {
+            return Err(io::Error::from(ErrorKind::NotConnected));
+        };
+        let Ok(fed) = line.stream.feed(bytes) else {
+            return Err(memory());
+        };
+        for frame in &fed.frames {
+            if line.answer(self.alloc, &self.peer, frame).is_err() {
+                return Err(memory());
+            }
+        }
+        Ok(())
+    }
+
+    fn fails(&self) -> bool {
+        match &self.peer {
+            Some(peer) => peer.fails,
+            None => false,
         }
     }
 
     fn say(&mut self, room: &mut [u8]) -> io::Result<usize>
         ensures { IfOk result (λ count. count ≤ length room.old) }
     {
+        let fails = self.fails();
         match &mut self.line {
+            Some(line) if line.is_read() && line.sim.is_none() && fails => {
+                Err(io::Error::from(ErrorKind::ConnectionReset))
+            }
             Some(line) => Ok(line.say(room)),
             None => Err(io::Error::from(ErrorKind::NotConnected)),
         }
@@ -95,44 +172,49 @@ fn memory() -> io::Error {
 }
 
 impl Line {
-    /// Takes what comes, and says what the devices reply.
-    fn hear(&mut self, bytes: &[u8]) -> io::Result<()> {
-        let Ok(fed) = self.stream.feed(bytes) else {
-            return Err(memory());
-        };
-        for frame in &fed.frames {
-            self.reply(frame)?;
+    /// Takes a frame, and says what the devices or the peer reply.
+    fn answer(
+        &mut self,
+        alloc: Global,
+        peer: &Option<Script>,
+        frame: &Frame,
+    ) -> Result<(), AllocError> {
+        if let Some(sim) = &mut self.sim {
+            let Ok(replies) = sim.take(frame) else {
+                return Err(AllocError);
+            };
+            for reply in &replies {
+                self.said.extend_from_slice(reply.encode().as_bytes())?;
+            }
+            return Ok(());
+        }
+        self.frames = self.frames.saturating_add(1);
+        for byte in frame.encode().as_bytes() {
+            let digits = format!(in alloc; "{byte:02X} ")?;
+            self.heard.push_str(digits.as_str())?;
+        }
+        self.heard.push_str("\n")?;
+        if let Some(peer) = peer {
+            self.said.extend_from_slice(peer.said_behind(self.frames))?;
         }
         Ok(())
     }
 
-    fn reply(&mut self, frame: &Frame) -> io::Result<()> {
-        let Ok(replies) = self.sim.take(frame) else {
-            return Err(memory());
-        };
-        for reply in &replies {
-            if self
-                .said
-                .extend_from_slice(reply.encode().as_bytes())
-                .is_err()
-            {
-                return Err(memory());
-            }
-        }
-        Ok(())
+    fn is_read(&self) -> bool {
+        self.read >= self.said.len()
     }
 
     fn say(&mut self, room: &mut [u8]) -> usize
         ensures { result ≤ length room.old }
     {
-        let rest = self.said.get(self.heard..).unwrap_or(&[]);
+        let rest = self.said.get(self.read..).unwrap_or(&[]);
         let count = give(rest, self.cut, room);
-        self.heard = self.heard.saturating_add(count);
+        self.read = self.read.saturating_add(count);
         count
     }
 }
 
-/// The office's end of the connection that is open. A device that has nothing to say has ended.
+/// The office's end of the connection that is open. What has nothing more to say has ended.
 #[derive(Clone, Copy)]
 pub(crate) struct End<'a>(pub(crate) &'a RefCell<Devices>);
 

@@ -8,8 +8,9 @@ use mb_mbap::Counted;
 use office_commands::{Fault, Host, Stores, Task, work_in};
 use office_core::Office;
 use office_net::serve_one;
+use office_plays::refusing::Refusing;
 use point_list::Site;
-use poll_book::{Keeper, MemKeeper};
+use poll_book::{Keeper, StoreFault};
 use std::alloc::{AllocError, Global};
 use std::cell::RefCell;
 use std::fs;
@@ -19,7 +20,28 @@ use std::io::{self, ErrorKind};
 #[derive(Drop)]
 struct Store {
     name: String,
-    keeper: MemKeeper,
+    keeper: Refusing,
+}
+
+/// How a page is played.
+#[derive(Clone, Copy)]
+pub(crate) struct Play {
+    pub(crate) cut: Cut,
+    /// The call of a store that is refused, counted from 0 over the page.
+    pub(crate) refused: u32,
+}
+
+impl Play {
+    /// All comes whole, and nothing is refused.
+    pub(crate) const FIRST: Play = Play {
+        cut: Cut::Whole,
+        refused: u32::MAX,
+    };
+
+    /// Whether the page is played for the first time, which counts its cases.
+    pub(crate) fn is_first(self) -> bool {
+        self.cut == Cut::Whole && self.refused == u32::MAX
+    }
 }
 
 /// A page's world, of which nothing was written yet.
@@ -30,8 +52,10 @@ pub(crate) struct World<'a> {
     /// The folder of files that no block is, with a slash at its end.
     pub(crate) folder: String,
     pub(crate) devices: &'a RefCell<Devices>,
-    pub(crate) cut: Cut,
+    pub(crate) play: Play,
     stores: Vec<Store>,
+    /// How many calls of stores were made.
+    pub(crate) calls: u32,
     /// Standard input of the next command.
     pub(crate) input: Vec<u8>,
     /// The words behind the program's name for which rows are standard inputs, and the file in which such an input
@@ -60,7 +84,7 @@ impl<'a> World<'a> {
         page: &str,
         blocks: &'a [Block<'a>],
         devices: &'a RefCell<Devices>,
-        cut: Cut,
+        play: Play,
     ) -> Result<World<'a>, AllocError> {
         let alloc = rt.alloc();
         Ok(World {
@@ -68,8 +92,9 @@ impl<'a> World<'a> {
             blocks,
             folder: String::from_str(alloc, folder_of(page))?,
             devices,
-            cut,
+            play,
             stores: Vec::new(alloc),
+            calls: 0,
             input: Vec::new(alloc),
             words: String::new(alloc),
             frame: String::new(alloc),
@@ -97,15 +122,18 @@ impl<'a> World<'a> {
     }
 
     /// Takes the keeper of a store out of the world, a new one if there is none.
-    fn take_keeper(&mut self, name: &str) -> MemKeeper {
+    fn take_keeper(&mut self, name: &str) -> Refusing {
         let place = self.stores.iter().position(|it| it.name.as_str() == name);
-        match place {
+        let mut keeper = match place {
             Some(place) if place < self.stores.len() => self.stores.remove(place).keeper,
-            _ => MemKeeper::new(self.rt.alloc()),
-        }
+            _ => Refusing::new(self.rt.alloc(), self.play.refused, StoreFault::Disk),
+        };
+        keeper.calls = self.calls;
+        keeper
     }
 
-    fn put_keeper(&mut self, name: String, keeper: MemKeeper) -> Result<(), AllocError> {
+    fn put_keeper(&mut self, name: String, keeper: Refusing) -> Result<(), AllocError> {
+        self.calls = keeper.calls;
         match self.stores.push(Store { name, keeper }) {
             Ok(()) => Ok(()),
             Err(_) => Err(AllocError),
@@ -130,9 +158,9 @@ fn answered<K: Keeper>(
 
 fn office_over(
     alloc: Global,
-    keeper: MemKeeper,
+    keeper: Refusing,
     site: Site,
-) -> Result<Office<MemKeeper>, (Fault, MemKeeper)>
+) -> Result<Office<Refusing>, (Fault, Refusing)>
     requires { IsSound site }
 {
     match Office::new(alloc, keeper, site) {
@@ -144,10 +172,10 @@ fn office_over(
 /// Does a task over a keeper, and gives it back.
 fn worked(
     world: &mut World<'_>,
-    keeper: MemKeeper,
+    keeper: Refusing,
     site: Site,
     task: &Task<'_>,
-) -> (Result<(), Fault>, MemKeeper)
+) -> (Result<(), Fault>, Refusing)
     requires { IsSound site }
 {
     match office_over(world.rt.alloc(), keeper, site) {
@@ -172,7 +200,7 @@ impl<'a> Host for World<'a> {
 
     fn input(&mut self) -> Bytes {
         let none = Vec::new(self.rt.alloc());
-        Bytes::new(std::mem::replace(&mut self.input, none), self.cut)
+        Bytes::new(std::mem::replace(&mut self.input, none), self.play.cut)
     }
 
     fn print(&mut self, bytes: &[u8]) -> io::Result<()> {
@@ -195,16 +223,17 @@ impl<'a> Host for World<'a> {
         let Ok(mut devices) = self.devices.try_borrow_mut() else {
             return Err(Fault::Line);
         };
-        if devices.connect(address, self.cut) {
+        if devices.connect(address, self.play.cut)? {
             Ok((End(self.devices), End(self.devices)))
         } else {
             Err(Fault::Line)
         }
     }
 
-    /// Nobody connects to a page.
-    fn accept(&mut self, _port: u16) -> Result<(End<'a>, End<'a>), Fault> {
-        Err(Fault::Line)
+    /// The peer at this port connects at once.
+    fn accept(&mut self, port: u16) -> Result<(End<'a>, End<'a>), Fault> {
+        let address = format!(in self.rt.alloc(); "127.0.0.1:{port}")?;
+        self.connect(address.as_str(), 0)
     }
 
     /// Answers the request of the page.
@@ -217,7 +246,7 @@ impl<'a> Host for World<'a> {
     ) -> Result<(), Fault> {
         let alloc = self.rt.alloc();
         let request = std::mem::replace(&mut self.request, Vec::new(alloc));
-        let Some(answer) = answered(alloc, office, request, self.cut) else {
+        let Some(answer) = answered(alloc, office, request, self.play.cut) else {
             return Err(Fault::Line);
         };
         self.output.extend_from_slice(&answer)?;

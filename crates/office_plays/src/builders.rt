@@ -56,9 +56,9 @@ pub fn named(key: &str) -> Result<(Caller, Key), OfficeError> {
     }
 }
 
-fn list(alloc: Global, key: &str, header: &str, records: &str) -> Result<Event, OfficeError> {
+fn list(alloc: Global, key: &str, records: &str) -> Result<Event, OfficeError> {
     let (caller, key) = named(key)?;
-    let mut bytes = Vec::from_slice(alloc, header.as_bytes())?;
+    let mut bytes = Vec::from_slice(alloc, HEADER.as_bytes())?;
     bytes.extend_from_slice(records.as_bytes())?;
     Ok(Event::Load(caller, key, Items::from_vec(bytes)))
 }
@@ -83,8 +83,7 @@ pub fn frame(transaction: u16, unit_id: u8, bytes: &[u8]) -> Result<Frame, Offic
 
 pub fn event_of(alloc: Global, happens: &Happens) -> Result<Event, OfficeError> {
     match *happens {
-        Happens::List(key, bytes) => list(alloc, key, bytes, ""),
-        Happens::Load(key, records) => list(alloc, key, HEADER, records),
+        Happens::Load(key, records) => list(alloc, key, records),
         Happens::Order(key, point, value) => order(alloc, key, point, value),
         Happens::Send(conn, number) => Ok(Event::Send(Conn::new(conn), number)),
         Happens::Open(line) => Ok(Event::Open(text(alloc, line)?)),

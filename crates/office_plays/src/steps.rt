@@ -7,8 +7,6 @@ use std::alloc::Global;
 /// What happens to an office, as a constant can say it.
 #[derive(Drop)]
 pub enum Happens {
-    /// A list by its key and its bytes.
-    List(&'static str, &'static str),
     /// Records of a list, below its header, and before them its key.
     Load(&'static str, &'static str),
     /// A value for a point, under a key.

@@ -5,23 +5,9 @@
 #[cfg(test)]
 mod command_faults;
 #[cfg(test)]
-mod connections;
-#[cfg(test)]
-mod discoveries;
-#[cfg(test)]
-mod exchanges;
-#[cfg(test)]
-mod offices;
-#[cfg(test)]
-mod refusals;
-#[cfg(test)]
-mod report_faults;
-#[cfg(test)]
 mod reports;
 #[cfg(test)]
 mod request_faults;
-#[cfg(test)]
-mod round_faults;
 #[cfg(test)]
 mod rounds;
 #[cfg(test)]
@@ -34,9 +20,5 @@ mod socket_serving;
 mod sockets;
 #[cfg(test)]
 mod source_faults;
-#[cfg(test)]
-mod source_reads;
-#[cfg(test)]
-mod sources;
 #[cfg(test)]
 mod wires;

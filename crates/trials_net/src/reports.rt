@@ -1,40 +1,30 @@
-//! An office whose points have readings, and its reports.
+//! Reports that aren't written, or not to their end.
 use crate::wires::Outgoing;
 use mb_mbap::Counted;
 use office_core::{Office, OfficeError};
 use office_plays::builders::office_over;
+use office_plays::refusing::Refusing;
 use office_plays::steps::Happens::{self, Arrive, Ask, Load, Open};
 use office_plays::steps::take_happening;
 use office_report::{ReportFault, write_report};
-use poll_book::Keeper;
+use poll_book::{Keeper, MemKeeper, StoreFault};
 use std::alloc::{AllocError, Global};
+use std::test::Fail;
+use telling::{Trial, twice};
 
-/// A counter, and a gauge in tenths that is not implemented in the last slot.
+/// A counter, and a late reading of it.
 const HAPPENINGS: &[Happens] = &[
-    Load(
-        "l1",
-        "e,m1,holding,107,uint16,,,counter,\nt,m1,holding,108,int16,,-1,gauge,\n",
-    ),
+    Load("l1", "e,m1,holding,107,uint16,,,counter,\n"),
     Open("roof"),
-    Ask(1, "m1", 1, (3, 107, 2)),
+    Ask(1, "m1", 1, (3, 107, 1)),
     Ask(1, "m1", 3, (3, 107, 1)),
     Ask(1, "m1", 2, (3, 107, 1)),
-    Ask(1, "m1", u32::MAX, (3, 108, 1)),
-    Arrive(1, 0, 17, &[3, 4, 0xFD, 0xE8, 0xFF, 0xFB]),
+    Arrive(1, 0, 17, &[3, 2, 0xFD, 0xE8]),
     Arrive(1, 1, 17, &[3, 2, 0x01, 0xF4]),
     Arrive(1, 2, 17, &[3, 2, 0xFA, 0x00]),
-    Arrive(1, 3, 17, &[3, 2, 0x80, 0x00]),
 ];
 
-/// An office over a keeper, with both points and their readings.
-pub(crate) fn read_office<K: Keeper + Drop>(
-    alloc: Global,
-    keeper: K,
-) -> Result<Office<K>, OfficeError> {
-    let mut office = office_over(alloc, keeper)?;
-    happen_all(alloc, &mut office)?;
-    Ok(office)
-}
+const REPORT: &str = "point e\n         1  65000\n         2  64000\ntotal 66572\n";
 
 fn happen_all<K: Keeper>(alloc: Global, office: &mut Office<K>) -> Result<(), OfficeError> {
     for happens in HAPPENINGS {
@@ -43,25 +33,113 @@ fn happen_all<K: Keeper>(alloc: Global, office: &mut Office<K>) -> Result<(), Of
     Ok(())
 }
 
-/// What a report came to, and what was written of it.
-#[derive(Debug, PartialEq, Drop)]
-pub(crate) struct Reported {
-    pub(crate) ended: Result<bool, ReportFault>,
-    pub(crate) text: Vec<u8>,
+/// An office over a keeper, with its readings.
+fn read_office<K: Keeper + Drop>(alloc: Global, keeper: K) -> Result<Office<K>, OfficeError> {
+    let mut office = office_over(alloc, keeper)?;
+    happen_all(alloc, &mut office)?;
+    Ok(office)
 }
 
-/// The report of a point over the slots `from` to `to`, of whose writes the one behind `writes` others
-/// fails.
-pub(crate) fn run_report<K: Keeper>(
+/// What a report came to, and what was written of it.
+#[derive(Debug, PartialEq, Drop)]
+struct Reported {
+    ended: Result<bool, ReportFault>,
+    text: Vec<u8>,
+}
+
+/// The report of the first two slots, of whose writes the one behind `writes` others fails.
+fn report_of<K: Keeper>(
     alloc: Global,
     office: &mut Office<K>,
-    point: &str,
-    from: u32,
-    to: u32,
     writes: usize,
 ) -> Result<Reported, AllocError> {
     let mut writer = Counted::new(Outgoing::with_room(alloc, 100, 16, writes)?);
-    let ended = write_report(alloc, office, point, from, to.max(from), &mut writer);
+    let ended = write_report(alloc, office, "e", 1, 2, &mut writer);
     let text = writer.into_inner().sent;
     Ok(Reported { ended, text })
+}
+
+fn told(trial: &Trial<'_>, reported: &Reported, ended: Result<bool, ReportFault>, text: &str) {
+    trial.told(&text, &reported.ended, &ended);
+    trial.told(&text, &reported.text.as_slice(), &text.as_bytes());
+}
+
+fn writers_fail(trial: &Trial<'_>) -> Result<(), OfficeError> {
+    let alloc = trial.alloc();
+    let mut office = read_office(alloc, MemKeeper::new(alloc))?;
+    for writes in 0..4usize {
+        let reported = report_of(alloc, &mut office, writes)?;
+        let written = REPORT.get(..writes * 16).unwrap_or("");
+        told(trial, &reported, Err(ReportFault::Write), written);
+    }
+    Ok(())
+}
+
+/// How many calls of its keeper an office makes before its report.
+fn calls(alloc: Global) -> Result<u32, OfficeError> {
+    let keeper = Refusing::new(alloc, u32::MAX, StoreFault::Other);
+    Ok(read_office(alloc, keeper)?.into_keeper().calls)
+}
+
+/// Refuses the call of this number, which a report makes, and asks for the report again.
+fn is_refused(trial: &Trial<'_>, at: u32, fault: StoreFault) -> Result<(), OfficeError> {
+    let alloc = trial.alloc();
+    let mut office = read_office(alloc, Refusing::new(alloc, at, fault))?;
+    let refused = report_of(alloc, &mut office, 1000)?;
+    told(trial, &refused, Err(ReportFault::Store(fault)), "");
+    told(
+        trial,
+        &report_of(alloc, &mut office, 1000)?,
+        Ok(true),
+        REPORT,
+    );
+    Ok(())
+}
+
+fn stores_refuse(trial: &Trial<'_>) -> Result<(), OfficeError> {
+    let before = calls(trial.alloc())?;
+    for fault in [StoreFault::Full, StoreFault::Disk, StoreFault::Other] {
+        is_refused(trial, before, fault)?;
+        is_refused(trial, before.saturating_add(1), fault)?;
+    }
+    Ok(())
+}
+
+/// An office, and its report before memory that is refused to it.
+fn first_report(alloc: Global) -> Result<(Office<MemKeeper>, Reported), OfficeError> {
+    let mut office = read_office(alloc, MemKeeper::new(alloc))?;
+    let reported = report_of(alloc, &mut office, 1000)?;
+    Ok((office, reported))
+}
+
+/// Run under `rt try --test --fail-alloc N`, this one sees each allocation of a report refused.
+fn refused_memory(trial: &Trial<'_>) -> Result<(), OfficeError> {
+    let alloc = trial.alloc();
+    let (mut office, first) = match first_report(alloc) {
+        Ok(first) => first,
+        Err(_) => first_report(alloc)?,
+    };
+    if let Err(ReportFault::Memory | ReportFault::Store(StoreFault::Memory)) = first.ended {
+        trial.told(&"memory", &first.text.is_empty(), &true);
+    } else {
+        told(trial, &first, Ok(true), REPORT);
+    }
+    told(
+        trial,
+        &report_of(alloc, &mut office, 1000)?,
+        Ok(true),
+        REPORT,
+    );
+    Ok(())
+}
+
+fn all(trial: &Trial<'_>) -> Result<(), OfficeError> {
+    writers_fail(trial)?;
+    stores_refuse(trial)?;
+    refused_memory(trial)
+}
+
+#[test]
+fn reports_break_off(rt: HostRuntime) -> Result<(), Fail> {
+    Ok(twice!(rt, all)?)
 }

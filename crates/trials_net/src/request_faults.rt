@@ -1,7 +1,8 @@
-//! Readers and writers that fail at each call in turn.
-use crate::connections::{Connection, Ended, serve};
+//! Readers and writers of requests that fail at each call in turn.
+use crate::wires::{Incoming, Outgoing};
+use mb_mbap::Counted;
 use office_core::{Office, OfficeError};
-use office_net::{ServeFault, Served};
+use office_net::{ServeFault, Served, serve_one};
 use office_plays::builders::{MEMORY, office_over, shown};
 use office_plays::steps::Happens::Load;
 use office_plays::steps::{state, take_happening};
@@ -21,25 +22,26 @@ const ANSWER: &[u8] =
 /// Each read and each write takes so many bytes at most: six reads and nine writes.
 const MOST: usize = 15;
 
-/// How the order ends where so many reads and writes succeed.
+/// How the order ends where so many reads and writes succeed, and what its caller is sent.
 fn ordered(
     alloc: Global,
     office: &mut Office<MemKeeper>,
     reads: usize,
     writes: usize,
-) -> Result<Ended, OfficeError> {
-    let connection = Connection {
-        bytes: ORDER,
-        most: MOST,
+) -> Result<(Result<Served, ServeFault>, usize), OfficeError> {
+    let incoming = Incoming {
         reads,
-        writes,
+        ..Incoming::new(ORDER, MOST, false)
     };
-    let ended = serve(alloc, office, connection)?;
+    let mut reader = Counted::new(incoming);
+    let mut writer = Counted::new(Outgoing::with_room(alloc, 1000, MOST, writes)?);
+    let how = serve_one(alloc, office, &mut reader, &mut writer);
+    let sent = writer.into_inner().sent;
     // Another answer is told as an error: it can be of memory refused to the request.
-    if !ANSWER.starts_with(&ended.sent) {
+    if !ANSWER.starts_with(&sent) {
         return Err(MEMORY);
     }
-    Ok(ended)
+    Ok((how, sent.len()))
 }
 
 /// An office whose setting can be ordered.
@@ -50,58 +52,41 @@ fn office_of(alloc: Global) -> Result<Office<MemKeeper>, OfficeError> {
     Ok(office)
 }
 
-fn assert_unread(
-    trial: &Trial<'_>,
-    alloc: Global,
-    office: &mut Office<MemKeeper>,
-) -> Result<(), OfficeError> {
-    let before = shown(alloc, office)?;
+fn readers_fail(trial: &Trial<'_>, office: &mut Office<MemKeeper>) -> Result<(), OfficeError> {
+    let before = shown(trial.alloc(), office)?;
     for reads in 0..6 {
-        let ended = ordered(alloc, office, reads, usize::MAX)?;
-        trial.told(&reads, &ended.how, &Err(ServeFault::Read));
-        trial.told(&reads, &ended.sent.is_empty(), &true);
-        trial.told(&reads, &shown(alloc, office)?, &before);
+        let ended = ordered(trial.alloc(), office, reads, usize::MAX)?;
+        trial.told(&reads, &ended, &(Err(ServeFault::Read), 0));
+        trial.told(&reads, &shown(trial.alloc(), office)?, &before);
     }
     Ok(())
 }
 
-fn assert_reads(trial: &Trial<'_>, alloc: Global) -> Result<(), OfficeError> {
-    let mut office = office_of(alloc)?;
-    assert_unread(trial, alloc, &mut office)?;
-    // No more is read than the request.
-    assert_ended(trial, alloc, &mut office, 9, Ok(Served))
-}
-
-/// Asserts how the order ends where so many writes succeed, and that it is there then.
-fn assert_ended(
+/// Expects how the order ends where so many writes succeed, and that it is there then. No more is read than it.
+fn is_ended(
     trial: &Trial<'_>,
-    alloc: Global,
     office: &mut Office<MemKeeper>,
     writes: usize,
-    expected: Result<Served, ServeFault>,
+    how: Result<Served, ServeFault>,
 ) -> Result<(), OfficeError> {
-    let ended = ordered(alloc, office, 6, writes)?;
-    if state(office, 1)? != Some(OrderState::Waiting) {
-        return Err(OfficeError::NoOrder);
-    }
-    trial.told(&writes, &ended.how, &expected);
-    trial.told(
-        &writes,
-        &ended.sent.len(),
-        &ANSWER.len().min(writes.saturating_mul(MOST)),
-    );
+    let ended = ordered(trial.alloc(), office, 6, writes)?;
+    let sent = ANSWER.len().min(writes.saturating_mul(MOST));
+    trial.told(&writes, &ended, &(how, sent));
+    trial.told(&writes, &state(office, 1)?, &Some(OrderState::Waiting));
     Ok(())
 }
 
-fn assert_write(trial: &Trial<'_>, alloc: Global, writes: usize) -> Result<(), OfficeError> {
-    let mut office = office_of(alloc)?;
-    assert_ended(trial, alloc, &mut office, writes, Err(ServeFault::Write))
+fn a_writer_fails(trial: &Trial<'_>, writes: usize) -> Result<(), OfficeError> {
+    let mut office = office_of(trial.alloc())?;
+    is_ended(trial, &mut office, writes, Err(ServeFault::Write))
 }
 
 fn all(trial: &Trial<'_>) -> Result<(), OfficeError> {
-    assert_reads(trial, trial.alloc())?;
+    let mut office = office_of(trial.alloc())?;
+    readers_fail(trial, &mut office)?;
+    is_ended(trial, &mut office, 9, Ok(Served))?;
     for writes in 0..9 {
-        assert_write(trial, trial.alloc(), writes)?;
+        a_writer_fails(trial, writes)?;
     }
     Ok(())
 }

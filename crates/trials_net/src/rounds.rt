@@ -1,156 +1,118 @@
-//! Rounds over devices that answer: what they write, and what they come to.
-use crate::offices::{ONE, POINTS, TWO, office_of, order, run_round};
-use crate::wires::Incoming;
+//! Rounds that hear all in one piece, or noise without end, whose writes fail, or whose connection is closed.
+use crate::wires::{Incoming, Noise, Outgoing};
+use mb_mbap::Counted;
 use office_core::{Office, OfficeError};
-use office_net::{PollFault, Round};
-use poll_book::{MemKeeper, OrderState};
+use office_net::{PollFault, Round, poll_round};
+use office_plays::builders::office_over;
+use office_plays::steps::Happens::{self, Load, Order};
+use office_plays::steps::take_happening;
+use poll_book::MemKeeper;
+use poll_match::Conn;
 use std::alloc::Global;
 use std::test::Fail;
 use telling::{Trial, twice};
 
-/// Enough writes for each round.
-const WRITES: usize = 1000;
-
-fn came(asked: u64, recorded: u64, excepted: u64, refused: u64) -> Result<Round, PollFault> {
-    Ok(Round {
-        asked,
-        recorded,
-        excepted,
-        refused,
-    })
-}
-
-/// The order of the setting, and the reads of both points.
-const QUERIES: [u8; 36] = [
-    0, 0, 0, 0, 0, 6, 17, 6, 0, 40, 0, 80, 0, 1, 0, 0, 0, 6, 17, 3, 0, 40, 0, 1, 0, 2, 0, 0, 0, 6,
-    17, 3, 0, 107, 0, 1,
+/// A setting, which is ordered to be 80, and a counter.
+const HAPPENINGS: &[Happens] = &[
+    Load(
+        "l1",
+        "lim,m1,holding,40,uint16,,,setting,\ne,m1,holding,107,uint16,,,counter,\n",
+    ),
+    Order("k1", "lim", 80),
 ];
 
-const ECHO: [u8; 12] = [0, 0, 0, 0, 0, 6, 17, 6, 0, 40, 0, 80];
-
-const LIMIT: [u8; 11] = [0, 1, 0, 0, 0, 5, 17, 3, 2, 0, 80];
-
-const ENERGY: [u8; 11] = [0, 2, 0, 0, 0, 5, 17, 3, 2, 2, 0x2B];
-
-/// The device knows no such register.
-const EXCEPTION: [u8; 9] = [0, 2, 0, 0, 0, 3, 17, 0x83, 2];
-
-fn joined(alloc: Global, parts: &[&[u8]]) -> Result<Vec<u8>, OfficeError> {
-    let mut all = Vec::new(alloc);
-    for part in parts {
-        all.extend_from_slice(part)?;
+fn happen_all(alloc: Global, office: &mut Office<MemKeeper>) -> Result<(), OfficeError> {
+    for happens in HAPPENINGS {
+        let _ = take_happening(alloc, office, happens)?;
     }
-    Ok(all)
+    Ok(())
 }
 
-/// An office whose setting is ordered to be 80.
-fn ordered(alloc: Global) -> Result<Office<MemKeeper>, OfficeError> {
-    let mut office = office_of(alloc, ONE, POINTS)?;
-    order(&mut office, "k1", "lim", 80)?;
+fn office_of(alloc: Global) -> Result<Office<MemKeeper>, OfficeError> {
+    let mut office = office_over(alloc, MemKeeper::new(alloc))?;
+    happen_all(alloc, &mut office)?;
     Ok(office)
 }
 
-fn the_order_goes_first(trial: &Trial<'_>) -> Result<(), OfficeError> {
+/// How a round ends over these replies, of which a read gives 5,000 bytes at most, and of whose writes so many succeed.
+fn ended(
+    alloc: Global,
+    office: &mut Office<MemKeeper>,
+    conn: Conn,
+    replies: &[u8],
+    writes: usize,
+) -> Result<Round, PollFault> {
+    let mut reader = Counted::new(Incoming::new(replies, 5000, true));
+    let mut writer = Counted::new(Outgoing::new(alloc, writes));
+    poll_round(alloc, office, conn, 5, &mut reader, &mut writer)
+}
+
+/// An exception to the read of the counter, the setting's register, both once more, the order's reply, and the
+/// counter's register.
+const REPLIES: &[u8] = &[
+    0, 2, 0, 0, 0, 3, 17, 0x83, 2, 0, 1, 0, 0, 0, 5, 17, 3, 2, 0, 80, 0, 2, 0, 0, 0, 3, 17, 0x83,
+    2, 0, 1, 0, 0, 0, 5, 17, 3, 2, 0, 80, 0, 0, 0, 0, 0, 6, 17, 6, 0, 40, 0, 80, 0, 2, 0, 0, 0, 5,
+    17, 3, 2, 2, 0x2B,
+];
+
+/// All come in one piece, so the last is taken too, though the round is settled by then.
+fn one_piece_is_taken_whole(trial: &Trial<'_>) -> Result<(), OfficeError> {
     let alloc = trial.alloc();
-    let bytes = joined(alloc, &[&ECHO, &LIMIT, &ENERGY])?;
-    for most in [1, 2, 5, 12, 13, 5000] {
-        let mut office = ordered(alloc)?;
-        let replies = Incoming::new(bytes.as_slice(), most, true);
+    let mut office = office_of(alloc)?;
+    let conn = office.open_line("roof")?;
+    let round = Round {
+        asked: 3,
+        recorded: 1,
+        excepted: 1,
+        refused: 3,
+    };
+    let told = ended(alloc, &mut office, conn, REPLIES, 1000);
+    trial.told(&"one piece", &told, &Ok(round));
+    Ok(())
+}
+
+fn writers_fail(trial: &Trial<'_>) -> Result<(), OfficeError> {
+    let alloc = trial.alloc();
+    let mut office = office_of(alloc)?;
+    for writes in 0..3 {
         let conn = office.open_line("roof")?;
-        let first = run_round(alloc, &mut office, conn, 5, replies, WRITES);
-        trial.told(&most, &first.ended, &came(3, 2, 0, 0));
-        trial.told(&most, &first.sent.as_slice(), &QUERIES.as_slice());
-        trial.told(&most, &office.order_state(1)?, &Some(OrderState::Done));
-        let conn = office.open_line("roof")?;
-        let second = run_round(alloc, &mut office, conn, 5, replies, WRITES);
-        trial.told(&most, &second.ended, &came(0, 0, 0, 0));
-        trial.told(&most, &second.sent.is_empty(), &true);
+        let told = ended(alloc, &mut office, conn, &[], writes);
+        trial.told(&writes, &told, &Err(PollFault::Line));
     }
     Ok(())
 }
 
-fn replies_come_in_any_order(trial: &Trial<'_>) -> Result<(), OfficeError> {
+fn closed_connections_are_told(trial: &Trial<'_>) -> Result<(), OfficeError> {
     let alloc = trial.alloc();
-    let mut office = ordered(alloc)?;
-    let conn = office.open_line("roof")?;
-    let parts: [&[u8]; 6] = [&EXCEPTION, &LIMIT, &EXCEPTION, &LIMIT, &ECHO, &ENERGY];
-    let bytes = joined(alloc, &parts)?;
-    // All come in one piece, so the last is taken too, though the round is settled by then.
-    let replies = Incoming::new(bytes.as_slice(), 5000, true);
-    let first = run_round(alloc, &mut office, conn, 5, replies, WRITES);
-    trial.told(&"first", &first.ended, &came(3, 1, 1, 3));
-    // The point that lacks its reading is asked again; what answers an earlier query isn't awaited.
-    let again = [0, 3, 0, 0, 0, 5, 17, 3, 2, 0, 1];
-    let bytes = joined(alloc, &[&LIMIT, &again])?;
-    let replies = Incoming::new(bytes.as_slice(), 1, true);
-    let second = run_round(alloc, &mut office, conn, 5, replies, WRITES);
-    trial.told(&"second", &second.ended, &came(1, 1, 0, 1));
-    let query: [u8; 12] = [0, 3, 0, 0, 0, 6, 17, 3, 0, 107, 0, 1];
-    trial.told(&"second", &second.sent.as_slice(), &query.as_slice());
+    let mut office = office_of(alloc)?;
+    let never = ended(alloc, &mut office, Conn::new(7), &[], 1000);
+    trial.told(&"never opened", &never, &Err(PollFault::Closed));
+    let former = office.open_line("roof")?;
+    let _ = office.open_line("roof")?;
+    let closed = ended(alloc, &mut office, former, &[], 1000);
+    trial.told(&"closed", &closed, &Err(PollFault::Closed));
     Ok(())
 }
 
-fn devices_come_in_the_order_of_the_site(trial: &Trial<'_>) -> Result<(), OfficeError> {
+fn noise_ends_a_round(trial: &Trial<'_>) -> Result<(), OfficeError> {
     let alloc = trial.alloc();
-    let points =
-        "a,m1,holding,1,uint16,,,gauge,\nb,m2,input,2,uint16,,,gauge,\nc,m3,holding,3,uint16,,,gauge,\n";
-    let mut office = office_of(alloc, TWO, points)?;
+    let mut office = office_of(alloc)?;
     let conn = office.open_line("roof")?;
-    let replies = Incoming::new(&[], 1, false);
-    let round = run_round(alloc, &mut office, conn, 1, replies, WRITES);
-    let queries: [u8; 24] = [
-        0, 0, 0, 0, 0, 6, 18, 4, 0, 2, 0, 1, 0, 1, 0, 0, 0, 6, 17, 3, 0, 1, 0, 1,
-    ];
-    trial.told(&"sent", &round.sent.as_slice(), &queries.as_slice());
-    trial.told(&"ended", &round.ended, &Err(PollFault::Line));
-    Ok(())
-}
-
-/// Twenty points far from each other.
-fn apart(alloc: Global) -> Result<String, OfficeError> {
-    let mut records = String::new(alloc);
-    for place in 0..20u32 {
-        let address = place * 1000;
-        let record = format!(in alloc; "p{place},m1,holding,{address},uint16,,,gauge,\n")?;
-        records.push_str(record.as_str())?;
-    }
-    Ok(records)
-}
-
-/// How many queries a round writes that gets so many replies.
-fn written_for(alloc: Global, count: u8) -> Result<usize, OfficeError> {
-    let records = apart(alloc)?;
-    let mut office = office_of(alloc, ONE, records.as_str())?;
-    let conn = office.open_line("roof")?;
-    let mut bytes = Vec::new(alloc);
-    for place in 0..count {
-        bytes.extend_from_slice(&[0, place, 0, 0, 0, 5, 17, 3, 2, 0, 7])?;
-    }
-    let replies = Incoming::new(bytes.as_slice(), 5000, false);
-    Ok(
-        run_round(alloc, &mut office, conn, 1, replies, WRITES)
-            .sent
-            .len()
-            / 12,
-    )
-}
-
-fn sixteen_wait_at_most(trial: &Trial<'_>) -> Result<(), OfficeError> {
-    for (replies, queries) in [(0, 16), (1, 17), (3, 19), (4, 20), (9, 20)] {
-        let written = written_for(trial.alloc(), replies)?;
-        trial.told(&replies, &written, &queries);
-    }
+    let mut reader = Counted::new(Noise);
+    let mut writer = Counted::new(Vec::new(alloc));
+    let ended = poll_round(alloc, &mut office, conn, 5, &mut reader, &mut writer);
+    trial.told(&"noise", &ended, &Err(PollFault::Noise));
     Ok(())
 }
 
 fn all(trial: &Trial<'_>) -> Result<(), OfficeError> {
-    the_order_goes_first(trial)?;
-    replies_come_in_any_order(trial)?;
-    devices_come_in_the_order_of_the_site(trial)?;
-    sixteen_wait_at_most(trial)
+    one_piece_is_taken_whole(trial)?;
+    writers_fail(trial)?;
+    closed_connections_are_told(trial)?;
+    noise_ends_a_round(trial)
 }
 
 #[test]
-fn rounds_ask_and_count(rt: HostRuntime) -> Result<(), Fail> {
+fn rounds_break_off(rt: HostRuntime) -> Result<(), Fail> {
     Ok(twice!(rt, all)?)
 }

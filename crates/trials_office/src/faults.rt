@@ -1,5 +1,4 @@
 //! A keeper that refuses, each call in turn, by each fault; and an office begun anew over a keeper.
-use crate::scripts::{OTHERS, THREE};
 use office_core::{Event, EventAnswer, Office, OfficeError};
 use office_plays::builders::{BARE, MEMORY, TWO, begun, events_of, office_over, shown};
 use office_plays::refusing::Refusing;
@@ -15,7 +14,12 @@ use telling::{Trial, twice};
 
 const PAIR: &str = "a,m1,holding,107,uint16,,,gauge,\ne,m1,holding,108,uint16,,,counter,\n";
 
-const HAPPENINGS: &[Happens] = &[
+/// Three registers: 555, 0, 100.
+const THREE: &[u8] = &[3, 6, 0x02, 0x2B, 0, 0, 0, 0x64];
+
+const OTHERS: &[u8] = &[3, 6, 0, 1, 0, 2, 0, 3];
+
+pub(crate) const HAPPENINGS: &[Happens] = &[
     Load("l1", PAIR),
     Open("roof"),
     Ask(1, "m1", 5, (3, 107, 3)),
@@ -225,8 +229,13 @@ fn is_begun(trial: &Trial<'_>, office: &mut Office<MemKeeper>) -> Result<(), Off
     let late = take_happening(trial.alloc(), office, &Arrive(2, 0, 17, THREE))?;
     let refused = EventAnswer::Refused(OfficeError::NoConnection);
     trial.told(&"late", &late, &refused);
+    let unnamed = EventAnswer::Refused(OfficeError::WrongLine);
+    let line = take_happening(trial.alloc(), office, &Open(""))?;
+    trial.told(&"no line", &line, &unnamed);
     trial.told(&"order", &state(office, 1)?, &Some(OrderState::Done));
     trial.told(&"number", &opened(office, "roof")?, &3);
+    let device = take_happening(trial.alloc(), office, &Ask(3, "", 1, (3, 107, 3)))?;
+    trial.told(&"no device", &device, &unnamed);
     Ok(())
 }
 

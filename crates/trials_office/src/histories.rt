@@ -2,15 +2,14 @@
 use crate::draws::{Chance, SLOTS, draw};
 use crate::events::event_of;
 use crate::model::{Book, Given, Placed, Row, total};
-use crate::scripted::refusals;
 use office_core::{Arrival, EventAnswer, Office, OfficeError};
 use office_plays::builders::office_over;
 use office_plays::steps::{rows, state, take, total as total_of};
-use office_plays::stores::stored;
 use office_plays::tables::text_of;
 use point_list::Role;
 use poll_book::{Keeper, MemKeeper, PointRow, ReadingRow};
 use std::test::Fail;
+use store_plays::stored;
 use telling::{Trial, twice};
 
 const HISTORIES: u64 = 150;
@@ -138,6 +137,11 @@ fn go<K: Keeper>(
         }
     }
     Ok(())
+}
+
+/// How many calls a keeper refused.
+fn refusals<K: Keeper>(keeper: &K) -> u64 {
+    keeper.refusals()
 }
 
 /// The same of an office over an empty keeper, which refuses nothing and whose tables are given as text.

@@ -1,10 +1,8 @@
-//! Tests of an office over a keeper in memory and one over a database: what it keeps, answers and refuses, step by
-//! step; memory that is refused, and a keeper that refuses; generated histories beside a slow model, which works
-//! out each answer and each table anew from all that happened.
+//! Tests of an office that data can't say: memory that is refused, a keeper that refuses, and generated histories
+//! beside a slow model, which works out each answer and each table anew from all that happened, over a keeper in
+//! memory and over a database.
 #![tactic(auto)]
 
-#[cfg(test)]
-mod calls;
 #[cfg(test)]
 mod draws;
 #[cfg(test)]
@@ -17,11 +15,3 @@ mod histories;
 mod memory;
 #[cfg(test)]
 mod model;
-#[cfg(test)]
-mod orders;
-#[cfg(test)]
-mod scripted;
-#[cfg(test)]
-mod scripts;
-#[cfg(test)]
-mod totals;

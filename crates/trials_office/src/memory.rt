@@ -1,48 +1,13 @@
 //! Memory that is refused to a call is told, changes nothing, and the call succeeds once more.
-use crate::scripted::Told::{
-    self, Loaded, Opened, Ordered, OrderedBefore, Recorded, Sent, Settled, Wrote,
-};
-use crate::scripted::expected;
-use crate::scripts::{GAUGES, THREE};
+use crate::faults::HAPPENINGS;
 use office_core::{Event, EventAnswer, Office, OfficeError};
-use office_plays::builders::{MEMORY, event_of, office_over, shown};
-use office_plays::steps::Happens::{self, Arrive, Ask, Load, Open, Order, Send};
-use office_plays::steps::{answered, is_refused, push};
-use office_plays::stores::stored;
+use office_plays::builders::{MEMORY, events_of, office_over, shown};
+use office_plays::steps::{answered, is_refused, take};
 use poll_book::{Keeper, MemKeeper, StoreFault};
 use std::alloc::{AllocError, Global};
 use std::test::Fail;
+use store_plays::stored;
 use telling::{Trial, twice};
-
-const ROUNDS: &[(Happens, Told)] = &[
-    (Load("l1", GAUGES), Loaded(3)),
-    (Open("roof"), Opened(1)),
-    (Ask(1, "m1", 0, (3, 107, 3)), Sent(0)),
-    (Arrive(1, 0, 17, THREE), Recorded(3)),
-    (Ask(1, "m1", 1, (3, 107, 3)), Sent(1)),
-    (Arrive(1, 1, 17, THREE), Recorded(3)),
-    (Ask(1, "m1", 2, (3, 107, 3)), Sent(2)),
-    (Arrive(1, 2, 17, THREE), Recorded(3)),
-    (Ask(1, "m1", 3, (3, 107, 3)), Sent(3)),
-    (Arrive(1, 3, 17, THREE), Recorded(3)),
-    (Ask(1, "m1", 4, (3, 107, 3)), Sent(4)),
-    (Arrive(1, 4, 17, THREE), Recorded(3)),
-    (Ask(1, "m1", 5, (3, 107, 3)), Sent(5)),
-    (Arrive(1, 5, 17, THREE), Recorded(3)),
-    (
-        Load("l2", "d,m1,holding,110,uint16,,,counter,\n"),
-        Loaded(1),
-    ),
-    (Open("roof"), Opened(2)),
-    (
-        Load("l3", "lim,m1,holding,40,uint16,,,setting,\n"),
-        Loaded(1),
-    ),
-    (Order("k1", "lim", 80), Ordered(1)),
-    (Order("k1", "lim", 80), OrderedBefore(1)),
-    (Send(2, 1), Wrote(0, &[6, 0, 40, 0, 80])),
-    (Arrive(2, 0, 17, &[6, 0, 40, 0, 80]), Settled),
-];
 
 /// What is answered to an event, once more where memory was refused to it and nothing changed.
 fn taken<K: Keeper>(
@@ -59,19 +24,28 @@ fn taken<K: Keeper>(
     Ok(answered(office, event))
 }
 
-fn take_all<K: Keeper>(trial: &Trial<'_>, office: &mut Office<K>) -> Result<(), OfficeError> {
-    for (place, (happens, told)) in ROUNDS.iter().enumerate() {
-        let event = event_of(trial.alloc(), happens)?;
-        let answer = taken(trial, office, &event)?;
-        trial.told(&place, &answer, &expected(happens, told)?);
+/// Expects the answers of an office that is refused nothing.
+fn take_all<K: Keeper>(
+    trial: &Trial<'_>,
+    office: &mut Office<K>,
+    twin: &mut Office<MemKeeper>,
+) -> Result<(), OfficeError> {
+    for event in &events_of(trial.alloc(), HAPPENINGS)? {
+        let expected = take(twin, event)?;
+        trial.told(&"event", &taken(trial, office, event)?, &expected);
     }
     Ok(())
 }
 
+fn twin(alloc: Global) -> Result<Office<MemKeeper>, OfficeError> {
+    office_over(alloc, MemKeeper::new(alloc))
+}
+
 fn refused_calls(trial: &Trial<'_>) -> Result<(), OfficeError> {
     let alloc = trial.alloc();
-    take_all(trial, &mut office_over(alloc, MemKeeper::new(alloc))?)?;
-    take_all(trial, &mut office_over(alloc, stored(alloc)?)?)
+    take_all(trial, &mut twin(alloc)?, &mut twin(alloc)?)?;
+    let mut office = office_over(alloc, stored(alloc)?)?;
+    take_all(trial, &mut office, &mut twin(alloc)?)
 }
 
 /// Run under `rt try --test --fail-alloc N`, this one sees each allocation of a call refused.
@@ -99,29 +73,27 @@ fn answers(
 }
 
 /// Expects the answers of a run, of which one may be that memory was refused.
-fn are_answers(trial: &Trial<'_>, answers: &[EventAnswer]) -> Result<(), OfficeError> {
-    trial.told(&"answers", &answers.len(), &ROUNDS.len());
-    for (answer, (happens, told)) in answers.iter().zip(ROUNDS) {
+fn are_answers(
+    trial: &Trial<'_>,
+    answers: &[EventAnswer],
+    events: &[Event],
+    twin: &mut Office<MemKeeper>,
+) -> Result<(), OfficeError> {
+    trial.told(&"answers", &answers.len(), &events.len());
+    for (answer, event) in answers.iter().zip(events) {
         if is_refused(answer, StoreFault::Memory) {
             return Err(MEMORY);
         }
-        trial.told(&"answer", answer, &expected(happens, told)?);
+        trial.told(&"answer", answer, &take(twin, event)?);
     }
     Ok(())
 }
 
-fn events(alloc: Global) -> Result<Vec<Event>, OfficeError> {
-    let mut events = Vec::with_capacity(alloc, ROUNDS.len())?;
-    for (happens, _) in ROUNDS {
-        push(&mut events, event_of(alloc, happens)?)?;
-    }
-    Ok(events)
-}
-
 fn refused_run(trial: &Trial<'_>) -> Result<(), OfficeError> {
     let alloc = trial.alloc();
-    let mut office = office_over(alloc, MemKeeper::new(alloc))?;
-    are_answers(trial, &answers(trial, &mut office, &events(alloc)?)?)
+    let events = events_of(alloc, HAPPENINGS)?;
+    let answers = answers(trial, &mut twin(alloc)?, &events)?;
+    are_answers(trial, &answers, &events, &mut twin(alloc)?)
 }
 
 #[test]

@@ -4,7 +4,7 @@ ghost use Rattle.sqlite_disk.specs.Memory.{memory_is_usable};
 
 use office_core::{Office, OfficeError};
 use office_plays::builders::{MEMORY, TWO, begun};
-use office_plays::stores::{made, opened, refusal};
+use store_plays::{made, opened, refusal};
 use office_store::SqlKeeper;
 use poll_book::StoreFault;
 use sqlite::{Connection, Error, ErrorCode, FileStore, Files, Options};

@@ -4,7 +4,7 @@ use crate::files::{connected, files_of};
 use crate::stops::{KEYS, OPTIONS, Run, Stopped, calls_of, expected, reopened, take_all};
 use office_core::OfficeError;
 use office_plays::builders::{MEMORY, office_over};
-use office_plays::stores::{begin, made};
+use store_plays::{begin, made};
 use office_plays::tables::text_of;
 use office_store::{SqlKeeper, StoreError};
 use poll_book::{Keeper, StoreFault};

@@ -3,7 +3,7 @@ use office_core::{EventAnswer, Office, OfficeError, RequestAnswer};
 use office_plays::builders::{BARE, MEMORY, TWO, begun, event_of, office_over};
 use office_plays::steps::Happens::{self, Load};
 use office_plays::steps::{opened as opened_line, take};
-use office_plays::stores::{empty, made, opened, stored};
+use store_plays::{empty, made, opened, stored};
 use office_plays::tables::text_of;
 use office_store::{SqlKeeper, StoreError};
 use point_list::ListFault::UnknownDevice;

@@ -5,7 +5,7 @@ use office_core::{Event, EventAnswer, Office, OfficeError};
 use office_plays::builders::{MEMORY, events_of, office_over};
 use office_plays::steps::Happens::{self, Arrive, Ask, Load, Open, Order, Restart, Send};
 use office_plays::steps::{answered, is_refused, opened, push, take};
-use office_plays::stores::opened as opened_tables;
+use store_plays::opened as opened_tables;
 use office_plays::tables::text_of;
 use poll_book::{Keeper, MemKeeper, StoreFault};
 use poll_match::Conn;

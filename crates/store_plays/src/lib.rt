@@ -1,6 +1,8 @@
-//! Keepers over databases.
-use crate::builders::MEMORY;
+//! Keepers over databases, for tests of offices.
+#![tactic(auto)]
+
 use office_core::OfficeError;
+use office_plays::builders::MEMORY;
 use office_store::{SqlKeeper, StoreError, create};
 use poll_book::StoreFault;
 use sqlite::{Alter, Connection, MemStore};
