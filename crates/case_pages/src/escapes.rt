@@ -10,6 +10,13 @@ enum Escape {
     Times(u32),
 }
 
+/// The byte of two hexadecimal digits.
+fn byte_of(digits: &str) -> Option<u8> {
+    let mut byte = [0];
+    hex::decode_to_slice(digits, &mut byte).ok()?;
+    Some(byte[0])
+}
+
 /// The escape that the part behind a `\` begins with, and what follows it.
 fn escape_of(part: &str) -> Option<(Escape, &str)> {
     if let Some(rest) = part.strip_prefix('n') {
@@ -26,7 +33,7 @@ fn escape_of(part: &str) -> Option<(Escape, &str)> {
         return Some((Escape::Times(times.parse::<u32>().ok()?), rest));
     }
     let (digits, rest) = part.strip_prefix('x')?.split_at_checked(2)?;
-    Some((Escape::Byte(u8::from_str_radix(digits, 16).ok()?), rest))
+    Some((Escape::Byte(byte_of(digits)?), rest))
 }
 
 fn push_escape(bytes: &mut Vec<u8>, escape: Escape) -> Result<(), Trouble> {
@@ -74,7 +81,7 @@ fn times_of(word: &str) -> Option<(u8, u16)> {
         Some((digits, times)) => (digits, times.parse::<u16>().ok()?),
         None => (word, 1),
     };
-    Some((u8::from_str_radix(digits, 16).ok()?, times))
+    Some((byte_of(digits)?, times))
 }
 
 fn push_times(bytes: &mut Vec<u8>, byte: u8, times: u16) -> Result<(), Trouble> {

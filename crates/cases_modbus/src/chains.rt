@@ -1,14 +1,11 @@
 //! Chains of models, and model 1, in devices that are written as stretches of registers:
-//! `40000: SunS 1 66; 40070: end`.
-use crate::registers::{push_times, times_of};
+//! `40000: SunS 1 66; 40070: 65535`.
+use crate::texts::{refusal, shown};
 use crate::values::value_text;
 use case_pages::Trouble;
 use mb_pdu::Registers;
 use std::alloc::{AllocError, Global};
 use sunspec::{Chain, Common, Model, RegisterSource, SourceFault, SunError, common, discover};
-
-/// `SunS`, which stands before a chain.
-const MARKER: [u16; 2] = [0x5375, 0x6E53];
 
 /// Of more models than these only the number is shown.
 const SHOWN: usize = 8;
@@ -17,6 +14,9 @@ const SHOWN: usize = 8;
 #[derive(Drop)]
 struct Device {
     cells: Vec<(u16, u16)>,
+    /// The number of the read that fails, from 1 on.
+    failing: u64,
+    failures: u64,
     reads: u64,
     /// The address behind the last read.
     next: u32,
@@ -30,7 +30,7 @@ impl RegisterSource for Device {
     // What is read of it is nothing that a contract speaks of.
     ghost image = { λ _. None };
 
-    ghost failed = { λ _. 0 };
+    ghost failed = { λ device. device.failures };
 
     fn read(&mut self, start: u16, quantity: u16) -> Result<Option<Registers>, SourceFault> {
         self.reads = self.reads.saturating_add(1);
@@ -38,11 +38,15 @@ impl RegisterSource for Device {
             self.returns = self.returns.saturating_add(1);
         }
         self.next = u32::from(start) + u32::from(quantity);
+        if self.reads == self.failing {
+            self.failures = self.failures.saturating_add(1);
+            return Err(SourceFault);
+        }
         Ok(registers_in(self.cells.as_slice(), start, quantity))
     }
 
     fn failures(&self) -> u64 {
-        0
+        self.failures
     }
 }
 
@@ -68,32 +72,22 @@ fn register(cells: &[(u16, u16)], address: u16) -> Option<u16> {
         .map(|cell| cell.1)
 }
 
-/// The register of a word: `end`, hexadecimal digits behind an `x`, or a decimal number.
-fn register_of(word: &str) -> Option<u16> {
-    if word == "end" {
-        return Some(0xFFFF);
-    }
-    match word.strip_prefix('x') {
-        Some(digits) => u16::from_str_radix(digits, 16).ok(),
-        None => word.parse::<u16>().ok(),
-    }
-}
-
-fn push_word(words: &mut Vec<u16>, word: &str) -> Result<(), Trouble> {
-    if word == "SunS" {
-        words.extend_from_slice(&MARKER)?;
+/// The registers of a word: a number, also so many times, or a text of two bytes in each.
+fn push_word(words: &mut Vec<u16>, word: &str) -> Result<(), AllocError> {
+    let (number, times) = word.split_once('*').unwrap_or((word, "1"));
+    let (Ok(number), Ok(times)) = (number.parse::<u16>(), times.parse::<u16>()) else {
+        for pair in word.as_bytes().chunks_exact(2) {
+            words.push(u16::from_be_bytes([pair[0], pair[1]]))?;
+        }
         return Ok(());
+    };
+    for _ in 0..times {
+        words.push(number)?;
     }
-    let Some((word, times)) = times_of(word) else {
-        return Err(Trouble::Page("no registers"));
-    };
-    let Some(register) = register_of(word) else {
-        return Err(Trouble::Page("no register"));
-    };
-    Ok(push_times(words, register, times)?)
+    Ok(())
 }
 
-fn words_of(alloc: Global, text: &str) -> Result<Vec<u16>, Trouble> {
+fn words_of(alloc: Global, text: &str) -> Result<Vec<u16>, AllocError> {
     let mut words = Vec::new(alloc);
     for word in text.split(' ') {
         push_word(&mut words, word)?;
@@ -101,134 +95,133 @@ fn words_of(alloc: Global, text: &str) -> Result<Vec<u16>, Trouble> {
     Ok(words)
 }
 
-fn address_of(stretch: &str) -> Option<(u16, &str)> {
-    let (address, words) = stretch.split_once(": ")?;
-    Some((address.parse::<u16>().ok()?, words))
-}
-
-fn push_stretch(cells: &mut Vec<(u16, u16)>, first: u16, words: &[u16]) -> Result<(), AllocError> {
-    for (place, word) in (0u16..).zip(words.iter()) {
-        cells.push((first.wrapping_add(place), *word))?;
+impl Device {
+    /// A stretch is an address with the registers from it on, or the number of the read that fails.
+    fn new(alloc: Global, input: &str) -> Result<Device, Trouble> {
+        let mut device = Device {
+            cells: Vec::new(alloc),
+            failing: 0,
+            failures: 0,
+            reads: 0,
+            next: 0,
+            returns: 0,
+        };
+        for stretch in input.split("; ") {
+            device.push(alloc, stretch)?;
+        }
+        Ok(device)
     }
-    Ok(())
-}
 
-fn cells_of(alloc: Global, input: &str) -> Result<Vec<(u16, u16)>, Trouble> {
-    let mut cells = Vec::new(alloc);
-    if input == "no registers" {
-        return Ok(cells);
-    }
-    for stretch in input.split("; ") {
-        let Some((first, words)) = address_of(stretch) else {
+    fn push(&mut self, alloc: Global, stretch: &str) -> Result<(), Trouble> {
+        let (place, words) = stretch.split_once(": ").unwrap_or((stretch, ""));
+        if let Some(failing) = place.strip_prefix("fails ") {
+            self.failing = failing.parse::<u64>().unwrap_or(0);
+            return Ok(());
+        }
+        let Ok(first) = place.parse::<u16>() else {
             return Err(Trouble::Page("no stretch of registers"));
         };
-        push_stretch(&mut cells, first, &words_of(alloc, words)?)?;
+        for (place, word) in (0u16..).zip(words_of(alloc, words)?.iter()) {
+            self.cells
+                .push((first.wrapping_add(place), *word))
+                .map_err(AllocError::from)?;
+        }
+        Ok(())
     }
-    Ok(cells)
-}
 
-fn device_of(alloc: Global, input: &str) -> Result<Device, Trouble> {
-    Ok(Device {
-        cells: cells_of(alloc, input)?,
-        reads: 0,
-        next: 0,
-        returns: 0,
-    })
-}
-
-/// How many reads there were, and how many of them began before the end of the one before.
-fn reads_text(alloc: Global, device: &Device) -> Result<String, AllocError> {
-    let Device { reads, returns, .. } = device;
-    if *returns == 0 {
-        format!(in alloc; "reads {reads}")
-    } else {
-        format!(in alloc; "reads {reads}, back {returns}")
+    /// What came of it, how many reads there were, how many of them began before the end of the one before, and how
+    /// many failed.
+    fn read_for(&self, alloc: Global, text: &str) -> Result<String, Trouble> {
+        let Device {
+            reads,
+            returns,
+            failures,
+            ..
+        } = self;
+        Ok(format!(in alloc; "{text}; reads {reads}, back {returns}, failed {failures}")?)
     }
-}
-
-fn models_text(alloc: Global, models: &[Model]) -> Result<String, AllocError> {
-    let mut text = String::new(alloc);
-    for Model {
-        id,
-        address,
-        length,
-    } in models {
-        write!(text, ", {id} at {address} of {length}")?;
-    }
-    Ok(text)
-}
-
-fn chain_text(alloc: Global, chain: &Chain) -> Result<String, AllocError> {
-    let (base, end, count) = (chain.base, chain.end, chain.models.len());
-    if count > SHOWN {
-        return format!(in alloc; "base {base}, {count} models, end {end}");
-    }
-    let models = models_text(alloc, &chain.models)?;
-    format!(in alloc; "base {base}{models}, end {end}")
 }
 
 fn found(alloc: Global, device: &mut Device) -> Result<Chain, SunError> {
     discover(alloc, device)
 }
 
-fn refusal(alloc: Global, error: SunError) -> Result<String, Trouble> {
-    match error {
-        SunError::Memory => Err(Trouble::Memory),
-        error => Ok(error.to_string(alloc)?),
-    }
-}
-
-/// The chain of a device and the reads that found it, or why there is none.
-pub(crate) fn chain(alloc: Global, input: &str) -> Result<String, Trouble> {
-    let mut device = device_of(alloc, input)?;
-    match found(alloc, &mut device) {
-        Ok(chain) => {
-            let chain = chain_text(alloc, &chain)?;
-            let reads = reads_text(alloc, &device)?;
-            Ok(format!(in alloc; "{chain}; {reads}")?)
-        }
-        Err(error) => refusal(alloc, error),
-    }
-}
-
-fn common_text(alloc: Global, values: &Common) -> Result<String, Trouble> {
-    let (mn, md) = (
-        value_text(alloc, &values.mn)?,
-        value_text(alloc, &values.md)?,
-    );
-    let (opt, vr) = (
-        value_text(alloc, &values.opt)?,
-        value_text(alloc, &values.vr)?,
-    );
-    let (sn, da) = (
-        value_text(alloc, &values.sn)?,
-        value_text(alloc, &values.da)?,
-    );
-    Ok(format!(in alloc; "Mn {mn}, Md {md}, Opt {opt}, Vr {vr}, SN {sn}, DA {da}")?)
-}
-
 fn said(device: &mut Device, chain: &Chain) -> Result<Option<Common>, SunError> {
     common(device, chain)
 }
 
-fn said_text(alloc: Global, said: Result<Option<Common>, SunError>) -> Result<String, Trouble> {
-    match said {
-        Ok(Some(values)) => common_text(alloc, &values),
-        Ok(None) => Ok(String::from_str(alloc, "no model 1")?),
-        Err(error) => refusal(alloc, error),
+fn chain_text(alloc: Global, chain: &Chain) -> Result<String, AllocError> {
+    let (base, end, count) = (chain.base, chain.end, chain.models.len());
+    if count > SHOWN {
+        return format!(in alloc; "{count} models, base {base}, end {end}");
     }
+    shown(alloc, chain)
 }
 
-/// What model 1 of a device's chain says, and the reads once its chain is known.
-pub(crate) fn common_model(alloc: Global, input: &str) -> Result<String, Trouble> {
-    let mut device = device_of(alloc, input)?;
-    let chain = match found(alloc, &mut device) {
-        Ok(chain) => chain,
-        Err(error) => return refusal(alloc, error),
+/// The chain of a device and the reads that found it, or why there is none.
+pub(crate) fn chain(alloc: Global, input: &str) -> Result<String, Trouble> {
+    let mut device = Device::new(alloc, input)?;
+    let text = match found(alloc, &mut device) {
+        Ok(chain) => chain_text(alloc, &chain)?,
+        Err(error) => refusal(alloc, &error)?,
     };
-    let mut device = device_of(alloc, input)?;
-    let said = said(&mut device, &chain);
-    let text = said_text(alloc, said)?;
-    let reads = reads_text(alloc, &device)?;
-    Ok(format!(in alloc; "{text}; {reads}")?)
+    device.read_for(alloc, text.as_str())
+}
+
+fn common_text(alloc: Global, values: &Common) -> Result<String, AllocError> {
+    let Common {
+        mn,
+        md,
+        opt,
+        vr,
+        sn,
+        da,
+    } = values;
+    let mut text = String::new(alloc);
+    for (name, value) in [
+        ("Mn ", mn),
+        (", Md ", md),
+        (", Opt ", opt),
+        (", Vr ", vr),
+        (", SN ", sn),
+        (", DA ", da),
+    ] {
+        text.push_str(name)?;
+        text.push_str(value_text(alloc, value)?.as_str())?;
+    }
+    Ok(text)
+}
+
+/// Model 1 at an address with a length.
+fn model_of(text: &str) -> Option<Model> {
+    let (address, length) = text.split_once(' ')?;
+    Some(Model {
+        id: 1,
+        address: address.parse::<u16>().ok()?,
+        length: length.parse::<u16>().ok()?,
+    })
+}
+
+/// What model 1 of a device's chain says, and the reads once its chain is known. `ADDRESS LENGTH / ` before a device
+/// stands for a chain of such a model 1 alone, also one that the device doesn't have.
+pub(crate) fn common_model(alloc: Global, input: &str) -> Result<String, Trouble> {
+    let (model, input) = input.split_once(" / ").unwrap_or(("", input));
+    let chain = match model_of(model) {
+        Some(model) => Chain {
+            base: 0,
+            models: vec![in alloc; model].map_err(AllocError::from)?,
+            end: 65535,
+        },
+        None => match found(alloc, &mut Device::new(alloc, input)?) {
+            Ok(chain) => chain,
+            Err(error) => return refusal(alloc, &error),
+        },
+    };
+    let mut device = Device::new(alloc, input)?;
+    let text = match said(&mut device, &chain) {
+        Ok(Some(values)) => common_text(alloc, &values)?,
+        Ok(None) => String::from_str(alloc, "no model 1")?,
+        Err(error) => refusal(alloc, &error)?,
+    };
+    device.read_for(alloc, text.as_str())
 }

@@ -1,14 +1,16 @@
 //! Whole files as examples: blocks `toml site`, `csv list` and `toml simulator`, behind whose two words the fault
-//! stands that the file is refused for; nothing where it is read. A list is read for the last site before it.
-ghost use Rattle.point_list.specs.Sites.{IsSound};
-
-use crate::images;
-use crate::lists::refusal;
+//! stands that the file is refused for; nothing where it is read. A list is read for the last site before it. Lines may
+//! be left out between two that differ in a number.
+use crate::lists::last_of;
+use crate::sites;
+use crate::texts::refusal;
 use case_pages::{Block, Tally, Trouble};
-use point_list::{ListError, ListFault, Site, read_list, read_site, resolve};
-use std::alloc::Global;
+use mb_map::Sim;
+use point_list::ListFault;
+use std::alloc::{AllocError, Global};
+use std::fmt::Display;
 
-/// The line that stands for the records between its neighbours.
+/// The line that stands for those between its neighbours, which differ in a number.
 const AND_SO_ON: &str = "…\n";
 
 /// What can be wrong with a list or a site, but for want of memory.
@@ -32,157 +34,130 @@ const FAULTS: [ListFault; 17] = [
     ListFault::PastModel,
 ];
 
-#[derive(Clone, Copy)]
-enum Example {
-    Site,
-    List,
-    Simulator,
-}
-
-impl Example {
-    const ALL: [(Example, &'static str); 3] = [
-        (Example::Site, "toml site"),
-        (Example::List, "csv list"),
-        (Example::Simulator, "toml simulator"),
-    ];
-
-    /// The example of a fence's words, and its fault.
-    fn of(words: &str) -> Option<(Example, &str)> {
-        for (example, name) in Example::ALL {
-            if let Some(fault) = words.strip_prefix(name) {
-                return Some((example, fault.trim_start()));
-            }
+/// The words of a fence without the fault behind them, and the fault.
+fn example_of(words: &str) -> Option<(&str, &str)> {
+    for name in ["toml site", "csv list", "toml simulator"] {
+        if let Some(fault) = words.strip_prefix(name) {
+            return Some((name, fault.trim_start()));
         }
-        None
     }
+    None
 }
 
-/// The number of a record whose name is `p` and a number, and the rest of the record.
-fn numbered(record: &str) -> Option<(u32, &str)> {
-    let (number, rest) = record.strip_prefix('p')?.split_once(',')?;
-    Some((number.parse::<u32>().ok()?, rest))
+/// The number at which a line differs from another, as digits, and where it begins.
+fn digits_at(line: &str, at: usize) -> Option<&str> {
+    let (_, rest) = line.split_at_checked(at)?;
+    let count = rest
+        .bytes()
+        .take_while(|byte| byte.is_ascii_digit())
+        .count();
+    Some(rest.split_at_checked(count)?.0)
 }
 
-/// The numbers of the records that are left out between these two parts, and what each says.
-fn left_out<'a>(before: &'a str, after: &str) -> Option<(u32, u32, &'a str)> {
-    let (_, record) = before.trim_end().rsplit_once('\n')?;
-    let (first, rest) = numbered(record)?;
-    let (last, _) = numbered(after)?;
-    Some((first.saturating_add(1), last, rest))
+/// The line before those that are left out, its number, and the number of the line behind them.
+fn left_out<'a>(before: &'a str, after: &str) -> Option<(&'a str, &'a str, u32)> {
+    let line = before.lines().last()?;
+    let next = after.lines().next()?;
+    let same = line
+        .bytes()
+        .zip(next.bytes())
+        .take_while(|(a, b)| a == b)
+        .count();
+    let last = digits_at(next, same)?.parse::<u32>().ok()?;
+    Some((line, digits_at(line, same)?, last))
 }
 
-fn filled(alloc: Global, before: &str, after: &str) -> Result<String, Trouble> {
-    let Some((first, last, rest)) = left_out(before, after) else {
-        return Err(Trouble::Page("no numbered records beside …"));
+/// Writes the lines between these two parts: the last one of the first part, with each number in the place of its own.
+fn fill(whole: &mut String, before: &str, after: &str) -> Result<(), AllocError> {
+    let Some((line, digits, last)) = left_out(before, after) else {
+        return Ok(());
     };
-    let mut text = String::from_str(alloc, before)?;
-    for number in first..last {
-        write!(text, "p{number},{rest}\n")?;
+    let alloc = *whole.allocator();
+    let first = digits.parse::<u32>().unwrap_or(last);
+    for number in first.saturating_add(1)..last {
+        let number = number.to_string(alloc)?;
+        whole.push_str(line.replace(alloc, digits, number.as_str())?.as_str())?;
+        whole.push('\n')?;
     }
-    text.push_str(after)?;
-    Ok(text)
+    Ok(())
 }
 
-/// The text of a list with the records that it leaves out.
-fn whole(alloc: Global, text: &str) -> Result<String, Trouble> {
-    match text.split_once(AND_SO_ON) {
-        Some((before, after)) => filled(alloc, before, after),
-        None => Ok(String::from_str(alloc, text)?),
+/// The text of a file with the lines that it leaves out.
+fn whole(alloc: Global, text: &str) -> Result<String, AllocError> {
+    let parts: Vec<&str> = text.split(AND_SO_ON).collect(alloc)?;
+    let mut whole = String::from_str(alloc, parts.first().copied().unwrap_or(""))?;
+    for pair in parts.windows(2) {
+        let [before, after] = pair else {
+            continue;
+        };
+        fill(&mut whole, before, after)?;
+        whole.push_str(after)?;
     }
-}
-
-/// A site as `read_site` gives it.
-#[derive(Drop)]
-struct SoundSite {
-    site: Site,
-    ghost sound: { IsSound site },
-}
-
-impl SoundSite {
-    fn new(site: Site) -> SoundSite
-        requires { IsSound site }
-    {
-        SoundSite { site }
-    }
-
-    /// Reads a list, and places its points.
-    fn read(&self, alloc: Global, text: &str) -> Result<(), ListError> {
-        let rows = read_list(alloc, text.as_bytes(), &self.site)?;
-        resolve(alloc, rows, &self.site)?;
-        Ok(())
-    }
+    Ok(whole)
 }
 
 /// A page's examples under way.
 #[derive(Drop)]
-pub(crate) struct Examples {
+pub(crate) struct Examples<'a> {
     alloc: Global,
-    site: Option<SoundSite>,
+    /// The last site that was read.
+    site: &'a str,
 }
 
-impl Examples {
-    pub(crate) fn new(alloc: Global) -> Examples {
-        Examples { alloc, site: None }
+impl<'a> Examples<'a> {
+    pub(crate) fn new(alloc: Global) -> Examples<'a> {
+        Examples { alloc, site: "" }
     }
 
     /// Plays a block that is an example, and passes over any other.
     pub(crate) fn play<R: Print>(
         &mut self,
         tally: &mut Tally<'_, R>,
-        block: &Block<'_>,
+        block: &Block<'a>,
     ) -> Result<(), Trouble> {
-        let Some((example, wanted)) = Example::of(block.words) else {
+        let Some((example, wanted)) = example_of(block.words) else {
             return Ok(());
         };
         let told = match self.fault(example, block.text) {
             Err(Trouble::Memory) => self.fault(example, block.text)?,
             told => told?,
         };
+        if example == "toml site" && told.is_empty() {
+            self.site = block.text;
+        }
         tally.told(block.line, told.as_str(), wanted)
     }
 
     /// What a file is refused for, or nothing where it is read.
-    fn fault(&mut self, example: Example, text: &str) -> Result<String, Trouble> {
+    fn fault(&self, example: &str, text: &str) -> Result<String, Trouble> {
+        let alloc = self.alloc;
+        let text = whole(alloc, text)?;
+        let bytes = text.as_bytes();
         match example {
-            Example::Site => self.fault_of_site(text),
-            Example::List => self.fault_of_list(text),
-            Example::Simulator => images::fault(self.alloc, text.as_bytes()),
-        }
-    }
-
-    fn fault_of_site(&mut self, text: &str) -> Result<String, Trouble> {
-        match read_site(self.alloc, text.as_bytes()) {
-            Ok(site) => {
-                self.site = Some(SoundSite::new(site));
-                Ok(String::new(self.alloc))
-            }
-            Err(error) => refusal(self.alloc, error),
-        }
-    }
-
-    fn fault_of_list(&self, text: &str) -> Result<String, Trouble> {
-        let Some(site) = &self.site else {
-            return Err(Trouble::Page("no site before a list"));
-        };
-        let text = whole(self.alloc, text)?;
-        match site.read(self.alloc, text.as_str()) {
-            Ok(()) => Ok(String::new(self.alloc)),
-            Err(error) => refusal(self.alloc, error),
+            "toml site" => fault_of(alloc, sites::read(alloc, bytes)),
+            "csv list" => fault_of(alloc, last_of(alloc, self.site, bytes)),
+            _ => fault_of(alloc, Sim::from_toml(alloc, bytes)),
         }
     }
 }
 
-fn has_example(page: &[Block<'_>], fault: &str) -> bool {
-    page.iter().any(|block| Example::of(block.words).is_some_and(|(_, it)| it.starts_with(fault)))
+fn fault_of<T: Drop, E: Display + Drop>(
+    alloc: Global,
+    told: Result<T, E>,
+) -> Result<String, Trouble> {
+    match told {
+        Ok(_) => Ok(String::new(alloc)),
+        Err(error) => refusal(alloc, &error),
+    }
 }
 
 /// A fault, where the page has an example of it.
 fn met<'a>(page: &[Block<'_>], fault: &'a str) -> &'a str {
-    if has_example(page, fault) {
-        fault
-    } else {
-        "no example"
-    }
+    let is_met = page.iter().any(|block| example_of(block.words).is_some_and(|(
+        _,
+        it,
+    )| it.starts_with(fault)));
+    if is_met { fault } else { "no example" }
 }
 
 /// Expects of a page that each fault of lists and sites has an example.

@@ -3,22 +3,21 @@
 
 mod chains;
 mod formats;
-mod images;
-mod kind;
 mod lists;
 mod names;
 mod numbers;
 mod plans;
-mod registers;
+mod rows;
 mod simulators;
 mod sites;
 mod streams;
 mod tables;
+mod texts;
 mod units;
 mod values;
 
 use crate::formats::Examples;
-use crate::kind::{Kind, Rows};
+use crate::rows::Rows;
 use crate::simulators::Simulator;
 use crate::tables::Tables;
 use case_pages::{Block, Player, Tally, Trouble, play_pages, play_rows};
@@ -46,9 +45,7 @@ fn play_kind<R: Print>(
     if let Some(name) = words.strip_prefix("simulator ") {
         return play_rows(tally, block, &mut Simulator::new(alloc, page, name)?);
     }
-    let Some(kind) = Kind::of(words) else {
-        return Err(Trouble::Page("no such kind of rows"));
-    };
+    let kind = words;
     play_rows(tally, block, &mut Rows { alloc, kind, page })
 }
 

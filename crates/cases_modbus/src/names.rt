@@ -1,7 +1,8 @@
 //! Tables and types by their words.
+use crate::texts::unless;
 use case_pages::Trouble;
 use mb_pdu::Table;
-use std::alloc::{AllocError, Global};
+use std::alloc::Global;
 use sunspec::PointType;
 
 pub(crate) fn table_of(word: &str) -> Option<Table> {
@@ -14,72 +15,46 @@ pub(crate) fn table_of(word: &str) -> Option<Table> {
     }
 }
 
-/// The type of a word as `type_text` writes it.
-pub(crate) fn type_of(word: &str) -> Result<PointType, Trouble> {
-    let kind = match word.split_once('(') {
-        Some(("string", length)) => string_of(length),
-        _ => PointType::from_name(word),
-    };
-    match kind {
-        Some(kind) => Ok(kind),
-        None => Err(Trouble::Page("no type")),
+/// The type of a name, with the registers of a string: `string(8)`.
+pub(crate) fn type_of(word: &str) -> Option<PointType> {
+    match word.strip_prefix("string(") {
+        Some(length) => Some(PointType::Str(length.strip_suffix(')')?.parse::<u8>().ok()?)),
+        None => PointType::from_name(word),
     }
 }
 
-fn string_of(length: &str) -> Option<PointType> {
-    let registers = length.strip_suffix(')')?.parse::<u8>().ok()?;
-    Some(PointType::Str(registers))
-}
-
-/// The name of a type, with the registers of a string: `string(8)`.
-pub(crate) fn type_text(alloc: Global, kind: &PointType) -> Result<String, AllocError> {
-    let name = kind.name();
-    match kind {
-        PointType::Str(registers) => format!(in alloc; "{name}({registers})"),
-        _ => String::from_str(alloc, name),
+/// The type of a name, also with so many registers, or of a code.
+fn found(input: &str) -> Option<PointType> {
+    if let Ok(code) = input.parse::<u8>() {
+        return PointType::from_code(code);
+    }
+    match input.split_once(' ') {
+        Some((name, registers)) => {
+            PointType::from_name(name)?.with_registers(registers.parse::<u16>().ok()?)
+        }
+        None => PointType::from_name(input),
     }
 }
 
-fn found_text(alloc: Global, kind: Option<PointType>) -> Result<String, Trouble> {
-    match kind {
-        Some(kind) => Ok(type_text(alloc, &kind)?),
-        None => Ok(String::from_str(alloc, "no type")?),
-    }
+/// Whether a type's own name and code, with its number of registers, give it again.
+fn is_found_again(kind: PointType) -> bool {
+    [
+        PointType::from_name(kind.name()),
+        PointType::from_code(kind.code()),
+    ]
+    .iter()
+    .all(|it| it.is_some_and(|it| it.with_registers(kind.registers()) == Some(kind)))
 }
 
-fn is_named_and_coded(kind: PointType) -> bool {
-    PointType::from_name(kind.name()) == Some(kind)
-        && PointType::from_code(kind.code()) == Some(kind)
-}
-
-/// What a type of this name has. Its own name and code have to give it again.
+/// What a type has, or that there is none.
 pub(crate) fn kind(alloc: Global, input: &str) -> Result<String, Trouble> {
-    let Some(kind) = PointType::from_name(input) else {
-        return found_text(alloc, None);
+    let Some(kind) = found(input) else {
+        return Ok(String::from_str(alloc, "no type")?);
     };
-    if !is_named_and_coded(kind) {
-        return Ok(String::from_str(alloc, "ANOTHER TYPE by its name or code")?);
-    }
-    let text = type_text(alloc, &kind)?;
     let (code, registers, greatest) = (kind.code(), kind.registers(), kind.greatest());
-    Ok(format!(in alloc; "{text}: code {code}, registers {registers}, to {greatest}")?)
-}
-
-pub(crate) fn code(alloc: Global, input: &str) -> Result<String, Trouble> {
-    match input.parse::<u8>() {
-        Ok(code) => found_text(alloc, PointType::from_code(code)),
-        Err(_) => Err(Trouble::Page("no code")),
-    }
-}
-
-/// `TYPE REGISTERS`: the type of that name with so many registers.
-pub(crate) fn length(alloc: Global, input: &str) -> Result<String, Trouble> {
-    let Some((word, registers)) = input.split_once(' ') else {
-        return Err(Trouble::Page("no type and length"));
-    };
-    let kind = type_of(word)?;
-    match registers.parse::<u16>() {
-        Ok(registers) => found_text(alloc, kind.with_registers(registers)),
-        Err(_) => Err(Trouble::Page("no length")),
-    }
+    let other = unless(
+        is_found_again(kind),
+        ", and ANOTHER TYPE by its name or code",
+    );
+    Ok(format!(in alloc; "{kind:?}: code {code}, registers {registers}, to {greatest}{other}")?)
 }

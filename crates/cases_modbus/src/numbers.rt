@@ -1,15 +1,8 @@
 //! Numbers as digits spell them in lists, scripts and commands.
+use crate::texts::shown;
 use case_pages::Trouble;
-use std::alloc::{AllocError, Global};
-use std::fmt::Display;
+use std::alloc::Global;
 use sunspec::digits;
-
-fn or_none<T: Display + Drop>(alloc: Global, number: Option<T>) -> Result<String, AllocError> {
-    match number {
-        Some(number) => number.to_string(alloc),
-        None => String::from_str(alloc, "none"),
-    }
-}
 
 /// What stands between the quotation marks at the front, and behind them.
 fn quoted(input: &str) -> Option<(&str, &str)> {
@@ -18,22 +11,20 @@ fn quoted(input: &str) -> Option<(&str, &str)> {
 
 fn number_of(input: &str) -> Option<Option<u128>> {
     let (text, limits) = quoted(input)?;
+    let text = text.as_bytes();
     match limits.trim_start().split_once(' ') {
         Some((places, limit)) => {
             let (places, limit) = (places.parse::<usize>().ok()?, limit.parse::<u128>().ok()?);
-            Some(digits::number(text.as_bytes(), places, limit))
+            Some(digits::number(text, places, limit))
         }
-        None => {
-            let limit = limits.trim_start().parse::<u128>().ok()?;
-            Some(digits::within(text.as_bytes(), limit))
-        }
+        None => Some(digits::within(text, limits.trim_start().parse::<u128>().ok()?)),
     }
 }
 
 /// `"DIGITS" LIMIT`, or `"DIGITS" MOST LIMIT` where there may be only so many digits.
 pub(crate) fn number(alloc: Global, input: &str) -> Result<String, Trouble> {
     match number_of(input) {
-        Some(number) => Ok(or_none(alloc, number)?),
+        Some(number) => Ok(shown(alloc, &number)?),
         None => Err(Trouble::Page("no digits and limit")),
     }
 }
@@ -41,7 +32,7 @@ pub(crate) fn number(alloc: Global, input: &str) -> Result<String, Trouble> {
 /// `"DIGITS"`.
 pub(crate) fn scale(alloc: Global, input: &str) -> Result<String, Trouble> {
     match quoted(input) {
-        Some((text, _)) => Ok(or_none(alloc, digits::scale(text.as_bytes()))?),
+        Some((text, _)) => Ok(shown(alloc, &digits::scale(text.as_bytes()))?),
         None => Err(Trouble::Page("no digits")),
     }
 }

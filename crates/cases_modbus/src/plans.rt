@@ -1,5 +1,6 @@
 //! The fewest reads of points.
 use crate::names::{table_of, type_of};
+use crate::texts::shown;
 use case_pages::Trouble;
 use point_list::{Label, Name, Point, Role};
 use read_planner::{Read, can_be_read, plan};
@@ -15,26 +16,17 @@ fn point_of(text: &str, step: u16) -> Option<Point> {
         device: Label::new(b"d")?,
         table,
         address: address.saturating_add(step),
-        kind: type_of(words.next()?).ok()?,
+        kind: type_of(words.next()?)?,
         scale: 0,
         role: Role::Gauge,
         roll: 0,
     })
 }
 
-fn times_of(text: &str) -> Option<(&str, u16)> {
-    match text.split_once('*') {
-        Some((text, times)) => Some((text, times.parse::<u16>().ok()?)),
-        None => Some((text, 1)),
-    }
-}
-
 /// Points side by side: `coil 0 bit*3` is a point at 0, at 1 and at 2.
 fn push_points(points: &mut Vec<Point>, text: &str) -> Result<(), Trouble> {
-    let Some((text, times)) = times_of(text) else {
-        return Err(Trouble::Page("no number of points"));
-    };
-    for step in 0..times {
+    let (text, times) = text.split_once('*').unwrap_or((text, "1"));
+    for step in 0..times.parse::<u16>().unwrap_or(1) {
         let Some(point) = point_of(text, step) else {
             return Err(Trouble::Page("no point"));
         };
@@ -61,35 +53,16 @@ fn planned(alloc: Global, points: &[Point], gap: u16) -> Result<Option<Vec<Read>
     Ok(Some(plan(alloc, points, gap)?))
 }
 
-fn reads_text(alloc: Global, reads: &[Read]) -> Result<String, AllocError> {
-    if reads.is_empty() {
-        return String::from_str(alloc, "no read");
-    }
-    let mut text = String::new(alloc);
-    for read in reads {
-        if !text.is_empty() {
-            text.push_str("; ")?;
-        }
-        let (function, start, quantity) = (read.function, read.span.start, read.span.quantity);
-        write!(text, "{function:02} {start} {quantity}")?;
-    }
-    Ok(text)
+fn gap_of(input: &str) -> Option<(u16, &str)> {
+    let (gap, points) = input.strip_prefix("gap ")?.split_once(": ")?;
+    Some((gap.parse::<u16>().ok()?, points))
 }
 
-fn gap_of(text: &str) -> Option<u16> {
-    text.strip_prefix("gap ")?.parse::<u16>().ok()
-}
-
-/// `gap GAP: TABLE ADDRESS TYPE; ..`: the reads as function, start and quantity.
+/// `gap GAP: TABLE ADDRESS TYPE; ..`, and the reads, if all of the points can be read.
 pub(crate) fn plan_of(alloc: Global, input: &str) -> Result<String, Trouble> {
-    let Some((gap, points)) = input.split_once(": ") else {
+    let Some((gap, points)) = gap_of(input) else {
         return Err(Trouble::Page("no gap and points"));
     };
-    let Some(gap) = gap_of(gap) else {
-        return Err(Trouble::Page("no gap"));
-    };
-    match planned(alloc, &points_of(alloc, points)?, gap)? {
-        Some(reads) => Ok(reads_text(alloc, &reads)?),
-        None => Ok(String::from_str(alloc, "not to be read")?),
-    }
+    let reads = planned(alloc, &points_of(alloc, points)?, gap)?;
+    Ok(shown(alloc, &reads)?)
 }

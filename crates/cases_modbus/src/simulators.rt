@@ -1,10 +1,21 @@
-//! Simulators under way through the rows of a block.
+//! Files of simulators, and simulators under way through the rows of a block.
 use crate::streams::frames_text;
-use case_pages::{Block, Outcomes, Trouble, file_of, hex_of};
+use crate::texts::outcome;
+use case_pages::{Block, Outcomes, Trouble, bytes_of, file_of, hex_of};
 use mb_map::{MapError, Sim};
 use mb_mbap::Frame;
 use mb_pdu::Unit;
 use std::alloc::Global;
+
+/// That a file was read.
+#[derive(Clone, Copy, Debug)]
+struct Read;
+
+/// What a simulator file is refused for, if it is.
+pub(crate) fn image(alloc: Global, input: &str) -> Result<String, Trouble> {
+    let text = bytes_of(alloc, input)?;
+    outcome(alloc, Sim::from_toml(alloc, &text).map(|_| Read))
+}
 
 #[derive(Drop)]
 pub(crate) struct Simulator {
@@ -29,48 +40,37 @@ impl Simulator {
             Err(MapError::Memory) => Sim::from_toml(alloc, text.as_bytes()),
             other => other,
         };
-        match read {
-            Ok(sim) => Ok(Simulator {
-                alloc,
-                sim,
-                replies: None,
-            }),
-            Err(error) => Err(trouble(error)),
-        }
+        let sim = read.map_err(trouble)?;
+        let replies = None;
+        Ok(Simulator {
+            alloc,
+            sim,
+            replies,
+        })
     }
 
     fn take(&mut self, input: &str) -> Result<Vec<Frame>, Trouble> {
-        let taken = if input == "rest" {
-            self.sim.rest()
-        } else {
-            self.sim.take(&frame_of(self.alloc, input)?)
+        if input == "rest" {
+            return self.sim.rest().map_err(trouble);
+        }
+        let Some((head, unit)) = input.split_once(": ") else {
+            return Err(Trouble::Page("no frame"));
         };
-        taken.map_err(trouble)
+        match frame_of(head, &hex_of(self.alloc, unit)?) {
+            Some(frame) => self.sim.take(&frame).map_err(trouble),
+            None => Err(Trouble::Page("no frame")),
+        }
     }
 }
 
-/// The frame of a transaction identifier, a unit identifier and a unit, as `frames_text` shows it.
-fn frame_of(alloc: Global, input: &str) -> Result<Frame, Trouble> {
-    let Some((head, unit)) = input.split_once(": ") else {
-        return Err(Trouble::Page("no frame"));
-    };
-    let unit = Unit::from_bytes(&hex_of(alloc, unit)?);
-    let (Some((transaction, unit_id)), Some(unit)) = (head_of(head), unit) else {
-        return Err(Trouble::Page("no frame"));
-    };
-    Ok(Frame {
-        transaction,
-        unit_id,
-        unit,
+/// The frame of a transaction identifier with a unit identifier, and of a unit.
+fn frame_of(head: &str, unit: &[u8]) -> Option<Frame> {
+    let (transaction, unit_id) = head.split_once(' ')?;
+    Some(Frame {
+        transaction: transaction.parse::<u16>().ok()?,
+        unit_id: unit_id.parse::<u8>().ok()?,
+        unit: Unit::from_bytes(unit)?,
     })
-}
-
-fn head_of(text: &str) -> Option<(u16, u8)> {
-    let (transaction, unit_id) = text.split_once(' ')?;
-    Some((
-        transaction.parse::<u16>().ok()?,
-        unit_id.parse::<u8>().ok()?,
-    ))
 }
 
 impl Outcomes for Simulator {

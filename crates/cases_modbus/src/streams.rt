@@ -1,58 +1,30 @@
 //! Frames, and the streams that they come in.
-use crate::registers::hex_text;
+use crate::texts::{hex_text, refusal, unless};
+use crate::units::OTHERWISE;
 use case_pages::{Trouble, hex_of, pieces_of};
 use mb_mbap::{Fed, Frame, FrameFault, FrameReader};
 use std::alloc::{AllocError, Global};
-
-/// What pieces of a stream give: its frames, and the first fault.
-#[derive(Drop)]
-struct Given {
-    frames: Vec<Frame>,
-    fault: Option<FrameFault>,
-}
-
-impl Given {
-    fn take(&mut self, fed: Fed) -> Result<(), AllocError> {
-        for frame in fed.frames {
-            self.frames.push(frame)?;
-        }
-        if self.fault.is_none() {
-            self.fault = fed.fault;
-        }
-        Ok(())
-    }
-}
-
-fn are_same(one: &Given, other: &Given) -> bool {
-    one.frames.as_slice() == other.frames.as_slice() && one.fault == other.fault
-}
 
 fn feed(reader: &mut FrameReader, piece: &[u8]) -> Result<Fed, AllocError> {
     reader.feed(piece)
 }
 
-fn given_by(alloc: Global, pieces: &[&[u8]]) -> Result<Given, AllocError> {
+/// The frames that pieces of a stream give, and the first fault.
+fn given_by(alloc: Global, pieces: &[&[u8]]) -> Result<Fed, AllocError> {
     let mut reader = FrameReader::new(alloc);
-    let mut given = Given {
-        frames: Vec::new(alloc),
-        fault: None,
-    };
+    let mut frames = Vec::new(alloc);
+    let mut fault = None;
     for piece in pieces {
-        given.take(feed(&mut reader, piece)?)?;
+        let mut fed = feed(&mut reader, piece)?;
+        fault = fault.or(fed.fault);
+        frames.append(&mut fed.frames)?;
     }
-    Ok(given)
+    Ok(Fed { frames, fault })
 }
 
-fn given_by_bytes(alloc: Global, stream: &[u8]) -> Result<Given, AllocError> {
-    let mut reader = FrameReader::new(alloc);
-    let mut given = Given {
-        frames: Vec::new(alloc),
-        fault: None,
-    };
-    for byte in stream.chunks(1) {
-        given.take(feed(&mut reader, byte)?)?;
-    }
-    Ok(given)
+fn is_given(alloc: Global, pieces: &[&[u8]], whole: &Fed) -> Result<bool, AllocError> {
+    let given = given_by(alloc, pieces)?;
+    Ok(given.frames.as_slice() == whole.frames.as_slice() && given.fault == whole.fault)
 }
 
 /// Whether the same comes of a stream in two pieces, and in three of which these are the first two together.
@@ -60,13 +32,13 @@ fn is_same_cut(
     alloc: Global,
     stream: &[u8],
     second: usize,
-    whole: &Given,
+    whole: &Fed,
 ) -> Result<bool, AllocError> {
     let (front, back) = stream.split_at(second.min(stream.len()));
-    let mut is_same = are_same(&given_by(alloc, &[front, back])?, whole);
+    let mut is_same = is_given(alloc, &[front, back], whole)?;
     for first in 0..=front.len() {
         let (left, middle) = front.split_at(first.min(front.len()));
-        is_same = is_same && are_same(&given_by(alloc, &[left, middle, back])?, whole);
+        is_same = is_same && is_given(alloc, &[left, middle, back], whole)?;
     }
     Ok(is_same)
 }
@@ -74,7 +46,8 @@ fn is_same_cut(
 /// Whether the same comes of a stream whole, byte by byte, and cut in two and in three at each place.
 fn is_same_however_cut(alloc: Global, stream: &[u8]) -> Result<bool, AllocError> {
     let whole = given_by(alloc, &[stream])?;
-    let mut is_same = are_same(&given_by_bytes(alloc, stream)?, &whole);
+    let bytes: Vec<&[u8]> = stream.chunks(1).collect(alloc)?;
+    let mut is_same = is_given(alloc, &bytes, &whole)?;
     for second in 0..=stream.len() {
         is_same = is_same && is_same_cut(alloc, stream, second, &whole)?;
     }
@@ -83,20 +56,9 @@ fn is_same_however_cut(alloc: Global, stream: &[u8]) -> Result<bool, AllocError>
 
 /// A frame as its transaction identifier, its unit identifier and its unit.
 fn frame_text(alloc: Global, frame: &Frame) -> Result<String, AllocError> {
-    let Frame {
-        transaction,
-        unit_id,
-        ..
-    } = frame;
+    let (transaction, unit_id) = (frame.transaction, frame.unit_id);
     let unit = hex_text(alloc, frame.unit.as_bytes())?;
     format!(in alloc; "{transaction} {unit_id}: {unit}")
-}
-
-fn push_part(text: &mut String, part: &str) -> Result<(), AllocError> {
-    if !text.is_empty() {
-        text.push_str(", ")?;
-    }
-    text.push_str(part)
 }
 
 /// Frames side by side, or `nothing`.
@@ -106,50 +68,37 @@ pub(crate) fn frames_text(alloc: Global, frames: &[Frame]) -> Result<String, All
     }
     let mut text = String::new(alloc);
     for frame in frames {
-        push_part(&mut text, frame_text(alloc, frame)?.as_str())?;
+        if !text.is_empty() {
+            text.push_str(", ")?;
+        }
+        text.push_str(frame_text(alloc, frame)?.as_str())?;
     }
     Ok(text)
 }
 
 fn fed_text(alloc: Global, fed: &Fed) -> Result<String, AllocError> {
-    let mut text = String::new(alloc);
-    if !fed.frames.is_empty() || fed.fault.is_none() {
-        text = frames_text(alloc, &fed.frames)?;
+    let frames = frames_text(alloc, &fed.frames)?;
+    match fed.fault {
+        Some(fault) => format!(in alloc; "{frames}, {fault}"),
+        None => Ok(frames),
     }
-    if let Some(fault) = fed.fault {
-        push_part(&mut text, fault.to_string(alloc)?.as_str())?;
-    }
-    Ok(text)
-}
-
-fn stream_of(alloc: Global, pieces: &[&str]) -> Result<Vec<u8>, Trouble> {
-    let mut stream = Vec::new(alloc);
-    for piece in pieces {
-        stream.extend_from_slice(&hex_of(alloc, piece)?)?;
-    }
-    Ok(stream)
-}
-
-fn pieces_text(alloc: Global, pieces: &[&str]) -> Result<String, Trouble> {
-    let mut reader = FrameReader::new(alloc);
-    let mut text = String::new(alloc);
-    for (place, piece) in pieces.iter().enumerate() {
-        if place > 0 {
-            text.push_str(" | ")?;
-        }
-        let fed = feed(&mut reader, &hex_of(alloc, piece)?)?;
-        text.push_str(fed_text(alloc, &fed)?.as_str())?;
-    }
-    Ok(text)
 }
 
 /// What comes of each piece of a stream; and that the same comes of the whole stream, however it is cut.
 pub(crate) fn stream(alloc: Global, input: &str) -> Result<String, Trouble> {
-    let pieces = pieces_of(alloc, input)?;
-    let mut text = pieces_text(alloc, &pieces)?;
-    if !is_same_however_cut(alloc, &stream_of(alloc, &pieces)?)? {
-        text.push_str(", and SOMETHING ELSE in other pieces")?;
+    let mut reader = FrameReader::new(alloc);
+    let mut stream = Vec::new(alloc);
+    let mut text = String::new(alloc);
+    for piece in pieces_of(alloc, input)? {
+        if !text.is_empty() {
+            text.push_str(" | ")?;
+        }
+        let bytes = hex_of(alloc, piece)?;
+        text.push_str(fed_text(alloc, &feed(&mut reader, &bytes)?)?.as_str())?;
+        stream.extend_from_slice(&bytes)?;
     }
+    let is_same = is_same_however_cut(alloc, &stream)?;
+    text.push_str(unless(is_same, ", and SOMETHING ELSE in other pieces"))?;
     Ok(text)
 }
 
@@ -167,11 +116,9 @@ pub(crate) fn frame(alloc: Global, input: &str) -> Result<String, Trouble> {
     match decoded(&bytes) {
         Ok(frame) => {
             let mut text = frame_text(alloc, &frame)?;
-            if !is_spelled(&frame, &bytes) {
-                text.push_str(", spelled OTHER BYTES")?;
-            }
+            text.push_str(unless(is_spelled(&frame, &bytes), OTHERWISE))?;
             Ok(text)
         }
-        Err(fault) => Ok(fault.to_string(alloc)?),
+        Err(fault) => refusal(alloc, &fault),
     }
 }

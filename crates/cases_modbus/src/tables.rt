@@ -1,36 +1,48 @@
 //! The tables of a device, and what they answer.
 use crate::names::table_of;
-use crate::registers::hex_text;
+use crate::texts::{hex_text, outcome, shown};
 use case_pages::{Outcomes, Trouble, hex_of};
 use mb_map::{MapError, Mapping};
 use mb_pdu::{Table, Unit};
 use std::alloc::Global;
 
-fn number(word: Option<&str>) -> Option<u32> {
-    word?.parse::<u32>().ok()
+fn numbers_of(alloc: Global, text: &str) -> Result<Vec<u32>, Trouble> {
+    Ok(
+        text.split(' ')
+            .filter_map(|word| word.parse::<u32>().ok())
+            .collect(alloc)?,
+    )
 }
 
-fn made(alloc: Global, start: Option<u32>, bits: u32, registers: u32) -> Result<Mapping, MapError> {
-    match start {
-        Some(start) => Mapping::new_start_address(
-            alloc, start, bits, start, bits, start, registers, start, registers,
-        ),
-        None => Mapping::new(alloc, bits, bits, registers, registers),
+fn tables_of(alloc: Global, sizes: &[u32]) -> Option<Result<Mapping, MapError>> {
+    match sizes {
+        [bits, words] => Some(Mapping::new(alloc, *bits, *bits, *words, *words)),
+        [start, bits, words] => Some(Mapping::new_start_address(
+            alloc, *start, *bits, *start, *bits, *start, *words, *start, *words,
+        )),
+        [a, b, c, d, e, f, g, h] => Some(Mapping::new_start_address(
+            alloc, *a, *b, *c, *d, *e, *f, *g, *h,
+        )),
+        _ => None,
     }
 }
 
-/// Two tables of bits and two of registers: `BITS REGISTERS` says how many there are of each, from address 0 on, and
-/// `START BITS REGISTERS` from which address on.
+/// Two tables of bits and two of registers: `BITS REGISTERS` says how many there are of each, from address 0 on,
+/// `START BITS REGISTERS` from which address on, and eight numbers the start and the size of each.
 fn mapping_of(alloc: Global, sizes: &str) -> Result<Result<Mapping, MapError>, Trouble> {
-    let mut words = sizes.split(' ');
-    let (first, second) = (number(words.next()), number(words.next()));
-    let (Some(first), Some(second)) = (first, second) else {
-        return Err(Trouble::Page("no sizes of tables"));
-    };
-    match number(words.next()) {
-        Some(third) => Ok(made(alloc, Some(first), second, third)),
-        None => Ok(made(alloc, None, first, second)),
+    match tables_of(alloc, &numbers_of(alloc, sizes)?) {
+        Some(made) => Ok(made),
+        None => Err(Trouble::Page("no sizes of tables")),
     }
+}
+
+/// That tables were made.
+#[derive(Clone, Copy, Debug)]
+struct Tabled;
+
+/// Whether tables of these sizes are made.
+pub(crate) fn sizes(alloc: Global, input: &str) -> Result<String, Trouble> {
+    outcome(alloc, mapping_of(alloc, input)?.map(|_| Tabled))
 }
 
 /// A device under way through the rows of a block.
@@ -52,25 +64,6 @@ impl Tables {
             Err(_) => Err(Trouble::Page("no tables")),
         }
     }
-
-    fn set(&mut self, input: &str) -> Result<String, Trouble> {
-        let Some((table, address, number)) = cell_of(input) else {
-            return Err(Trouble::Page("no cell"));
-        };
-        let is_set = self.mapping.set(table, address, number);
-        let word = if is_set { "set" } else { "refused" };
-        Ok(String::from_str(self.alloc, word)?)
-    }
-
-    fn get(&mut self, input: &str) -> Result<String, Trouble> {
-        let Some((table, address)) = place_of(input) else {
-            return Err(Trouble::Page("no place of a cell"));
-        };
-        match self.mapping.get(table, address) {
-            Some(number) => Ok(number.to_string(self.alloc)?),
-            None => Ok(String::from_str(self.alloc, "none")?),
-        }
-    }
 }
 
 /// `TABLE ADDRESS`.
@@ -79,48 +72,25 @@ fn place_of(input: &str) -> Option<(Table, u16)> {
     Some((table_of(table)?, address.parse::<u16>().ok()?))
 }
 
-/// `TABLE ADDRESS NUMBER`.
-fn cell_of(input: &str) -> Option<(Table, u16, u16)> {
+/// What comes of `TABLE ADDRESS NUMBER`.
+fn set(mapping: &mut Mapping, input: &str) -> Option<bool> {
     let (place, number) = input.rsplit_once(' ')?;
     let (table, address) = place_of(place)?;
-    Some((table, address, number.parse::<u16>().ok()?))
+    Some(mapping.set(table, address, number.parse::<u16>().ok()?))
 }
 
 impl Outcomes for Tables {
     /// The reply to a unit, or what comes of `set TABLE ADDRESS NUMBER` or `get TABLE ADDRESS`.
     fn outcome(&mut self, input: &str) -> Result<String, Trouble> {
         if let Some(cell) = input.strip_prefix("set ") {
-            return self.set(cell);
+            return Ok(shown(self.alloc, &set(&mut self.mapping, cell))?);
         }
-        if let Some(place) = input.strip_prefix("get ") {
-            return self.get(place);
+        if let Some((table, address)) = input.strip_prefix("get ").and_then(place_of) {
+            return Ok(shown(self.alloc, &self.mapping.get(table, address))?);
         }
-        let bytes = hex_of(self.alloc, input)?;
-        let Some(asked) = Unit::from_bytes(&bytes) else {
+        let Some(asked) = Unit::from_bytes(&hex_of(self.alloc, input)?) else {
             return Err(Trouble::Page("no unit"));
         };
-        let answer = self.mapping.reply(&asked);
-        Ok(hex_text(self.alloc, answer.as_bytes())?)
-    }
-}
-
-/// Whether tables are made where the one named has this start and size and the others one cell at 0.
-pub(crate) fn sizes(alloc: Global, input: &str) -> Result<String, Trouble> {
-    let mut words = input.split(' ');
-    let table = table_of(words.next().unwrap_or(""));
-    let (start, size) = (number(words.next()), number(words.next()));
-    let (Some(table), Some(start), Some(size)) = (table, start, size) else {
-        return Err(Trouble::Page("no table, start and size"));
-    };
-    let made = match table {
-        Table::Coil => Mapping::new_start_address(alloc, start, size, 0, 1, 0, 1, 0, 1),
-        Table::Discrete => Mapping::new_start_address(alloc, 0, 1, start, size, 0, 1, 0, 1),
-        Table::Holding => Mapping::new_start_address(alloc, 0, 1, 0, 1, start, size, 0, 1),
-        Table::Input => Mapping::new_start_address(alloc, 0, 1, 0, 1, 0, 1, start, size),
-    };
-    match made {
-        Ok(_) => Ok(String::from_str(alloc, "made")?),
-        Err(MapError::Memory) => Err(Trouble::Memory),
-        Err(error) => Ok(error.to_string(alloc)?),
+        Ok(hex_text(self.alloc, self.mapping.reply(&asked).as_bytes())?)
     }
 }

@@ -1,9 +1,9 @@
 //! Values of points, and how they are shown.
 use crate::names::type_of;
-use crate::registers::{Form, registers_of, registers_text};
-use case_pages::Trouble;
+use crate::texts::{hex_text, outcome, refusal, unless};
+use case_pages::{Trouble, hex_of};
 use mb_pdu::Registers;
-use std::alloc::Global;
+use std::alloc::{AllocError, Global};
 use std::str;
 use sunspec::{PointType, SunError, Value, read_value, scaled_text, shown_text, to_registers};
 
@@ -17,38 +17,69 @@ fn value_of(kind: &PointType, words: &[u16]) -> Option<Value> {
 }
 
 /// A number, a text in quotation marks, or `-`.
-pub(crate) fn value_text(alloc: Global, value: &Value) -> Result<String, Trouble> {
+pub(crate) fn value_text(alloc: Global, value: &Value) -> Result<String, AllocError> {
     match value {
-        Value::Number(number) => Ok(number.to_string(alloc)?),
+        Value::Number(number) => number.to_string(alloc),
         Value::Text(text) => {
             let text = str::from_utf8(text.as_bytes()).unwrap_or("?");
-            Ok(format!(in alloc; "\"{text}\"")?)
+            format!(in alloc; "\"{text}\"")
         }
-        Value::Unimplemented => Ok(String::from_str(alloc, "-")?),
+        Value::Unimplemented => String::from_str(alloc, "-"),
     }
 }
 
-fn split<'a>(input: &'a str) -> Result<(&'a str, &'a str), Trouble> {
+fn numbered(word: &str) -> Result<i128, Trouble> {
+    word.parse::<i128>().map_err(|_| Trouble::Page("no number"))
+}
+
+fn scale_of(word: &str) -> Result<i32, Trouble> {
+    word.parse::<i32>().map_err(|_| Trouble::Page("no scale"))
+}
+
+/// A type's word, and what stands behind it.
+fn typed(input: &str) -> Result<(PointType, &str), Trouble> {
+    let (word, rest) = split(input)?;
+    match type_of(word) {
+        Some(kind) => Ok((kind, rest)),
+        None => Err(Trouble::Page("no type")),
+    }
+}
+
+fn split(input: &str) -> Result<(&str, &str), Trouble> {
     match input.split_once(' ') {
         Some(parts) => Ok(parts),
         None => Err(Trouble::Page("a word alone")),
     }
 }
 
-/// `TYPE REGISTERS`.
-pub(crate) fn read(alloc: Global, input: &str) -> Result<String, Trouble> {
-    let (word, words) = split(input)?;
-    let kind = type_of(word)?;
-    match value_of(&kind, &registers_of(alloc, words)?) {
-        Some(value) => value_text(alloc, &value),
-        None => Ok(String::from_str(alloc, "no registers of the type")?),
+/// The registers that bytes in hexadecimal digits are.
+fn registers_of(alloc: Global, text: &str) -> Result<Vec<u16>, Trouble> {
+    let mut words = Vec::new(alloc);
+    for pair in hex_of(alloc, text)?.chunks(2) {
+        let [high, low] = pair else {
+            return Err(Trouble::Page("half a register"));
+        };
+        words
+            .push(u16::from_be_bytes([*high, *low]))
+            .map_err(AllocError::from)?;
     }
+    Ok(words)
 }
 
-fn number_of(text: &str) -> Result<i128, Trouble> {
-    match text.parse::<i128>() {
-        Ok(number) => Ok(number),
-        Err(_) => Err(Trouble::Page("no number")),
+fn bytes_text(alloc: Global, words: &[u16]) -> Result<String, AllocError> {
+    let mut bytes = Vec::new(alloc);
+    for word in words {
+        bytes.extend_from_slice(&word.to_be_bytes())?;
+    }
+    hex_text(alloc, &bytes)
+}
+
+/// `TYPE REGISTERS`.
+pub(crate) fn read(alloc: Global, input: &str) -> Result<String, Trouble> {
+    let (kind, words) = typed(input)?;
+    match value_of(&kind, &registers_of(alloc, words)?) {
+        Some(value) => Ok(value_text(alloc, &value)?),
+        None => Ok(String::from_str(alloc, "no registers of the type")?),
     }
 }
 
@@ -56,47 +87,29 @@ fn written(kind: &PointType, number: i128) -> Result<Registers, SunError> {
     to_registers(kind, number)
 }
 
-fn is_read_again(kind: &PointType, words: &[u16], number: i128) -> bool {
-    value_of(kind, words) == Some(Value::Number(number))
-}
-
-fn refusal(alloc: Global, error: SunError) -> Result<String, Trouble> {
-    match error {
-        SunError::Memory => Err(Trouble::Memory),
-        error => Ok(error.to_string(alloc)?),
-    }
-}
-
 /// `TYPE NUMBER`. The registers have to mean the number again.
 pub(crate) fn write(alloc: Global, input: &str) -> Result<String, Trouble> {
-    let (word, number) = split(input)?;
-    let (kind, number) = (type_of(word)?, number_of(number)?);
+    let (kind, number) = typed(input)?;
+    let number = numbered(number)?;
     match written(&kind, number) {
         Ok(registers) => {
-            let mut text = registers_text(alloc, Form::Register, registers.as_slice())?;
-            if !is_read_again(&kind, registers.as_slice(), number) {
-                text.push_str(", read as ANOTHER NUMBER")?;
-            }
+            let words = registers.as_slice();
+            let mut text = bytes_text(alloc, words)?;
+            let is_same = value_of(&kind, words) == Some(Value::Number(number));
+            text.push_str(unless(is_same, ", read as ANOTHER NUMBER"))?;
             Ok(text)
         }
-        Err(error) => refusal(alloc, error),
-    }
-}
-
-fn scale_of(text: &str) -> Result<i32, Trouble> {
-    match text.parse::<i32>() {
-        Ok(scale) => Ok(scale),
-        Err(_) => Err(Trouble::Page("no scale")),
+        Err(error) => refusal(alloc, &error),
     }
 }
 
 /// `NUMBER SCALE`.
 pub(crate) fn scaled(alloc: Global, input: &str) -> Result<String, Trouble> {
     let (number, scale) = split(input)?;
-    match scaled_text(alloc, number_of(number)?, scale_of(scale)?) {
-        Ok(text) => Ok(text),
-        Err(error) => refusal(alloc, error),
-    }
+    outcome(
+        alloc,
+        scaled_text(alloc, numbered(number)?, scale_of(scale)?),
+    )
 }
 
 fn text_of(
@@ -112,14 +125,10 @@ fn text_of(
     }
 }
 
-/// `SCALE TYPE REGISTERS`: the text in quotation marks, or `-`.
+/// `SCALE TYPE REGISTERS`: the text, if the registers are implemented.
 pub(crate) fn shown(alloc: Global, input: &str) -> Result<String, Trouble> {
     let (scale, point) = split(input)?;
-    let (word, words) = split(point)?;
-    let (kind, words) = (type_of(word)?, registers_of(alloc, words)?);
-    match text_of(alloc, &kind, &words, scale_of(scale)?) {
-        Ok(Some(text)) => Ok(format!(in alloc; "\"{text}\"")?),
-        Ok(None) => Ok(String::from_str(alloc, "-")?),
-        Err(error) => refusal(alloc, error),
-    }
+    let (kind, words) = typed(point)?;
+    let words = registers_of(alloc, words)?;
+    outcome(alloc, text_of(alloc, &kind, &words, scale_of(scale)?))
 }

@@ -1,8 +1,10 @@
-//! What a test expects, and what it is told in its place.
+//! What a test expects, and what it is told in its place; readers and writers that fail.
 #![tactic(auto)]
 
+mod streams;
 mod trial;
 
+pub use streams::{Incoming, Outgoing};
 pub use trial::{Ended, Trial};
 
 /// Runs a test's function over a new trial, and once more where the first run was refused, as by memory that

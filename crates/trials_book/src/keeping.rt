@@ -1,9 +1,9 @@
 //! What a keeper in memory gives back, and that a refusal leaves it as it was.
 ghost use Rattle.std.specs.Prelude.{◌<◌, ◌≤◌, length};
 
-use crate::storing::{apply, point, reading, readings, store};
+use crate::storing::{apply, point, readings, shows, store, words};
 use point_list::{Items, Role};
-use poll_book::{Change, Keeper, MemKeeper, PointRow, ReadingRow, StoreFault, Words};
+use poll_book::{Change, Keeper, MemKeeper, PointRow, StoreFault, Words};
 use std::alloc::AllocError;
 use std::test::Fail;
 use sunspec::PointType;
@@ -16,8 +16,7 @@ fn begin(trial: &Trial<'_>, keeper: &mut MemKeeper, point: &PointRow) -> Result<
     change.connections = Some(7);
     apply(keeper, &change)?;
     let points = keeper.points(trial.alloc())?;
-    let is_kept = points.as_slice() == [*point].as_slice();
-    trial.told(&"kept", &is_kept, &true);
+    trial.told(&"kept", &points.as_slice(), &[*point].as_slice());
     trial.told(&"connections", &keeper.connections(), &Ok(7));
     Ok(())
 }
@@ -40,46 +39,31 @@ fn store_all(
     Ok(())
 }
 
-/// Whether a row is of the slot and its registers, and doesn't count.
-fn is_row(row: &ReadingRow, slot: u16) -> bool {
-    row.slot == slot as u32 && !row.counted && row.words.as_slice() == [1, 2, 3, 4, slot].as_slice()
-}
-
-/// Expects the rows of slots 10 and 20.
-fn are_rows(trial: &Trial<'_>, rows: &[ReadingRow]) {
-    trial.told(&"rows", &rows.len(), &2);
-    for (row, slot) in rows.iter().zip([10, 20]) {
-        trial.told(row, &is_row(row, slot), &true);
-    }
-}
-
-/// Expects these registers in a slot, or no reading.
-fn has_words(
-    trial: &Trial<'_>,
-    keeper: &mut MemKeeper,
-    point: &PointRow,
-    slot: u32,
-    words: &[u16],
-) -> Result<(), StoreFault> {
-    let reading = reading(keeper, point, slot)?;
-    let told: &[u16] = match &reading {
-        Some(reading) => reading.words.as_slice(),
-        None => &[],
-    };
-    trial.told(&slot, &told, &words);
-    Ok(())
-}
+/// The rows of slots 10 and 20.
+const ROWS: &str = "[ReadingRow { point: 2, slot: 10, words: [1, 2, 3, 4, 10], counted: false }, \
+    ReadingRow { point: 2, slot: 20, words: [1, 2, 3, 4, 20], counted: false }]";
 
 fn rows(trial: &Trial<'_>) -> Result<(), StoreFault> {
     let text = point(2, "m1", PointType::Str(5), (Role::Counter, 0))?;
     let mut keeper = MemKeeper::new(trial.alloc());
     begin(trial, &mut keeper, &text)?;
     store_all(trial, &mut keeper, &text)?;
-    are_rows(trial, &readings(trial.alloc(), &mut keeper, 2, 10, 20)?);
-    has_words(trial, &mut keeper, &text, 30, &[1, 2, 3, 4, 30])?;
-    has_words(trial, &mut keeper, &text, 31, &[])?;
-    let others = readings(trial.alloc(), &mut keeper, 1, 0, 100)?;
-    trial.told(&"others", &others.len(), &0);
+    shows(
+        trial,
+        &readings(trial.alloc(), &mut keeper, 2, 10, 20)?,
+        ROWS,
+    )?;
+    shows(
+        trial,
+        &words(&mut keeper, &text, 30)?,
+        "Some([1, 2, 3, 4, 30])",
+    )?;
+    shows(trial, &words(&mut keeper, &text, 31)?, "None")?;
+    shows(
+        trial,
+        &readings(trial.alloc(), &mut keeper, 1, 0, 100)?,
+        "[]",
+    )?;
     Ok(())
 }
 
@@ -115,12 +99,11 @@ fn refusals(trial: &Trial<'_>) -> Result<(), StoreFault> {
     let point = point(1, "m1", PointType::Uint16, (Role::Counter, 65535))?;
     let mut keeper = MemKeeper::new(trial.alloc());
     for slot in 0..9 {
-        let words = [slot as u16];
-        match store(trial.alloc(), &mut keeper, &point, slot, &words) {
+        match store(trial.alloc(), &mut keeper, &point, slot, &[slot as u16]) {
             Ok(count) => trial.told(&slot, &count, &1),
             Err(fault) => {
                 trial.told(&slot, &fault, &StoreFault::Memory);
-                has_words(trial, &mut keeper, &point, slot, &[])?;
+                shows(trial, &words(&mut keeper, &point, slot)?, "None")?;
                 let kept = readings(trial.alloc(), &mut keeper, 1, 0, 100)?;
                 trial.told(&slot, &kept.len(), &(slot as usize));
                 return Ok(());

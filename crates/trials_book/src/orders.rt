@@ -1,5 +1,5 @@
 //! Orders in a keeper: their numbers, how they stand, and the oldest that waits on a device.
-use crate::storing::{apply, point};
+use crate::storing::{apply, point, shows};
 use point_list::{Items, Role};
 use poll_book::{Change, Keeper, MemKeeper, OrderState, SettingRow, StoreFault, Words};
 use std::alloc::Global;
@@ -50,15 +50,16 @@ fn seen(keeper: &mut MemKeeper) -> Result<(u32, [Option<u32>; 3]), StoreFault> {
     Ok((orders, devices))
 }
 
-/// How an order of point 2 stands, if it sets the point to 7.
-fn state(keeper: &mut MemKeeper, number: u32) -> Result<Option<OrderState>, StoreFault> {
-    match keeper.setting(number)? {
-        Some(row) if row.point == 2 && row.words.as_slice() == [7].as_slice() => Ok(Some(
-            row.state,
-        )),
-        _ => Ok(None),
-    }
-}
+/// Orders as they stand in the end.
+const ORDERS: &[(u32, &str)] = &[
+    (1, "Some(Setting { point: 1, words: [7], state: Done })"),
+    (
+        2,
+        "Some(Setting { point: 2, words: [7], state: Refused(2) })",
+    ),
+    (4, "Some(Setting { point: 2, words: [7], state: Waiting })"),
+    (5, "None"),
+];
 
 /// Puts orders, each as it then stands, and expects how many there are and which wait.
 fn put_all(trial: &Trial<'_>, keeper: &mut MemKeeper) -> Result<(), StoreFault> {
@@ -76,13 +77,8 @@ fn put_all(trial: &Trial<'_>, keeper: &mut MemKeeper) -> Result<(), StoreFault> 
         put(trial.alloc(), keeper, number, point, state)?;
         trial.told(&(number, state), &seen(keeper)?, &(count, devices));
     }
-    for (number, stands) in [
-        (1, None),
-        (2, Some(Refused(2))),
-        (4, Some(Waiting)),
-        (5, None),
-    ] {
-        trial.told(&number, &state(keeper, number)?, &stands);
+    for (number, expected) in ORDERS {
+        shows(trial, &keeper.setting(*number)?, expected)?;
     }
     Ok(())
 }

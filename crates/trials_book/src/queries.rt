@@ -61,7 +61,11 @@ fn is_edge(trial: &Trial<'_>, matcher: &mut Matcher) -> Result<(), MatchError> {
     trial.told(&65_536, &sent.transaction, &0);
     let late = Err(MatchError::WrongReply);
     trial.told(&0, &named(matcher, 0, false), &late);
-    trial.told(&1, &named(matcher, 1, false), &Ok(1));
+    // A query that is answered is remembered, and the one behind it still waits.
+    trial.told(&"settled", &named(matcher, 1, true), &Ok(1));
+    let again = Err(MatchError::Repeat);
+    trial.told(&1, &named(matcher, 1, false), &again);
+    trial.told(&2, &named(matcher, 2, false), &Ok(2));
     trial.told(&"made", &matcher.made(Conn::new(1)), &Some(65_537));
     Ok(())
 }
@@ -75,23 +79,6 @@ fn edge(trial: &Trial<'_>) -> Result<(), MatchError> {
 #[test]
 fn the_edge_of_the_window(rt: HostRuntime) -> Result<(), Fail> {
     Ok(twice!(rt, edge)?)
-}
-
-fn answered(trial: &Trial<'_>) -> Result<(), MatchError> {
-    let mut matcher = Matcher::new(trial.alloc());
-    open(&mut matcher, Conn::new(1), 0)?;
-    ask(&mut matcher, 1, 1)?;
-    ask(&mut matcher, 2, 1)?;
-    trial.told(&"settled", &named(&mut matcher, 0, true), &Ok(0));
-    let again = Err(MatchError::Repeat);
-    trial.told(&0, &named(&mut matcher, 0, false), &again);
-    trial.told(&1, &named(&mut matcher, 1, false), &Ok(1));
-    Ok(())
-}
-
-#[test]
-fn an_answered_query_is_remembered(rt: HostRuntime) -> Result<(), Fail> {
-    Ok(twice!(rt, answered)?)
 }
 
 /// Expects how connections go with lines, and closes them.

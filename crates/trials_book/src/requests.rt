@@ -53,22 +53,38 @@ fn named(caller: &str, key: &str) -> Result<(Caller, Key), StoreFault> {
     }
 }
 
-/// Puts a request for a list of three bytes.
+/// A list of three bytes, or an order.
+fn body_of(alloc: Global, outcome: Outcome) -> Result<Body, StoreFault> {
+    if let Outcome::Ordered(_) = outcome {
+        let point = Text::from_string("limit".to_string(alloc)?);
+        return Ok(Body::Order { point, value: 7 });
+    }
+    Ok(Body::List(Items::from_vec(vec![in alloc; 1, 2, 3]?)))
+}
+
+/// Puts a request of this outcome, and the order that it may be.
 fn ask(
     alloc: Global,
     keeper: &mut MemKeeper,
-    caller: &str,
-    key: &str,
+    (caller, key): (Caller, Key),
     outcome: Outcome,
 ) -> Result<(), StoreFault> {
-    let (caller, key) = named(caller, key)?;
+    let body = body_of(alloc, outcome)?;
     let mut change = Change::none(alloc);
     change.request = Some(RequestRow {
         caller,
         key,
-        body: Body::List(Items::from_vec(vec![in alloc; 1, 2, 3]?)),
+        body,
         outcome,
     });
+    if let Outcome::Ordered(number) = outcome {
+        change.setting = Some(SettingRow {
+            number,
+            point: 1,
+            words: Words::new(alloc, &[1, 2, 3, 4, 5])?,
+            state: OrderState::Waiting,
+        });
+    }
     apply(keeper, &change)
 }
 
@@ -87,11 +103,11 @@ fn outcome_of(
 fn keys(trial: &Trial<'_>) -> Result<(), StoreFault> {
     use Outcome::*;
     let mut keeper = MemKeeper::new(trial.alloc());
-    ask(trial.alloc(), &mut keeper, "ems", "k1", Loaded(3))?;
-    ask(trial.alloc(), &mut keeper, "desk", "k1", Ordered(8))?;
+    ask(trial.alloc(), &mut keeper, named("ems", "k1")?, Loaded(3))?;
+    ask(trial.alloc(), &mut keeper, named("desk", "k1")?, Ordered(1))?;
     for (caller, key, outcome) in [
         ("ems", "k1", Some(Loaded(3))),
-        ("desk", "k1", Some(Ordered(8))),
+        ("desk", "k1", Some(Ordered(1))),
         ("ems", "k2", None),
         ("k1", "ems", None),
     ] {
@@ -104,26 +120,6 @@ fn keys(trial: &Trial<'_>) -> Result<(), StoreFault> {
 #[test]
 fn keys_are_of_their_callers(rt: HostRuntime) -> Result<(), Fail> {
     Ok(twice!(rt, keys)?)
-}
-
-/// Puts an order with the request for it.
-fn order(alloc: Global, keeper: &mut MemKeeper, number: u32, key: &str) -> Result<(), StoreFault> {
-    let (caller, key) = named("ems", key)?;
-    let point = Text::from_string("limit".to_string(alloc)?);
-    let mut change = Change::none(alloc);
-    change.setting = Some(SettingRow {
-        number,
-        point: 1,
-        words: Words::new(alloc, &[1, 2, 3, 4, 5])?,
-        state: OrderState::Waiting,
-    });
-    change.request = Some(RequestRow {
-        caller,
-        key,
-        body: Body::Order { point, value: 7 },
-        outcome: Outcome::Ordered(number),
-    });
-    apply(keeper, &change)
 }
 
 /// Expects how many orders there are, and what became of a request.
@@ -146,13 +142,13 @@ fn is_kept(
 fn refusals(trial: &Trial<'_>) -> Result<(), StoreFault> {
     let mut keeper = MemKeeper::new(trial.alloc());
     for (number, key) in [(1, "a"), (2, "b"), (3, "c"), (4, "d"), (5, "e")] {
-        if let Err(fault) = order(trial.alloc(), &mut keeper, number, key) {
+        let (asked, ordered) = (named("ems", key)?, Outcome::Ordered(number));
+        if let Err(fault) = ask(trial.alloc(), &mut keeper, asked, ordered) {
             trial.told(&key, &fault, &StoreFault::Memory);
             is_kept(trial, &mut keeper, key, number - 1, None)?;
-            order(trial.alloc(), &mut keeper, number, key)?;
+            ask(trial.alloc(), &mut keeper, asked, ordered)?;
         }
-        let ordered = Some(Outcome::Ordered(number));
-        is_kept(trial, &mut keeper, key, number, ordered)?;
+        is_kept(trial, &mut keeper, key, number, Some(ordered))?;
     }
     Ok(())
 }

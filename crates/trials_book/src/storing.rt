@@ -3,10 +3,24 @@
 use mb_pdu::{Registers, Table};
 use point_list::{Items, Label, Name, Point, Role};
 use poll_book::{
-    Change, Keeper, MemKeeper, Neighbours, PointRow, Reading, ReadingRow, StoreFault, record,
+    Change, Keeper, MemKeeper, Neighbours, PointRow, ReadingRow, StoreFault, Words, record,
 };
-use std::alloc::Global;
+use std::alloc::{AllocError, Global};
+use std::fmt::Debug;
 use sunspec::PointType;
+use telling::Trial;
+
+/// Expects a value as `Debug` shows it.
+pub(crate) fn shows<T: Debug>(
+    trial: &Trial<'_>,
+    value: &T,
+    expected: &str,
+) -> Result<(), AllocError> {
+    let alloc = trial.alloc();
+    let text = format!(in alloc; "{value:?}")?;
+    trial.told(&"shown", &text.as_str(), &expected);
+    Ok(())
+}
 
 /// A point of a device.
 pub(crate) fn point(
@@ -37,12 +51,13 @@ pub(crate) fn apply(keeper: &mut MemKeeper, change: &Change) -> Result<(), Store
     keeper.apply(change)
 }
 
-pub(crate) fn reading(
+/// The registers of a point in a slot.
+pub(crate) fn words(
     keeper: &mut MemKeeper,
     point: &PointRow,
     slot: u32,
-) -> Result<Option<Reading>, StoreFault> {
-    keeper.reading(point, slot)
+) -> Result<Option<Words>, StoreFault> {
+    Ok(keeper.reading(point, slot)?.map(|reading| reading.words))
 }
 
 pub(crate) fn readings(
@@ -55,20 +70,6 @@ pub(crate) fn readings(
     keeper.readings(alloc, point, from, to)
 }
 
-/// The rows that these registers of the point make in the slot.
-fn rows_of(
-    alloc: Global,
-    keeper: &mut MemKeeper,
-    point: &PointRow,
-    slot: u32,
-    words: &[u16],
-) -> Result<Vec<ReadingRow>, StoreFault> {
-    match Registers::from_slice(words) {
-        Some(registers) => record(alloc, keeper, &[(*point, registers)], slot),
-        None => Err(StoreFault::Other),
-    }
-}
-
 /// Records these registers of the point in the slot, and says how many readings were new.
 pub(crate) fn store(
     alloc: Global,
@@ -77,7 +78,10 @@ pub(crate) fn store(
     slot: u32,
     words: &[u16],
 ) -> Result<usize, StoreFault> {
-    let rows = rows_of(alloc, keeper, point, slot, words)?;
+    let Some(registers) = Registers::from_slice(words) else {
+        return Err(StoreFault::Other);
+    };
+    let rows = record(alloc, keeper, &[(*point, registers)], slot)?;
     let count = rows.len();
     let mut change = Change::none(alloc);
     change.readings = Items::from_vec(rows);

@@ -1,47 +1,28 @@
 //! Refusals as texts.
 use poll_book::StoreFault;
-use poll_match::MatchError;
+use poll_match::MatchError::{self, *};
 use std::alloc::AllocError;
-use std::fmt::Display;
 use std::test::Fail;
 use telling::{Trial, twice};
 
-fn is_shown<T: Display>(trial: &Trial<'_>, refusal: &T, text: &str) -> Result<(), AllocError> {
-    let shown = refusal.to_string(trial.alloc())?;
-    trial.told(&"shown", &shown.as_str(), &text);
-    Ok(())
-}
-
 const OF_QUERIES: &[(MatchError, &str)] = &[
-    (MatchError::NoConnection, "no such connection"),
-    (
-        MatchError::NoQuery,
-        "no query has this transaction identifier",
-    ),
-    (
-        MatchError::WrongUnit,
-        "the unit identifier is not the query's",
-    ),
-    (MatchError::Repeat, "the query was answered before"),
-    (MatchError::WrongReply, "no reply to the query"),
-    (MatchError::Memory, "out of memory"),
-    (MatchError::Exhausted, "no query number is left"),
-];
-
-const OF_KEEPERS: &[(StoreFault, &str)] = &[
-    (StoreFault::Memory, "memory"),
-    (StoreFault::Full, "full"),
-    (StoreFault::Disk, "disk"),
-    (StoreFault::Other, "other"),
+    (NoConnection, "no such connection"),
+    (NoQuery, "no query has this transaction identifier"),
+    (WrongUnit, "the unit identifier is not the query's"),
+    (Repeat, "the query was answered before"),
+    (WrongReply, "no reply to the query"),
+    (Memory, "out of memory"),
+    (Exhausted, "no query number is left"),
 ];
 
 fn refusals(trial: &Trial<'_>) -> Result<(), AllocError> {
+    use StoreFault::*;
+    let alloc = trial.alloc();
     for (refusal, text) in OF_QUERIES {
-        is_shown(trial, refusal, text)?;
+        trial.told(refusal, &refusal.to_string(alloc)?.as_str(), text);
     }
-    for (refusal, text) in OF_KEEPERS {
-        is_shown(trial, refusal, text)?;
-    }
+    let shown = format!(in alloc; "{Memory}, {Full}, {Disk}, {Other}")?;
+    trial.told(&"keepers", &shown.as_str(), &"memory, full, disk, other");
     Ok(())
 }
 

@@ -1,56 +1,30 @@
-//! Counted readers and writers over fakes that fail when told to.
-use crate::readers::{OneByOne, counted};
+//! Counted readers and writers over fakes that take one byte a call, and fail when told to.
 use mb_mbap::Counted;
-use std::io::{self, ErrorKind, Read, Write};
+use std::alloc::AllocError;
+use std::io::{Read, Write};
 use std::test::Fail;
-use telling::Trial;
+use telling::{Incoming, Outgoing, Trial, twice};
 
-/// A writer that takes one byte a call, and fails once `left` calls are over.
-#[derive(Drop)]
-struct TakesOne {
-    taken: u64,
-    left: u64,
-}
-
-impl Write for TakesOne {
-    fn write(&mut self, buf: &[u8]) -> io::Result<usize> {
-        if self.left == 0 {
-            return Err(io::Error::from(ErrorKind::Other));
-        }
-        self.left -= 1;
-        if buf.is_empty() {
-            return Ok(0);
-        }
-        self.taken = self.taken.saturating_add(1);
-        Ok(1)
-    }
-
-    fn flush(&mut self) -> io::Result<()> {
-        if self.left == 0 {
-            return Err(io::Error::from(ErrorKind::Other));
-        }
-        Ok(())
-    }
-}
-
-/// How many bytes a read gives; none where it fails.
-fn read(reader: &mut Counted<OneByOne<'_>>, room: &mut [u8]) -> u64 {
-    reader.read(room).unwrap_or(0) as u64
+fn counted(bytes: &[u8], reads: usize) -> Counted<Incoming<'_>> {
+    Counted::new(Incoming {
+        reads,
+        ..Incoming::new(bytes, 1, false)
+    })
 }
 
 /// How many bytes come in eight reads, and how many ends and failures are counted.
-fn counts(calls: u64) -> (u64, u64, u64) {
-    let mut reader = counted(b"abc", calls, u64::MAX);
-    let mut room = [0u8; 8];
-    let mut got = 0u64;
+fn counts(reads: usize) -> (usize, u64, u64) {
+    let mut reader = counted(b"abc", reads);
+    let mut got = 0usize;
     for _ in 0..8 {
-        got = got.saturating_add(read(&mut reader, &mut room));
+        let count = reader.read(&mut [0; 8]).unwrap_or(0);
+        got = got.saturating_add(count);
     }
     (got, reader.ends(), reader.failures())
 }
 
 fn reads(trial: &Trial<'_>) {
-    for (calls, expected) in [
+    for (reads, expected) in [
         (0, (0, 0, 8)),
         (1, (1, 0, 7)),
         (2, (2, 0, 6)),
@@ -58,67 +32,81 @@ fn reads(trial: &Trial<'_>) {
         (4, (3, 1, 4)),
         (5, (3, 2, 3)),
     ] {
-        trial.told(&calls, &counts(calls), &expected);
+        trial.told(&reads, &counts(reads), &expected);
     }
 }
 
 /// No byte that is asked for is no end.
 fn empty_room(trial: &Trial<'_>) {
-    let mut reader = counted(b"abc", 9, 9);
-    trial.told(&"read", &reader.read(&mut []).ok(), &Some(0));
-    trial.told(&"ends", &reader.ends(), &0);
+    let mut reader = counted(b"abc", 9);
+    let told = (reader.read(&mut []).ok(), reader.ends());
+    trial.told(&"no room", &told, &(Some(0), 0));
 }
 
-/// Whether a whole room of three bytes could be read, and holds these.
-fn is_read(reader: &mut Counted<OneByOne<'_>>, room: &mut [u8; 3]) -> bool {
-    reader.read_exact(room).is_ok() && *room == *b"abc"
+/// Whether a whole room of three bytes could be read, and holds these; how many failures and ends there are.
+fn whole(reader: &mut Counted<Incoming<'_>>) -> (bool, u64, u64) {
+    let mut room = [0; 3];
+    let is_read = reader.read_exact(&mut room).is_ok() && room == *b"abc";
+    (is_read, reader.failures(), reader.ends())
 }
 
 /// An end inside a whole read is a failure, and no end.
 fn whole_reads(trial: &Trial<'_>) {
-    let mut reader = counted(b"abcd", 9, 9);
-    for failures in [0u64, 1] {
-        let is_whole = is_read(&mut reader, &mut [0; 3]);
-        trial.told(&"whole", &is_whole, &(failures == 0));
-        trial.told(&"failures", &reader.failures(), &failures);
-        trial.told(&"ends", &reader.ends(), &0);
-    }
+    let mut reader = counted(b"abcd", 9);
+    trial.told(&"abc", &whole(&mut reader), &(true, 0, 0));
+    trial.told(&"d", &whole(&mut reader), &(false, 1, 0));
     trial.told(&"left", &reader.into_inner().bytes.is_empty(), &true);
 }
 
-fn is_written(writer: &mut Counted<TakesOne>, bytes: &[u8]) -> bool {
-    writer.write_all(bytes).is_ok()
+/// A call of a writer.
+#[derive(Clone, Copy, Debug)]
+enum Call {
+    Write(&'static [u8]),
+    WriteAll(&'static [u8]),
+    Flush,
 }
 
-fn is_flushed(writer: &mut Counted<TakesOne>) -> bool {
-    writer.flush().is_ok()
+/// What a call gives, and how many failed so far.
+fn told(writer: &mut Counted<Outgoing>, call: Call) -> (Option<usize>, u64) {
+    let given = match call {
+        Call::Write(bytes) => writer.write(bytes).ok(),
+        Call::WriteAll(bytes) => writer.write_all(bytes).ok().map(|_| bytes.len()),
+        Call::Flush => writer.flush().ok().map(|_| 0),
+    };
+    (given, writer.failures())
 }
 
-fn count_written(writer: &mut Counted<TakesOne>, bytes: &[u8]) -> Option<usize> {
-    writer.write(bytes).ok()
-}
+const CALLS: &[(Call, (Option<usize>, u64))] = &[
+    (Call::Write(b"ab"), (Some(1), 0)),
+    (Call::WriteAll(b"cd"), (Some(2), 0)),
+    (Call::Flush, (Some(0), 0)),
+    (Call::WriteAll(b"ef"), (None, 1)),
+    (Call::Flush, (None, 2)),
+    (Call::Write(b"g"), (None, 3)),
+];
 
-fn writes(trial: &Trial<'_>) {
-    let mut writer = Counted::new(TakesOne { taken: 0, left: 4 });
-    trial.told(&"ab", &count_written(&mut writer, b"ab"), &Some(1));
-    trial.told(&"cd", &is_written(&mut writer, b"cd"), &true);
-    trial.told(&"flush", &is_flushed(&mut writer), &true);
-    trial.told(&"failures", &writer.failures(), &0);
-    trial.told(&"ef", &is_written(&mut writer, b"ef"), &false);
-    trial.told(&"failures", &writer.failures(), &1);
-    trial.told(&"flush", &is_flushed(&mut writer), &false);
-    trial.told(&"g", &count_written(&mut writer, b"g"), &None);
-    trial.told(&"failures", &writer.failures(), &3);
+fn writes(trial: &Trial<'_>) -> Result<(), AllocError> {
+    let mut writer = Counted::new(Outgoing::with_room(trial.alloc(), 4, 1, 4)?);
+    for (call, expected) in CALLS {
+        trial.told(call, &told(&mut writer, *call), expected);
+    }
     trial.told(&"ends", &writer.ends(), &0);
-    trial.told(&"taken", &writer.into_inner().taken, &4);
+    trial.told(
+        &"taken",
+        &writer.into_inner().sent.as_slice(),
+        &b"acde".as_slice(),
+    );
+    Ok(())
+}
+
+fn all(trial: &Trial<'_>) -> Result<(), AllocError> {
+    reads(trial);
+    empty_room(trial);
+    whole_reads(trial);
+    writes(trial)
 }
 
 #[test]
 fn ends_and_failures_are_counted(rt: HostRuntime) -> Result<(), Fail> {
-    let trial = Trial::new(&rt);
-    reads(&trial);
-    empty_room(&trial);
-    whole_reads(&trial);
-    writes(&trial);
-    Ok(trial.ended::<io::Error>(Ok(()))?)
+    Ok(twice!(rt, all)?)
 }

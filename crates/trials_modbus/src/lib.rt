@@ -1,20 +1,14 @@
-//! Tests of units, frames, devices, values, lists, sites and plans that no page of `cases_modbus` can show: laws,
-//! values at their limits, readers, writers and sources that fail, refused memory, the greatest lists and sites,
-//! and generated plans beside a search. Nothing stands on this crate.
+//! Tests of units, frames, lists, sites and plans that no page of `cases_modbus` can show: laws, values at their
+//! limits, readers and writers that fail, refused memory, and generated plans beside a search. Nothing stands on this
+//! crate.
 #![tactic(auto)]
 
 #[cfg(test)]
-mod chains;
-#[cfg(test)]
 mod counting;
-#[cfg(test)]
-mod devices;
 #[cfg(test)]
 mod limits;
 #[cfg(test)]
 mod lists;
-#[cfg(test)]
-mod readers;
 #[cfg(test)]
 mod searching;
 #[cfg(test)]
@@ -25,5 +19,3 @@ mod sites;
 mod streams;
 #[cfg(test)]
 mod texts;
-#[cfg(test)]
-mod values;

@@ -55,9 +55,8 @@ fn fitting(trial: &Trial<'_>) {
     let reply = Reply::Registers(words);
     for (quantity, expected) in [(124, false), (125, true), (126, false)] {
         let request = read_of(4, quantity);
-        trial.told(&quantity, &fits(&reply, &request), &expected);
-        trial.told(&"excepted", &fits(&Reply::Excepted(6), &request), &true);
-        trial.told(&"written", &fits(&Reply::Written, &request), &false);
+        let told = [&reply, &Reply::Excepted(6), &Reply::Written].map(|it| fits(it, &request));
+        trial.told(&quantity, &told, &[expected, true, false]);
     }
 }
 
@@ -70,40 +69,36 @@ fn too_many(trial: &Trial<'_>) {
     trial.told(&126, &told, &Err(UnitError::WrongReply));
 }
 
-/// Whether a unit of the bytes holds them, where there is one.
-fn holds_unit(bytes: &[u8]) -> Option<bool> {
-    let unit = Unit::from_bytes(bytes)?;
-    Some(unit.as_bytes() == bytes)
+fn holds_bytes(bytes: &[u8]) -> Option<bool> {
+    Some(Unit::from_bytes(bytes)?.as_bytes() == bytes)
 }
 
 fn holds_words(words: &[u16]) -> Option<bool> {
-    let kept = Registers::from_slice(words)?;
-    Some(kept.as_slice() == words)
+    Some(Registers::from_slice(words)?.as_slice() == words)
 }
 
 fn holds_bits(bits: &[bool]) -> Option<bool> {
-    let kept = Bits::from_slice(bits)?;
-    Some(kept.as_slice() == bits)
+    Some(Bits::from_slice(bits)?.as_slice() == bits)
 }
 
-fn units(trial: &Trial<'_>) {
-    let bytes = [7u8; 254];
-    for (length, expected) in [(0, None), (1, Some(true)), (253, Some(true)), (254, None)] {
-        trial.told(&length, &holds_unit(&bytes[..length]), &expected);
-    }
-}
-
-fn registers(trial: &Trial<'_>) {
-    let words = [7u16; 126];
-    for (length, expected) in [(0, None), (1, Some(true)), (125, Some(true)), (126, None)] {
-        trial.told(&length, &holds_words(&words[..length]), &expected);
-    }
-}
-
-fn bits(trial: &Trial<'_>) {
-    let bits = [true; 2001];
-    for (length, expected) in [(0, None), (1, Some(true)), (2000, Some(true)), (2001, None)] {
-        trial.told(&length, &holds_bits(&bits[..length]), &expected);
+/// Whether units, registers and bits hold what they are made of, where there are such.
+fn parts(trial: &Trial<'_>) {
+    let (bytes, words, bits) = ([7; 254], [7; 126], [true; 2001]);
+    for (length, told, expected) in [
+        (0, holds_bytes(&[]), None),
+        (1, holds_bytes(&bytes[..1]), Some(true)),
+        (253, holds_bytes(&bytes[..253]), Some(true)),
+        (254, holds_bytes(&bytes), None),
+        (0, holds_words(&[]), None),
+        (1, holds_words(&words[..1]), Some(true)),
+        (125, holds_words(&words[..125]), Some(true)),
+        (126, holds_words(&words), None),
+        (0, holds_bits(&[]), None),
+        (1, holds_bits(&bits[..1]), Some(true)),
+        (2000, holds_bits(&bits[..2000]), Some(true)),
+        (2001, holds_bits(&bits), None),
+    ] {
+        trial.told(&length, &told, &expected);
     }
 }
 
@@ -113,9 +108,7 @@ fn values_at_their_limits(rt: HostRuntime) -> Result<(), Fail> {
     quantities(&trial);
     fitting(&trial);
     too_many(&trial);
-    units(&trial);
-    registers(&trial);
-    bits(&trial);
+    parts(&trial);
     Ok(trial.ended::<UnitError>(Ok(()))?)
 }
 

@@ -1,10 +1,9 @@
 //! Streams of numbered frames, where memory is refused and where a reader gives one byte a call, and fails.
-use crate::readers::{OneByOne, counted};
 use mb_mbap::{Counted, Fed, Frame, FrameReader};
 use std::alloc::AllocError;
 use std::io::Read;
 use std::test::Fail;
-use telling::{Trial, twice};
+use telling::{Incoming, Trial, twice};
 
 /// Feeds a piece, and once more where memory was refused, of which it keeps count.
 fn feed(reader: &mut FrameReader, piece: &[u8], refusals: &mut u64) -> Result<Fed, AllocError> {
@@ -74,7 +73,7 @@ fn refused_memory_is_told(rt: HostRuntime) -> Result<(), Fail> {
 /// none.
 fn frames(
     trial: &Trial<'_>,
-    source: &mut Counted<OneByOne<'_>>,
+    source: &mut Counted<Incoming<'_>>,
     reader: &mut FrameReader,
 ) -> Result<(), AllocError> {
     let mut room = [0; 8];
@@ -94,26 +93,21 @@ fn frames(
     Ok(())
 }
 
-/// Three frames, numbered from 0.
-fn three() -> [u8; 27] {
-    let mut stream = [0; 27];
-    for number in 0..3u8 {
-        let at = 9 * number as usize;
-        stream[at..at + 9].copy_from_slice(&numbered(number));
-    }
-    stream
-}
-
-/// Each call fails in turn.
+/// Each call fails in turn, and the others give one byte of three frames.
 fn calls(trial: &Trial<'_>) -> Result<(), AllocError> {
-    let bytes = three();
-    for fails in 0..31u64 {
-        let mut source = counted(&bytes, fails, fails + 1);
+    let stream = twenty();
+    let bytes = stream.get(..27).unwrap_or(&[]);
+    for reads in 0..31 {
+        let mut source = Counted::new(Incoming {
+            reads,
+            recovers: true,
+            ..Incoming::new(bytes, 1, false)
+        });
         let mut reader = FrameReader::new(trial.alloc());
         frames(trial, &mut source, &mut reader)?;
-        let failures = if fails < 30 { 1 } else { 0 };
-        trial.told(&fails, &source.failures(), &failures);
-        trial.told(&fails, &source.ends(), &(3 - failures));
+        let failures = if reads < 30 { 1 } else { 0 };
+        let told = (source.failures(), source.ends());
+        trial.told(&reads, &told, &(failures, 3 - failures));
     }
     Ok(())
 }

@@ -3,8 +3,6 @@
 #![tactic(auto)]
 
 #[cfg(test)]
-mod endings;
-#[cfg(test)]
 mod playing;
 #[cfg(test)]
 mod scripts;

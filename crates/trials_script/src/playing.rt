@@ -2,9 +2,9 @@
 use mb_mbap::Counted;
 use office_script::{ReplayFault, Replayed, replay};
 use std::alloc::Global;
-use std::io::{self, ErrorKind, Read, Write};
+use std::io::Read;
 use std::str;
-use telling::Trial;
+use telling::{Outgoing, Trial};
 
 /// The readings of one counter, of which the second came last.
 pub(crate) const COUNTER: &str = "device m1 roof 17
@@ -34,93 +34,35 @@ reading e 3 500
 total e 66572
 ";
 
-/// A writer of at most `size` bytes a call, which fails once `left` calls are over.
-#[derive(Drop)]
-pub(crate) struct Takes {
-    taken: Vec<u8>,
-    size: usize,
-    left: u32,
+fn played<R: Read + Drop>(
+    alloc: Global,
+    reader: &mut Counted<R>,
+    writer: &mut Counted<Outgoing>,
+) -> Result<Replayed, ReplayFault> {
+    replay(alloc, reader, writer)
 }
 
-impl Takes {
-    /// For so many bytes there is room from the first.
-    pub(crate) fn new(
-        alloc: Global,
-        room: usize,
-        size: usize,
-        left: u32,
-    ) -> Result<Takes, ReplayFault> {
-        match Vec::with_capacity(alloc, room) {
-            Ok(taken) => Ok(Takes { taken, size, left }),
-            Err(_) => Err(ReplayFault::Memory),
-        }
-    }
-}
-
-impl Write for Takes {
-    fn write(&mut self, buf: &[u8]) -> io::Result<usize> {
-        if self.left == 0 {
-            return Err(io::Error::from(ErrorKind::Other));
-        }
-        self.left -= 1;
-        let count = buf.len().min(self.size);
-        match self.taken.extend_from_slice(&buf[..count]) {
-            Ok(()) => Ok(count),
-            Err(_) => Err(io::Error::from(ErrorKind::OutOfMemory)),
-        }
-    }
-
-    fn flush(&mut self) -> io::Result<()> {
-        Ok(())
-    }
-}
-
-/// What was written of a script, how it ended, and how many calls of its reader and its writer failed.
-#[derive(Drop)]
-pub(crate) struct Run {
-    text: Vec<u8>,
-    pub(crate) ended: Result<Replayed, ReplayFault>,
-    failures: u64,
-}
-
-impl Run {
-    pub(crate) fn text(&self) -> &str {
-        match str::from_utf8(&self.text) {
-            Ok(text) => text,
-            Err(_) => "no text",
-        }
-    }
-}
-
-pub(crate) fn played<R: Read + Drop>(alloc: Global, reader: R, writer: Takes) -> Run {
-    let mut reader = Counted::new(reader);
-    let mut writer = Counted::new(writer);
-    let ended = replay(alloc, &mut reader, &mut writer);
-    let failures = reader.failures().saturating_add(writer.failures());
-    Run {
-        text: writer.into_inner().taken,
-        ended,
-        failures,
-    }
-}
-
-/// Expects what comes of a script: its text, how it ended, how many calls failed. Refused memory ends the
-/// attempt.
+/// Expects what comes of a script: its text, how it ended, how many calls failed. Where memory was refused a front of
+/// the text was written, and the attempt ends.
 pub(crate) fn comes<R: Read + Drop>(
     trial: &Trial<'_>,
     reader: R,
-    writer: Takes,
+    writer: Outgoing,
     text: &str,
     ended: Result<Replayed, ReplayFault>,
     failures: u64,
 ) -> Result<(), ReplayFault> {
-    let (size, left) = (writer.size, writer.left);
-    let run = played(trial.alloc(), reader, writer);
-    if run.ended == Err(ReplayFault::Memory) {
+    let calls = (writer.most, writer.writes);
+    let (mut reader, mut writer) = (Counted::new(reader), Counted::new(writer));
+    let told = played(trial.alloc(), &mut reader, &mut writer);
+    let failed = reader.failures().saturating_add(writer.failures());
+    let sent = writer.into_inner().sent;
+    let written = str::from_utf8(&sent).unwrap_or("no text");
+    if told == Err(ReplayFault::Memory) {
+        trial.told(&calls, &text.starts_with(written), &true);
         return Err(ReplayFault::Memory);
     }
-    let told = (run.text(), run.ended, run.failures);
-    trial.told(&(size, left), &told, &(text, ended, failures));
+    trial.told(&calls, &(written, told, failed), &(text, ended, failures));
     Ok(())
 }
 
@@ -131,6 +73,6 @@ pub(crate) fn prints(
     text: &str,
     ended: Replayed,
 ) -> Result<(), ReplayFault> {
-    let writer = Takes::new(trial.alloc(), text.len(), usize::MAX, u32::MAX)?;
+    let writer = Outgoing::with_room(trial.alloc(), text.len(), usize::MAX, usize::MAX)?;
     comes(trial, script.as_bytes(), writer, text, Ok(ended), 0)
 }

@@ -1,6 +1,6 @@
-//! Scripts whose last line has no end or of which nothing is printed, and the greatest sites.
-use crate::playing::prints;
-use office_script::ReplayFault;
+//! Scripts whose last line has no end or of which nothing is printed, the greatest sites, and what is shown of endings.
+use crate::playing::{COUNTER, COUNTER_TEXT, prints};
+use office_script::ReplayFault::{self, Memory, Read, Write};
 use office_script::Replayed::{self, Done, FaultLine};
 use std::alloc::{AllocError, Global};
 use std::test::Fail;
@@ -39,7 +39,9 @@ const SCRIPTS: &[(&str, &str, Replayed)] = &[
     ("\r", "fault line 1\n", FaultLine(1)),
 ];
 
+/// Run under `rt try --test --fail-alloc N`, this one sees each allocation of a script refused.
 fn last_lines(trial: &Trial<'_>) -> Result<(), ReplayFault> {
+    prints(trial, COUNTER, COUNTER_TEXT, Done)?;
     for (script, text, ended) in SCRIPTS {
         prints(trial, script, text, *ended)?;
     }
@@ -57,8 +59,7 @@ fn devices(alloc: Global, count: u32, each: u32, behind: &str) -> Result<String,
     for number in 0..count {
         let place = number / each.max(1);
         let unit = number % each.max(1);
-        let line = format!(in alloc; "device d{number} l{place} {unit}\n")?;
-        script.push_str(line.as_str())?;
+        write!(script, "device d{number} l{place} {unit}\n")?;
     }
     script.push_str(behind)?;
     Ok(script)
@@ -86,10 +87,8 @@ const SITES: &[(u32, u32, &str, &str, Replayed)] = &[
 
 fn sites(trial: &Trial<'_>) -> Result<(), ReplayFault> {
     for (count, each, behind, text, ended) in SITES {
-        match devices(trial.alloc(), *count, *each, behind) {
-            Ok(script) => prints(trial, script.as_str(), text, *ended)?,
-            Err(_) => return Err(ReplayFault::Memory),
-        }
+        let script = devices(trial.alloc(), *count, *each, behind)?;
+        prints(trial, script.as_str(), text, *ended)?;
     }
     Ok(())
 }
@@ -97,4 +96,20 @@ fn sites(trial: &Trial<'_>) -> Result<(), ReplayFault> {
 #[test]
 fn at_most_64_lines_and_256_devices(rt: HostRuntime) -> Result<(), Fail> {
     Ok(twice!(rt, sites)?)
+}
+
+fn endings(trial: &Trial<'_>) -> Result<(), AllocError> {
+    let (alloc, fault) = (trial.alloc(), FaultLine(3));
+    let shown = format!(in alloc; "{Done}, {fault}, {Read}, {Write}, {Memory}")?;
+    trial.told(
+        &"shown",
+        &shown.as_str(),
+        &"done, fault line 3, file, file, memory",
+    );
+    Ok(())
+}
+
+#[test]
+fn endings_are_shown(rt: HostRuntime) -> Result<(), Fail> {
+    Ok(twice!(rt, endings)?)
 }
