@@ -5,6 +5,8 @@
 #[cfg(test)]
 mod command_faults;
 #[cfg(test)]
+mod noise;
+#[cfg(test)]
 mod reports;
 #[cfg(test)]
 mod request_faults;
@@ -20,5 +22,3 @@ mod socket_serving;
 mod sockets;
 #[cfg(test)]
 mod source_faults;
-#[cfg(test)]
-mod wires;

@@ -1,5 +1,4 @@
 //! Reports that aren't written, or not to their end.
-use crate::wires::Outgoing;
 use mb_mbap::Counted;
 use office_core::{Office, OfficeError};
 use office_plays::builders::office_over;
@@ -10,7 +9,7 @@ use office_report::{ReportFault, write_report};
 use poll_book::{Keeper, MemKeeper, StoreFault};
 use std::alloc::{AllocError, Global};
 use std::test::Fail;
-use telling::{Trial, twice};
+use telling::{Outgoing, Trial, twice};
 
 /// A counter, and a late reading of it.
 const HAPPENINGS: &[Happens] = &[

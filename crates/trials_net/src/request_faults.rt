@@ -1,5 +1,4 @@
 //! Readers and writers of requests that fail at each call in turn.
-use crate::wires::{Incoming, Outgoing};
 use mb_mbap::Counted;
 use office_core::{Office, OfficeError};
 use office_net::{ServeFault, Served, serve_one};
@@ -9,7 +8,7 @@ use office_plays::steps::{state, take_happening};
 use poll_book::{MemKeeper, OrderState};
 use std::alloc::Global;
 use std::test::Fail;
-use telling::{Trial, twice};
+use telling::{Incoming, Outgoing, Trial, twice};
 
 /// An order, of 85 bytes.
 const ORDER: &[u8] =

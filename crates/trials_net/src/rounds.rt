@@ -1,5 +1,5 @@
 //! Rounds that hear all in one piece, or noise without end, whose writes fail, or whose connection is closed.
-use crate::wires::{Incoming, Noise, Outgoing};
+use crate::noise::Noise;
 use mb_mbap::Counted;
 use office_core::{Office, OfficeError};
 use office_net::{PollFault, Round, poll_round};
@@ -10,7 +10,7 @@ use poll_book::MemKeeper;
 use poll_match::Conn;
 use std::alloc::Global;
 use std::test::Fail;
-use telling::{Trial, twice};
+use telling::{Incoming, Outgoing, Trial, twice};
 
 /// A setting, which is ordered to be 80, and a counter.
 const HAPPENINGS: &[Happens] = &[

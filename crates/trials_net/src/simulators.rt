@@ -1,11 +1,11 @@
 //! Readers and writers of simulated devices that fail.
-use crate::wires::Noise;
+use crate::noise::Noise;
 use mb_map::Sim;
 use office_commands::{Fault, answer_lines, answer_stream};
 use std::alloc::Global;
-use std::io::{self, ErrorKind, Write};
+use std::io;
 use std::test::Fail;
-use telling::{Trial, twice};
+use telling::{Outgoing, Trial, twice};
 
 /// A device of three registers.
 const IMAGE: &[u8] = b"[[unit]]\nid = 17\nholding_start = 107\nholding = [555, 0, 100]\n";
@@ -13,20 +13,6 @@ const IMAGE: &[u8] = b"[[unit]]\nid = 17\nholding_start = 107\nholding = [555, 0
 fn sim(alloc: Global) -> Result<Sim, Fault> {
     let sim = Sim::from_toml(alloc, IMAGE)?;
     Ok(sim)
-}
-
-/// Takes nothing.
-#[derive(Clone, Copy)]
-struct Full;
-
-impl Write for Full {
-    fn write(&mut self, _buf: &[u8]) -> io::Result<usize> {
-        Err(io::Error::from(ErrorKind::Other))
-    }
-
-    fn flush(&mut self) -> io::Result<()> {
-        Ok(())
-    }
 }
 
 /// Refused memory ends the attempt.
@@ -42,11 +28,11 @@ fn all(trial: &Trial<'_>) -> Result<(), Fault> {
     let alloc = trial.alloc();
     let mut sim = sim(alloc)?;
     let mut line = b"00 00 00 00 00 02 11 07\n".as_slice();
-    let unprinted = answer_lines(alloc, &mut sim, &mut line, &mut Full);
+    let unprinted = answer_lines(alloc, &mut sim, &mut line, &mut Outgoing::new(alloc, 0));
     is_ended(trial, unprinted, Fault::File)?;
     let noise = answer_stream(alloc, &mut sim, &mut Noise, &mut io::sink());
     is_ended(trial, noise, Fault::Noise)?;
-    let unsent = answer_stream(alloc, &mut sim, &mut Noise, &mut Full);
+    let unsent = answer_stream(alloc, &mut sim, &mut Noise, &mut Outgoing::new(alloc, 0));
     is_ended(trial, unsent, Fault::Line)
 }
 

@@ -1,13 +1,12 @@
 //! Reads of a register source whose write fails, or to which memory is refused.
 ghost use Rattle.std.specs.Prelude.{◌≤◌};
 
-use crate::wires::{Incoming, Outgoing};
 use line_source::LineSource;
 use mb_mbap::Counted;
 use std::alloc::Global;
 use std::test::Fail;
 use sunspec::{RegisterSource, SourceFault};
-use telling::{Trial, twice};
+use telling::{Incoming, Outgoing, Trial, twice};
 
 /// Replies of two registers to the first query, and of one to the second.
 const REPLIES: &[u8] = &[
@@ -24,7 +23,10 @@ fn source<'a>(
     writes: usize,
 ) -> LineSource<Incoming<'a>, Outgoing> {
     let replies = Incoming::new(replies, 13, true);
-    let writer = Outgoing::that_recovers(alloc, writes);
+    let writer = Outgoing {
+        recovers: true,
+        ..Outgoing::new(alloc, writes)
+    };
     LineSource::new(alloc, 17, Counted::new(replies), Counted::new(writer))
 }
 
