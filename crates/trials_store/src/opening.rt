@@ -14,8 +14,6 @@ use std::alloc::Global;
 use std::test::Fail;
 use telling::{Trial, twice};
 
-const NO_TABLES: &[&str] = &[];
-
 const OTHER_TABLES: &[&str] = &[
     "CREATE TABLE note(id INTEGER PRIMARY KEY, title TEXT NOT NULL) STRICT",
     "INSERT INTO note(title) VALUES ('milk')",
@@ -36,13 +34,16 @@ const NO_NUMBER: &[&str] = &[
     "INSERT INTO meta(name, value) VALUES ('version', '1')",
 ];
 
-/// What a database's statements leave, and why it isn't opened.
-const OTHERS: &[(&[&str], StoreError)] = &[
-    (NO_TABLES, StoreError::NotOffice),
-    (OTHER_TABLES, StoreError::NotOffice),
-    (NO_VERSION, StoreError::NotOffice),
-    (VERSION_7, StoreError::BadVersion),
-    (NO_NUMBER, StoreError::BadVersion),
+const CHANGED: &[&str] = &["UPDATE meta SET value = 7 WHERE name = 'version'"];
+
+/// Whether an office's tables are made, what is done then, and why the database isn't opened.
+const OTHERS: &[(bool, &[&str], StoreError)] = &[
+    (false, &[], StoreError::NotOffice),
+    (false, OTHER_TABLES, StoreError::NotOffice),
+    (false, NO_VERSION, StoreError::NotOffice),
+    (false, VERSION_7, StoreError::BadVersion),
+    (false, NO_NUMBER, StoreError::BadVersion),
+    (true, CHANGED, StoreError::BadVersion),
 ];
 
 fn run(connection: &mut Connection<MemStore>, sql: &str) -> Result<(), OfficeError> {
@@ -53,67 +54,51 @@ fn run(connection: &mut Connection<MemStore>, sql: &str) -> Result<(), OfficeErr
     }
 }
 
-/// Why a database isn't opened, and the connection again.
+/// It isn't opened for this reason, and is given back.
 fn refused(
-    connection: Connection<MemStore>,
-) -> Result<(StoreError, Connection<MemStore>), OfficeError> {
-    match SqlKeeper::open(connection) {
-        Ok(_) => Err(OfficeError::NoRead),
-        Err((StoreError::Store(StoreFault::Memory), _)) => Err(MEMORY),
-        Err(refused) => Ok(refused),
-    }
-}
-
-/// It isn't opened for this reason, and as often as it is tried.
-fn is_refused(
     trial: &Trial<'_>,
     connection: Connection<MemStore>,
     expected: StoreError,
+) -> Result<Connection<MemStore>, OfficeError> {
+    match SqlKeeper::open(connection) {
+        Ok(_) => Err(OfficeError::NoRead),
+        Err((StoreError::Store(StoreFault::Memory), _)) => Err(MEMORY),
+        Err((told, connection)) => {
+            trial.told(&"refused", &told, &expected);
+            Ok(connection)
+        }
+    }
+}
+
+/// What has these statements behind it isn't opened, as often as it is tried.
+fn are_refused(
+    trial: &Trial<'_>,
+    is_made: bool,
+    statements: &[&str],
+    expected: StoreError,
 ) -> Result<(), OfficeError> {
-    let (first, connection) = refused(connection)?;
-    trial.told(&"first", &first, &expected);
-    let (second, _) = refused(connection)?;
-    trial.told(&"second", &second, &expected);
+    let mut connection = empty(trial.alloc())?;
+    if is_made && made(&mut connection).is_err() {
+        return Err(MEMORY);
+    }
+    for sql in statements {
+        run(&mut connection, sql)?;
+    }
+    let connection = refused(trial, connection, expected)?;
+    refused(trial, connection, expected)?;
     Ok(())
 }
 
 fn others(trial: &Trial<'_>) -> Result<(), OfficeError> {
-    for (statements, expected) in OTHERS {
-        let mut connection = empty(trial.alloc())?;
-        for sql in *statements {
-            run(&mut connection, sql)?;
-        }
-        is_refused(trial, connection, *expected)?;
+    for (is_made, statements, expected) in OTHERS {
+        are_refused(trial, *is_made, statements, *expected)?;
     }
     Ok(())
 }
 
 #[test]
-fn databases_of_no_office_are_refused(rt: HostRuntime) -> Result<(), Fail> {
+fn databases_of_no_office_or_another_version_are_refused(rt: HostRuntime) -> Result<(), Fail> {
     Ok(twice!(rt, others)?)
-}
-
-fn made_new(alloc: Global) -> Result<Connection<MemStore>, OfficeError> {
-    let mut connection = empty(alloc)?;
-    match made(&mut connection) {
-        Ok(()) => Ok(connection),
-        Err(_) => Err(MEMORY),
-    }
-}
-
-/// The tables of an office whose version was changed.
-fn later_version(trial: &Trial<'_>) -> Result<(), OfficeError> {
-    let mut connection = made_new(trial.alloc())?;
-    run(
-        &mut connection,
-        "UPDATE meta SET value = 7 WHERE name = 'version'",
-    )?;
-    is_refused(trial, connection, StoreError::BadVersion)
-}
-
-#[test]
-fn another_version_is_refused(rt: HostRuntime) -> Result<(), Fail> {
-    Ok(twice!(rt, later_version)?)
 }
 
 /// The roof with its device alone.
