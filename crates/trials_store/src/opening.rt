@@ -9,7 +9,7 @@ use office_store::{SqlKeeper, StoreError};
 use point_list::ListFault::UnknownDevice;
 use poll_book::RequestFault::List as OfList;
 use poll_book::{Keeper, Outcome, Reason, StoreFault};
-use sqlite::{Connection, Error, ErrorCode, MemStore};
+use sqlite::{Alter, Connection, Error, ErrorCode, MemStore};
 use std::alloc::Global;
 use std::test::Fail;
 use telling::{Trial, twice};
@@ -114,16 +114,8 @@ const UNKNOWN: Outcome = Outcome::RefusedFor(Reason {
 });
 
 /// The keeper of the same tables, opened anew.
-fn again(keeper: SqlKeeper<MemStore>) -> Result<SqlKeeper<MemStore>, OfficeError> {
+fn again<S: Alter + Drop>(keeper: SqlKeeper<S>) -> Result<SqlKeeper<S>, OfficeError> {
     opened(keeper.into_connection()).map_err(|(error, _)| error)
-}
-
-fn office_of<K: Keeper + Drop>(
-    alloc: Global,
-    keeper: K,
-    site: &str,
-) -> Result<Office<K>, OfficeError> {
-    begun(alloc, keeper, site)?.map_err(|(error, _)| error)
 }
 
 /// Expects what became of a list of the second device.
@@ -139,15 +131,30 @@ fn second_is<K: Keeper>(
     Ok(())
 }
 
-/// A site without the second device refuses the list. With the device the first answer stays, and the
-/// same list is taken under another key.
+/// Expects what becomes of lists in an office of a site over a keeper, and gives the keeper back.
+fn seconds_are<K: Keeper + Drop>(
+    trial: &Trial<'_>,
+    keeper: K,
+    site: &str,
+    lists: &[(&'static str, bool, Outcome)],
+) -> Result<K, OfficeError> {
+    let mut office = begun(trial.alloc(), keeper, site)?.map_err(|(error, _)| error)?;
+    for (key, first, outcome) in lists {
+        second_is(trial, &mut office, key, (*first, *outcome))?;
+    }
+    Ok(office.into_keeper())
+}
+
+/// A site without the second device refuses the list.
+const WITHOUT: &[(&str, bool, Outcome)] = &[("l1", true, UNKNOWN)];
+
+/// With the device the first answer stays, and the same list is taken under another key.
+const WITH: &[(&str, bool, Outcome)] = &[("l1", false, UNKNOWN), ("l2", true, Outcome::Loaded(1))];
+
 fn site_of_list(trial: &Trial<'_>) -> Result<(), OfficeError> {
-    let mut without = office_of(trial.alloc(), stored(trial.alloc())?, ONE)?;
-    second_is(trial, &mut without, "l1", (true, UNKNOWN))?;
-    let keeper = again(without.into_keeper())?;
-    let mut with = office_of(trial.alloc(), keeper, TWO)?;
-    second_is(trial, &mut with, "l1", (false, UNKNOWN))?;
-    second_is(trial, &mut with, "l2", (true, Outcome::Loaded(1)))
+    let keeper = seconds_are(trial, stored(trial.alloc())?, ONE, WITHOUT)?;
+    seconds_are(trial, again(keeper)?, TWO, WITH)?;
+    Ok(())
 }
 
 #[test]
@@ -158,8 +165,8 @@ fn an_answer_stays_under_another_site(rt: HostRuntime) -> Result<(), Fail> {
 const FIRST: Happens = Load("l1", "a,m1,holding,107,uint16,,,counter,\n");
 
 /// A keeper that knows a point of the first device.
-fn used_keeper(alloc: Global) -> Result<SqlKeeper<MemStore>, OfficeError> {
-    let mut office = office_over(alloc, stored(alloc)?)?;
+fn used_keeper<K: Keeper + Drop>(alloc: Global, keeper: K) -> Result<K, OfficeError> {
+    let mut office = office_over(alloc, keeper)?;
     take(&mut office, &event_of(alloc, &FIRST)?)?;
     opened_line(&mut office, "roof")?;
     Ok(office.into_keeper())
@@ -174,18 +181,19 @@ fn given_back<K: Keeper + Drop>(alloc: Global, keeper: K) -> Result<K, OfficeErr
     }
 }
 
-fn gives_back(trial: &Trial<'_>) -> Result<(), OfficeError> {
-    let mut keeper = again(used_keeper(trial.alloc())?)?;
+fn is_given_back<K: Keeper + Drop>(trial: &Trial<'_>, mut keeper: K) -> Result<(), OfficeError> {
     let before = text_of(trial.alloc(), &mut keeper, &["l1"])?;
     let mut keeper = given_back(trial.alloc(), keeper)?;
-    trial.told(
-        &"tables",
-        &text_of(trial.alloc(), &mut keeper, &["l1"])?,
-        &before,
-    );
+    let tables = text_of(trial.alloc(), &mut keeper, &["l1"])?;
+    trial.told(&"tables", &tables, &before);
     let mut office = office_over(trial.alloc(), keeper)?;
     trial.told(&"number", &opened_line(&mut office, "roof")?, &2);
     Ok(())
+}
+
+fn gives_back(trial: &Trial<'_>) -> Result<(), OfficeError> {
+    let keeper = used_keeper(trial.alloc(), stored(trial.alloc())?)?;
+    is_given_back(trial, again(keeper)?)
 }
 
 #[test]

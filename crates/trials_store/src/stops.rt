@@ -129,13 +129,6 @@ fn goes_on<K: Keeper>(
     Ok(())
 }
 
-/// An office that knows nothing takes all events.
-fn takes_all<K: Keeper>(trial: &Trial<'_>, office: &mut Office<K>) -> Result<(), OfficeError> {
-    let reached = PLAYING.played(trial, office)?;
-    trial.told(&"events", &reached.events, &HAPPENINGS.len());
-    Ok(())
-}
-
 /// What a stop leaves is an office that goes on. Where tables were being made there may be none, and then
 /// they are made now.
 #[derive(Clone, Copy)]
@@ -161,6 +154,30 @@ impl GoingOn {
             }
         }
     }
+
+    /// A new office takes all events; another, which took so many, goes on.
+    fn used<K: Keeper>(
+        &self,
+        trial: &Trial<'_>,
+        office: &mut Office<K>,
+        count: usize,
+    ) -> Result<(), OfficeError> {
+        if !self.is_new {
+            return goes_on(trial, office, count);
+        }
+        let reached = PLAYING.played(trial, office)?;
+        trial.told(&"events", &reached.events, &HAPPENINGS.len());
+        Ok(())
+    }
+
+    fn begun<K: Keeper + Drop>(&self, trial: &Trial<'_>, mut keeper: K) -> Result<K, OfficeError> {
+        let count = self.reached.map_or(0, |reached| reached.events);
+        let more = if self.is_new { 0 } else { 1 };
+        are_tables(trial, &mut keeper, count, count.saturating_add(more))?;
+        let mut office = office_over(trial.alloc(), keeper)?;
+        self.used(trial, &mut office, count)?;
+        Ok(office.into_keeper())
+    }
 }
 
 impl Task for GoingOn {
@@ -169,25 +186,10 @@ impl Task for GoingOn {
         trial: &Trial<'_>,
         connection: Connection<S>,
     ) -> Result<(Option<Reached>, S), OfficeError> {
-        let count = self.reached.map_or(0, |reached| reached.events);
-        let other = if self.is_new {
-            0
-        } else {
-            count.saturating_add(1)
-        };
-        let mut keeper = self.kept(trial, connection)?;
-        are_tables(trial, &mut keeper, count, other)?;
-        let mut office = office_over(trial.alloc(), keeper)?;
-        if !self.is_new {
-            goes_on(trial, &mut office, count)?;
-            return Ok((
-                self.reached,
-                office.into_keeper().into_connection().into_store(),
-            ));
+        let mut keeper = self.begun(trial, self.kept(trial, connection)?)?;
+        if self.is_new {
+            are_tables(trial, &mut keeper, HAPPENINGS.len(), HAPPENINGS.len())?;
         }
-        takes_all(trial, &mut office)?;
-        let mut keeper = office.into_keeper();
-        are_tables(trial, &mut keeper, HAPPENINGS.len(), HAPPENINGS.len())?;
         Ok((self.reached, keeper.into_connection().into_store()))
     }
 }
