@@ -1,14 +1,15 @@
-//! Reading a list of 10,000 points and a site of 64 lines and 256 devices, and loading the list twice.
-ghost use Rattle.point_list.specs.Sites.{IsSound};
-
-use crate::pace::print_each;
-use office_core::{Office, OfficeError, RequestAnswer};
-use point_list::{Site, read_list, read_site};
-use poll_book::{Caller, Key, MemKeeper};
+//! Reading a list of 10,000 points and a site of 64 lines and 256 devices, loading the list twice, and
+//! planning the reads of 10,000 points: spread out, and each inside strings that begin sooner.
+use crate::office::{HEADER, begun, load, site};
+use crate::pace::{granted, print_each, timed};
+use mb_pdu::Table;
+use office_core::Office;
+use point_list::{Label, Name, Point, Role, Site, read_list};
+use poll_book::MemKeeper;
+use read_planner::{can_be_read, plan};
 use std::alloc::{AllocError, Global};
 use std::io;
-use std::rt::Clock;
-use std::time::Instant;
+use sunspec::PointType;
 
 const POINTS: u32 = 10_000;
 
@@ -19,103 +20,105 @@ const DEVICES: u32 = 256;
 /// A site file of as many lines and devices as there may be.
 fn site_text(alloc: Global) -> Result<String, AllocError> {
     let mut text = String::new(alloc);
-    for number in 0..LINES {
-        let line = format!(in alloc;
-            "[[line]]\nname = \"line-{number}\"\naddress = \"127.0.0.1:1502\"\n"
+    for line in 0..LINES {
+        writeln!(
+            text,
+            "[[line]]\nname = \"line-{line}\"\naddress = \"127.0.0.1:1502\""
         )?;
-        text.push_str(line.as_str())?;
     }
-    for number in 0..DEVICES {
-        let line = number % LINES;
-        let unit = number / LINES;
-        let device = format!(in alloc;
-            "[[device]]\nname = \"meter-{number}\"\nline = \"line-{line}\"\nunit = {unit}\ngap = 8\n"
+    for device in 0..DEVICES {
+        let (line, unit) = (device % LINES, device / LINES);
+        writeln!(
+            text,
+            "[[device]]\nname = \"meter-{device}\"\nline = \"line-{line}\""
         )?;
-        text.push_str(device.as_str())?;
+        writeln!(text, "unit = {unit}\ngap = 8")?;
     }
     Ok(text)
 }
 
 /// A list of as many points as there may be, counters of all devices in turn.
 fn list_text(alloc: Global) -> Result<String, AllocError> {
-    let mut text = String::from_str(
-        alloc,
-        "name,device,table,address,type,length,scale,role,roll\n",
-    )?;
+    let mut text = String::from_str(alloc, HEADER)?;
     for number in 0..POINTS {
-        let device = number % DEVICES;
-        let address = number / DEVICES * 2;
-        let record = format!(in alloc;
-            "meter-{device}.energy-{number},meter-{device},holding,{address},acc32,2,-1,counter,\n"
+        let (device, address) = (number % DEVICES, number / DEVICES * 2);
+        write!(
+            text,
+            "meter-{device}.energy-{number},meter-{device},holding,{address}"
         )?;
-        text.push_str(record.as_str())?;
+        writeln!(text, ",acc32,2,-1,counter,")?;
     }
     Ok(text)
 }
 
-fn measure_list<R: Print + Clock + AllocGlobal>(rt: &R, site: &Site, text: &str) -> io::Result<()> {
-    let start = Instant::now(rt)?;
-    let rows = match read_list(rt.alloc(), text.as_bytes(), site) {
-        Ok(rows) => rows.len(),
-        Err(e) => return println!(rt; "the list was refused: {e}"),
-    };
-    let took = start.elapsed(rt)?;
-    println!(rt; "{rows} points read in {} us", took.as_micros())?;
+fn measure_list(rt: &HostRuntime, site: &Site, text: &str) -> io::Result<()> {
+    let (rows, took) = timed!(rt, read_list(rt.alloc(), text.as_bytes(), site));
+    let (rows, micros) = (granted(rows.ok())?.len(), took.as_micros());
+    println!(rt; "{rows} points read in {micros} us")?;
     print_each(rt, "point of a list", POINTS, took)
 }
 
-// The calls of an office stand in functions that promise nothing of them: a measure needs nothing.
-
-fn begun(alloc: Global, site: Site) -> Result<Office<MemKeeper>, OfficeError>
-    requires { IsSound site }
-{
-    Office::new(alloc, MemKeeper::new(alloc), site).map_err(|(error, _)| error)
-}
-
-fn load(
-    office: &mut Office<MemKeeper>,
-    key: &str,
-    text: &str,
-) -> Option<Result<RequestAnswer, OfficeError>> {
-    let caller = Caller::new("bench")?;
-    let key = Key::new(key)?;
-    Some(office.load(&caller, &key, text.as_bytes()))
-}
-
 /// Loads the list into an office that knows none of its points, and once more where it knows them all.
-fn measure_loads<R: Print + Clock>(
-    rt: &R,
-    office: &mut Office<MemKeeper>,
-    text: &str,
-) -> io::Result<()> {
+fn measure_loads(rt: &HostRuntime, office: &mut Office<MemKeeper>, text: &str) -> io::Result<()> {
     for (known, key) in [(0, "first"), (POINTS, "second")] {
-        let start = Instant::now(rt)?;
-        let outcome = load(office, key, text);
-        let took = start.elapsed(rt)?;
-        println!(rt;
-            "loaded over {known} known points in {} us: {outcome:?}",
-            took.as_micros()
-        )?;
+        let (outcome, took) = timed!(rt, load(office, key, text));
+        let micros = took.as_micros();
+        println!(rt; "loaded over {known} known points in {micros} us: {outcome:?}")?;
     }
     Ok(())
 }
 
-pub fn measure<R: Print + Clock + AllocGlobal>(rt: &R) -> io::Result<()> {
+pub fn lists(rt: &HostRuntime) -> io::Result<()> {
     let text = site_text(rt.alloc())?;
-    let start = Instant::now(rt)?;
-    let site = match read_site(rt.alloc(), text.as_bytes()) {
-        Ok(site) => site,
-        Err(e) => return println!(rt; "the site was refused: {e}"),
-    };
-    let took = start.elapsed(rt)?;
-    println!(rt;
-        "a site of {LINES} lines and {DEVICES} devices read in {} us",
-        took.as_micros()
-    )?;
+    let (site, took) = timed!(rt, site(rt.alloc(), text.as_str()));
+    let (site, micros) = (granted(site)?, took.as_micros());
+    println!(rt; "a site of {LINES} lines and {DEVICES} devices read in {micros} us")?;
     let list = list_text(rt.alloc())?;
     measure_list(rt, &site, list.as_str())?;
-    match begun(rt.alloc(), site) {
-        Ok(mut office) => measure_loads(rt, &mut office, list.as_str()),
-        Err(error) => println!(rt; "no office: {error}"),
+    let mut office = granted(begun(rt.alloc(), MemKeeper::new(rt.alloc()), site))?;
+    measure_loads(rt, &mut office, list.as_str())
+}
+
+fn point(address: u32, kind: PointType) -> Option<Point> {
+    Some(Point {
+        name: Name::new(b"energy")?,
+        device: Label::new(b"meter")?,
+        table: Table::Holding,
+        address: u16::try_from(address).ok()?,
+        kind,
+        scale: 0,
+        role: Role::Gauge,
+        roll: 0,
+    })
+}
+
+/// A point of two registers, in no order with the others, with gaps of four between them.
+fn spread(number: u32) -> Option<Point> {
+    point(number.wrapping_mul(7919) % POINTS * 6, PointType::Uint32)
+}
+
+/// Strings of 125 registers at 125 addresses, and points of one register at the same.
+fn nested(number: u32) -> Option<Point> {
+    let kind = if number < 125 {
+        PointType::Str(125)
+    } else {
+        PointType::Uint16
+    };
+    point(number % 125, kind)
+}
+
+fn measure_plan(rt: &HostRuntime, what: &str, points: &[Point]) -> io::Result<()> {
+    if !points.iter().all(|point| can_be_read(point)) {
+        return println!(rt; "{what}: not planned");
     }
+    let (reads, took) = timed!(rt, plan(rt.alloc(), points, 8)?);
+    println!(rt; "{what}: {} reads in {} us", reads.len(), took.as_micros())?;
+    print_each(rt, what, POINTS, took)
+}
+
+pub fn plans(rt: &HostRuntime) -> io::Result<()> {
+    let points: Vec<Point> = (0..POINTS).filter_map(spread).collect(rt.alloc())?;
+    measure_plan(rt, "points spread out", points.as_slice())?;
+    let points: Vec<Point> = (0..POINTS).filter_map(nested).collect(rt.alloc())?;
+    measure_plan(rt, "points inside strings", points.as_slice())
 }

@@ -7,23 +7,18 @@
 //! are left there. Without words the program ends at once and prints nothing.
 #![tactic(auto)]
 
+use crate::store::Place;
 use anyhow::{Result, bail};
 use std::env;
 
-mod frames;
 mod lists;
-mod map;
+mod modbus;
 mod office;
-mod opening;
-mod orders;
 mod pace;
-mod plans;
 mod polling;
 mod script;
 mod serving;
 mod store;
-mod units;
-mod waiting;
 
 const WORDS: &str =
     "units frames map lists plans office orders store store-pages store-file waiting serve poll-file open-file script script-1000";
@@ -31,20 +26,22 @@ const WORDS: &str =
 fn main(rt: HostRuntime) -> Result<()> {
     for word in env::args(&rt)?.skip(1) {
         match word.as_str() {
-            "units" => units::measure(&rt)?,
-            "frames" => frames::measure(&rt)?,
-            "map" => map::measure(&rt)?,
-            "lists" => lists::measure(&rt)?,
-            "plans" => plans::measure(&rt)?,
-            "office" => office::measure(&rt)?,
-            "orders" => orders::measure(&rt)?,
-            "store" => store::measure(&rt)?,
-            "store-pages" => store::measure_pages(&rt)?,
-            "store-file" => store::measure_file(&rt)?,
-            "waiting" => waiting::measure(&rt)?,
+            "units" => modbus::units(&rt)?,
+            "frames" => modbus::frames(&rt)?,
+            "map" => modbus::map(&rt)?,
+            "lists" => lists::lists(&rt)?,
+            "plans" => lists::plans(&rt)?,
+            "office" => office::readings(&rt)?,
+            "orders" => office::orders(&rt)?,
+            "store" => store::look_ups(&rt, Place::Memory, Place::Memory)?,
+            "store-pages" => store::look_ups(&rt, Place::Pages, Place::Pages)?,
+            "store-file" => {
+                store::look_ups(&rt, Place::File("bench-10.db"), Place::File("bench-100.db"))?;
+            }
+            "waiting" => store::searches(&rt)?,
             "serve" => serving::measure(&rt)?,
-            "poll-file" => polling::measure(&rt)?,
-            "open-file" => opening::measure(&rt)?,
+            "poll-file" => store::polling(&rt)?,
+            "open-file" => store::opening(&rt)?,
             "script" => script::write(&rt, 100)?,
             "script-1000" => script::write(&rt, 1_000)?,
             other => bail!("no measure '{other}'; there are: {WORDS}"),

@@ -1,140 +1,205 @@
-//! Keeping readings: replies of 125 registers, slot after slot of 1,000 points.
-ghost use Rattle.std.specs.Prelude.{IfOk};
+//! Keeping readings, replies of 125 registers, slot after slot of 1,000 points; and orders under different
+//! keys, each of them sent and settled by its echo.
+ghost use Rattle.std.specs.Prelude.{IfSome};
 ghost use Rattle.point_list.specs.Sites.{IsSound};
 
-use crate::pace::print_each;
+use crate::modbus::reply_bytes;
+use crate::pace::{granted, print_each, timed};
 use mb_mbap::Frame;
 use mb_pdu::{Span, Unit};
-use office_core::{Office, OfficeError};
+use office_core::{Office, OfficeError, RequestAnswer};
 use point_list::{Site, read_site};
-use poll_book::{Caller, Keeper, Key, MemKeeper, StoreFault};
+use poll_book::{Caller, Keeper, Key, MemKeeper, OrderState};
+use poll_match::Conn;
 use read_planner::Read;
 use std::alloc::{AllocError, Global};
 use std::io;
-use std::rt::Clock;
-use std::time::{Duration, Instant};
+
+pub const HEADER: &str = "name,device,table,address,type,length,scale,role,roll\n";
 
 pub const POINTS: u32 = 1_000;
 
 const SITE: &str =
     "[[line]]\nname = \"roof\"\naddress = \"127.0.0.1:1502\"\n[[device]]\nname = \"m1\"\nline = \"roof\"\nunit = 17\ngap = 8\n";
 
-fn site(alloc: Global) -> Result<Site, OfficeError>
-    ensures { IfOk result (λ site. IsSound site) }
+// The calls of an office stand in functions that promise nothing of them: a measure needs nothing.
+
+pub fn site(alloc: Global, text: &str) -> Option<Site>
+    ensures { IfSome result (λ site. IsSound site) }
 {
-    match read_site(alloc, SITE.as_bytes()) {
-        Ok(site) => Ok(site),
-        Err(_) => Err(OfficeError::Store(StoreFault::Memory)),
-    }
+    read_site(alloc, text.as_bytes()).ok()
 }
 
-/// Counters of one register at the addresses from 0.
-fn list_text(alloc: Global) -> Result<String, AllocError> {
-    let mut text = String::from_str(
-        alloc,
-        "name,device,table,address,type,length,scale,role,roll\n",
-    )?;
+/// An office over what a keeper has.
+pub fn begun<K: Keeper + Drop>(alloc: Global, keeper: K, site: Site) -> Option<Office<K>>
+    requires { IsSound site }
+{
+    Office::new(alloc, keeper, site).ok()
+}
+
+/// An office of the roof.
+pub fn opened<K: Keeper + Drop>(alloc: Global, keeper: K) -> Option<Office<K>> {
+    begun(alloc, keeper, site(alloc, SITE)?)
+}
+
+/// What becomes of a list.
+pub fn load<K: Keeper>(
+    office: &mut Office<K>,
+    key: &str,
+    list: &str,
+) -> Option<Result<RequestAnswer, OfficeError>> {
+    Some(office.load(&Caller::new("bench")?, &Key::new(key)?, list.as_bytes()))
+}
+
+/// An office of the roof that knows the points of a list, its caller's first.
+pub fn loaded<K: Keeper + Drop>(alloc: Global, keeper: K, list: &str) -> Option<Office<K>> {
+    let mut office = opened(alloc, keeper)?;
+    load(&mut office, "list", list)?.ok()?;
+    Some(office)
+}
+
+/// Counters of one register: so many of them from address 0, and so many from each other multiple of the
+/// stride.
+pub fn counters(alloc: Global, quantity: u32, stride: u32) -> Result<String, AllocError> {
+    let mut text = String::from_str(alloc, HEADER)?;
     for number in 0..POINTS {
-        let record = format!(in alloc;
-            "m1.energy-{number},m1,holding,{number},uint16,,,counter,\n"
+        let block = number / quantity.max(1);
+        let address = block
+            .wrapping_mul(stride)
+            .wrapping_add(number % quantity.max(1));
+        writeln!(
+            text,
+            "m1.energy-{number},m1,holding,{address},uint16,,,counter,"
         )?;
-        text.push_str(record.as_str())?;
     }
     Ok(text)
 }
 
-/// An office of the roof over what a keeper has.
-pub fn opened<K: Keeper + Drop>(alloc: Global, keeper: K) -> Result<Office<K>, OfficeError> {
-    match Office::new(alloc, keeper, site(alloc)?) {
-        Ok(office) => Ok(office),
-        Err((error, _)) => Err(error),
-    }
+/// Asks for registers in a slot, and brings this reply.
+fn poll_one<K: Keeper>(
+    office: &mut Office<K>,
+    conn: Conn,
+    slot: u32,
+    span: Span,
+    unit: &Unit,
+) -> Result<(), OfficeError> {
+    let sent = office.ask(conn, "m1", slot, Read { function: 3, span })?;
+    let reply = Frame {
+        transaction: sent.transaction,
+        unit_id: sent.unit_id,
+        unit: unit.clone()?,
+    };
+    office.arrive(conn, &reply)?;
+    Ok(())
 }
 
-/// An office of the roof that knows the points of a list, its caller's first.
-pub fn loaded<K: Keeper + Drop>(
-    alloc: Global,
-    keeper: K,
-    list: &str,
-) -> Result<Office<K>, OfficeError> {
-    let mut office = opened(alloc, keeper)?;
-    if let Some(caller) = Caller::new("bench")
-        && let Some(key) = Key::new("list")
-    {
-        office.load(&caller, &key, list.as_bytes())?;
-    }
-    Ok(office)
-}
-
-fn counters<K: Keeper + Drop>(alloc: Global, keeper: K) -> Result<Office<K>, OfficeError> {
-    let text = list_text(alloc)?;
-    loaded(alloc, keeper, text.as_str())
-}
-
-/// Asks for all points in each of so many slots, and brings each reply.
-fn poll<K: Keeper>(office: &mut Office<K>, slots: u32, unit: &Unit) -> Result<(), OfficeError> {
+/// Asks for these registers in each of so many slots, and brings the same reply each time.
+pub fn poll<K: Keeper>(
+    office: &mut Office<K>,
+    slots: u32,
+    spans: &[Span],
+    unit: &Unit,
+) -> Result<(), OfficeError> {
     let conn = office.open_line("roof")?;
     for slot in 0..slots {
-        for start in [0, 125, 250, 375, 500, 625, 750, 875] {
-            let span = Span {
-                start,
-                quantity: 125,
-            };
-            let sent = office.ask(conn, "m1", slot, Read { function: 3, span })?;
-            let reply = Frame {
-                transaction: sent.transaction,
-                unit_id: sent.unit_id,
-                unit: unit.clone()?,
-            };
-            office.arrive(conn, &reply)?;
+        for span in spans {
+            poll_one(office, conn, slot, *span, unit)?;
         }
     }
     Ok(())
 }
 
-/// How long the readings of so many slots take over an empty keeper, and the keeper that has them;
-/// `None` where one was refused.
-pub fn filled<R: Clock + AllocGlobal, K: Keeper + Drop>(
-    rt: &R,
-    keeper: K,
-    slots: u32,
-) -> io::Result<Option<(Duration, K)>> {
-    let mut answer = [7u8; 252];
-    answer[0] = 3;
-    answer[1] = 250;
-    let Some(unit) = Unit::from_bytes(&answer) else {
-        return Ok(None);
-    };
-    let Ok(mut office) = counters(rt.alloc(), keeper) else {
-        return Ok(None);
-    };
-    let start = Instant::now(rt)?;
-    let polled = poll(&mut office, slots, &unit);
-    let took = start.elapsed(rt)?;
-    let kept = match office.readings("m1.energy-999", 0, u32::MAX) {
-        Ok(Some(rows)) => rows.len() as u64 == slots as u64,
-        _ => false,
-    };
-    Ok(if polled.is_ok() && kept {
-        Some((took, office.into_keeper()))
-    } else {
-        None
-    })
+/// Polls all counters, of which the last has a reading in each slot then; `None` where one was refused.
+fn poll_all<K: Keeper>(office: &mut Office<K>, slots: u32) -> Option<()> {
+    let spans = [0, 125, 250, 375, 500, 625, 750, 875].map(|start| Span {
+        start,
+        quantity: 125,
+    });
+    poll(office, slots, &spans, &Unit::from_bytes(&reply_bytes())?).ok()?;
+    let rows = office.readings("m1.energy-999", 0, u32::MAX).ok()??;
+    (rows.len() as u64 == slots as u64).then_some(())
 }
 
-pub fn measure<R: Print + Clock + AllocGlobal>(rt: &R) -> io::Result<()> {
-    let mut first = None;
+const SETTING: &str =
+    "name,device,table,address,type,length,scale,role,roll\nlim,m1,holding,40,uint16,,,setting,\n";
+
+/// The order of this number under a key of its own: it is ordered, sent, and its echo comes.
+fn carry_out<K: Keeper>(
+    alloc: Global,
+    office: &mut Office<K>,
+    conn: Conn,
+    number: u32,
+) -> Option<()> {
+    let name = format!(in alloc; "k{number}").ok()?;
+    let (caller, key) = (Caller::new("bench")?, Key::new(name.as_str())?);
+    office.order(&caller, &key, "lim", 80).ok()?;
+    // A device answers the write of one register by the same frame.
+    let sent = office.send_order(conn, number).ok()?;
+    office.arrive(conn, &sent).ok()?;
+    Some(())
+}
+
+fn carry_out_all<K: Keeper>(alloc: Global, office: &mut Office<K>, count: u32) -> Option<()> {
+    let conn = office.open_line("roof").ok()?;
+    for before in 0..count {
+        carry_out(alloc, office, conn, before + 1)?;
+    }
+    let last = office.order_state(count).ok()??;
+    (last == OrderState::Done).then_some(())
+}
+
+/// What an office is used for: readings of so many slots, or so many orders.
+#[derive(Clone, Copy)]
+pub enum Work {
+    Slots(u32),
+    Orders(u32),
+}
+
+impl Work {
+    /// The list of its points.
+    fn list(self, alloc: Global) -> Result<String, AllocError> {
+        match self {
+            Work::Slots(_) => counters(alloc, 125, 125),
+            Work::Orders(_) => String::from_str(alloc, SETTING),
+        }
+    }
+
+    fn done<K: Keeper>(self, alloc: Global, office: &mut Office<K>) -> Option<()> {
+        match self {
+            Work::Slots(slots) => poll_all(office, slots),
+            Work::Orders(count) => carry_out_all(alloc, office, count),
+        }
+    }
+
+    /// Prints how long it takes over an empty keeper, for each of what it is called, and gives the keeper.
+    pub fn measured<K: Keeper + Drop>(self, rt: &HostRuntime, keeper: K) -> io::Result<K> {
+        let list = self.list(rt.alloc())?;
+        let mut office = granted(loaded(rt.alloc(), keeper, list.as_str()))?;
+        let (done, took) = timed!(rt, self.done(rt.alloc(), &mut office));
+        granted(done)?;
+        match self {
+            Work::Slots(slots) => print_each(rt, "reading", POINTS.wrapping_mul(slots), took)?,
+            Work::Orders(count) => print_each(
+                rt,
+                "event of an order",
+                count.wrapping_mul(3),
+                took,
+            )?,
+        }
+        Ok(office.into_keeper())
+    }
+}
+
+pub fn readings(rt: &HostRuntime) -> io::Result<()> {
     for slots in [10u32, 100, 1_000] {
-        let Some((took, _)) = filled(rt, MemKeeper::new(rt.alloc()), slots)? else {
-            return println!(rt; "the office refused");
-        };
-        let count = POINTS.wrapping_mul(slots);
-        print_each(rt, "reading kept", count, took)?;
-        let nanos = took.as_nanos() / u128::from(count.max(1));
-        let base = first.unwrap_or(nanos);
-        first = Some(base);
-        let percent = nanos.saturating_mul(100) / base.max(1);
-        println!(rt; "{count} readings: {percent}% of the time each of the first")?;
+        Work::Slots(slots).measured(rt, MemKeeper::new(rt.alloc()))?;
+    }
+    Ok(())
+}
+
+pub fn orders(rt: &HostRuntime) -> io::Result<()> {
+    for count in [10_000u32, 100_000] {
+        Work::Orders(count).measured(rt, MemKeeper::new(rt.alloc()))?;
     }
     Ok(())
 }

@@ -1,90 +1,37 @@
-//! Polling 1,000 points in 10 reads, beside a simulator, over an office in a file.
-use crate::office::loaded;
-use crate::store::in_file;
-use mb_map::{MapError, Mapping, Sim};
+//! Polling 1,000 points in 10 reads, beside a simulated device, over an office in a file.
+use crate::modbus::answer;
+use crate::office::{counters, loaded};
+use crate::pace::{granted, timed};
+use mb_map::Mapping;
 use mb_mbap::{Counted, Frame};
-use mb_pdu::{Request, Span};
+use mb_pdu::Unit;
 use office_core::Office;
 use office_net::{PollFault, Round, poll_round};
 use poll_book::Keeper;
 use std::alloc::{AllocError, Global};
 use std::io;
-use std::time::Instant;
-
-const POINTS: u16 = 1_000;
+use std::time::Duration;
 
 /// So many reads, each of so many registers.
 const BLOCKS: u16 = 10;
 
-const QUANTITY: u16 = 100;
+const QUANTITY: u8 = 100;
 
 /// From the beginning of a block to that of the next, too far for one read of both.
 const STRIDE: u16 = 1_000;
 
-/// So many registers hold all blocks.
-const REGISTERS: u32 = 10_000;
-
-/// Counters of one register, block after block.
-fn list_text(alloc: Global) -> Result<String, AllocError> {
-    let mut text = String::from_str(
-        alloc,
-        "name,device,table,address,type,length,scale,role,roll\n",
-    )?;
-    for number in 0..POINTS {
-        let block = number / QUANTITY;
-        let address = block.wrapping_mul(STRIDE).wrapping_add(number % QUANTITY);
-        writeln!(
-            text,
-            "m1.energy-{number},m1,holding,{address},uint16,,,counter,"
-        )?;
-    }
-    Ok(text)
-}
-
-/// The device, whose registers all blocks lie in.
-fn sim(alloc: Global) -> Result<Sim, MapError> {
-    let mapping = Mapping::new(alloc, 0, 0, REGISTERS, 0)?;
-    let mut devices = Vec::new(alloc);
-    if devices.push((17, mapping)).is_err() {
-        return Err(MapError::Memory);
-    }
-    let script = Vec::new(alloc);
-    if !Sim::can_begin(devices.as_slice(), script.as_slice()) {
-        return Err(MapError::BadImage);
-    }
-    Ok(Sim::new(alloc, devices, script))
-}
-
-/// The query of a block, the connection's query of this number.
-fn query(block: u16) -> Option<Frame> {
-    let request = Request::ReadHolding(Span {
-        start: block.wrapping_mul(STRIDE),
-        quantity: QUANTITY,
-    });
-    if !request.is_valid() {
-        return None;
-    }
-    Some(Frame {
-        transaction: block,
-        unit_id: 17,
-        unit: request.encode(),
-    })
-}
-
-/// Adds what the device answers to a query.
-fn push_replies(bytes: &mut Vec<u8>, sim: &mut Sim, query: &Frame) -> Result<(), MapError> {
-    for reply in &sim.take(query)? {
-        bytes.extend_from_slice(reply.encode().as_bytes())?;
-    }
-    Ok(())
-}
-
 /// What the device answers to the queries of a new connection.
-fn answered(alloc: Global, sim: &mut Sim) -> Result<Vec<u8>, MapError> {
+fn answered(alloc: Global, mapping: &mut Mapping) -> Result<Vec<u8>, AllocError> {
     let mut bytes = Vec::new(alloc);
     for block in 0..BLOCKS {
-        if let Some(query) = query(block) {
-            push_replies(&mut bytes, sim, &query)?;
+        let [high, low] = block.wrapping_mul(STRIDE).to_be_bytes();
+        if let Some(query) = Unit::from_bytes(&[3, high, low, 0, QUANTITY]) {
+            let reply = Frame {
+                transaction: block,
+                unit_id: 17,
+                unit: answer(mapping, &query),
+            };
+            bytes.extend_from_slice(reply.encode().as_bytes())?;
         }
     }
     Ok(bytes)
@@ -94,10 +41,10 @@ fn answered(alloc: Global, sim: &mut Sim) -> Result<Vec<u8>, MapError> {
 fn poll<K: Keeper>(
     alloc: Global,
     office: &mut Office<K>,
-    sim: &mut Sim,
+    mapping: &mut Mapping,
     slot: u32,
 ) -> Result<Round, PollFault> {
-    let Ok(bytes) = answered(alloc, sim) else {
+    let Ok(bytes) = answered(alloc, mapping) else {
         return Err(PollFault::Memory);
     };
     let conn = office.open_line("roof")?;
@@ -106,45 +53,26 @@ fn poll<K: Keeper>(
     poll_round(alloc, office, conn, slot, &mut reader, &mut writer)
 }
 
-/// Prints how long a round of a slot takes with its connection.
 fn measure_round<K: Keeper>(
     rt: &HostRuntime,
     office: &mut Office<K>,
-    sim: &mut Sim,
+    mapping: &mut Mapping,
     slot: u32,
-) -> io::Result<()> {
-    let start = Instant::now(rt)?;
-    let round = poll(rt.alloc(), office, sim, slot);
-    let took = start.elapsed(rt)?;
-    match round {
-        Ok(round) => println!(rt;
-            "slot {slot} polled in {} ms: {} reads gave {} readings",
-            took.as_millis(),
-            round.asked,
-            round.recorded
-        ),
-        Err(fault) => println!(rt; "slot {slot} wasn't polled: {fault:?}"),
-    }
+) -> io::Result<Duration> {
+    let (round, took) = timed!(rt, poll(rt.alloc(), office, mapping, slot));
+    let (round, millis) = (granted(round.ok())?, took.as_millis());
+    let (asked, recorded) = (round.asked, round.recorded);
+    println!(rt; "slot {slot} polled in {millis} ms: {asked} reads gave {recorded} readings")?;
+    Ok(took)
 }
 
-/// Prints how long a round of each of two slots takes over an empty keeper.
-fn measure_over<K: Keeper + Drop>(rt: &HostRuntime, keeper: Option<K>) -> io::Result<()> {
-    let alloc = rt.alloc();
-    let Some(keeper) = keeper else {
-        return println!(rt; "the store refused");
-    };
-    let list = list_text(alloc)?;
-    let Ok(mut office) = loaded(alloc, keeper, list.as_str()) else {
-        return println!(rt; "the office refused");
-    };
-    let Ok(mut sim) = sim(alloc) else {
-        return println!(rt; "no memory for a device");
-    };
-    measure_round(rt, &mut office, &mut sim, 1)?;
-    measure_round(rt, &mut office, &mut sim, 2)
-}
-
-/// Over a new file, which flushes once a commit.
-pub fn measure(rt: &HostRuntime) -> io::Result<()> {
-    measure_over(rt, in_file(rt, "bench-poll.db"))
+/// Prints how long a round of each of two slots takes over an empty keeper, each with its connection, and
+/// tells the last.
+pub fn measure<K: Keeper + Drop>(rt: &HostRuntime, keeper: K) -> io::Result<Duration> {
+    let list = counters(rt.alloc(), u32::from(QUANTITY), u32::from(STRIDE))?;
+    // So many registers hold all blocks.
+    let mut mapping = granted(Mapping::new(rt.alloc(), 0, 0, 10_000, 0).ok())?;
+    let mut office = granted(loaded(rt.alloc(), keeper, list.as_str()))?;
+    measure_round(rt, &mut office, &mut mapping, 1)?;
+    measure_round(rt, &mut office, &mut mapping, 2)
 }

@@ -1,17 +1,15 @@
 //! Requests over sockets on 127.0.0.1, a connection each. Both ends are in this process, and take
 //! their turns one after the other, over an office in memory.
-use crate::office::loaded;
-use crate::pace::print_each;
-use mb_mbap::{Counted, Frame};
+use crate::office::{loaded, poll};
+use crate::pace::{granted, print_each, timed};
+use mb_mbap::Counted;
 use mb_pdu::{Span, Unit};
-use office_core::{Office, OfficeError};
+use office_core::Office;
 use office_net::serve_one;
 use poll_book::{Keeper, MemKeeper};
-use read_planner::Read;
 use std::alloc::{AllocError, Global};
 use std::io::{self, Write};
 use std::net::{SocketAddr, TcpListener, TcpStream};
-use std::time::Instant;
 
 const TOTALS: u32 = 20_000;
 
@@ -49,32 +47,16 @@ fn is_done(asked: Asked, answer: &str) -> bool {
     }
 }
 
-/// Reads the counter in each slot.
-fn poll<K: Keeper>(office: &mut Office<K>, unit: &Unit) -> Result<(), OfficeError> {
-    let conn = office.open_line("roof")?;
-    for slot in 0..SLOTS {
-        let span = Span {
-            start: 107,
-            quantity: 1,
-        };
-        let sent = office.ask(conn, "m1", slot, Read { function: 3, span })?;
-        let reply = Frame {
-            transaction: sent.transaction,
-            unit_id: sent.unit_id,
-            unit: unit.clone()?,
-        };
-        office.arrive(conn, &reply)?;
-    }
-    Ok(())
-}
-
 /// An office of a counter with readings, and a setting.
-fn office_of(alloc: Global) -> Result<Office<MemKeeper>, OfficeError> {
+fn office_of(alloc: Global) -> Option<Office<MemKeeper>> {
     let mut office = loaded(alloc, MemKeeper::new(alloc), LIST)?;
-    if let Some(unit) = Unit::from_bytes(&[3, 2, 0, 80]) {
-        poll(&mut office, &unit)?;
-    }
-    Ok(office)
+    let span = Span {
+        start: 107,
+        quantity: 1,
+    };
+    let unit = Unit::from_bytes(&[3, 2, 0, 80])?;
+    poll(&mut office, SLOTS, &[span], &unit).ok()?;
+    Some(office)
 }
 
 /// Answers what was asked for over a connection, and closes it.
@@ -100,47 +82,27 @@ fn exchange<K: Keeper>(
     io::read_to_string(rt.alloc(), &caller)
 }
 
-/// Makes so many requests, and counts those that are done.
+/// Makes so many requests, which are all done.
 fn exchange_all<K: Keeper>(
     rt: &HostRuntime,
     office: &mut Office<K>,
-    count: u32,
     asked: Asked,
-) -> io::Result<u32> {
+    count: u32,
+) -> io::Result<()> {
     let listener = TcpListener::bind(rt, ("127.0.0.1", 0u16))?;
     let address = listener.local_addr()?;
-    let mut done = 0u32;
     for number in 0..count {
         let request = request_text(rt.alloc(), asked, number)?;
         let answer = exchange(rt, office, &listener, address, request.as_str())?;
-        if is_done(asked, answer.as_str()) {
-            done = done.wrapping_add(1);
-        }
+        granted(is_done(asked, answer.as_str()).then_some(()))?;
     }
-    Ok(done)
-}
-
-/// Prints how long so many requests take.
-fn measure_requests(
-    rt: &HostRuntime,
-    office: &mut Office<MemKeeper>,
-    what: &str,
-    count: u32,
-    asked: Asked,
-) -> io::Result<()> {
-    let start = Instant::now(rt)?;
-    let done = exchange_all(rt, office, count, asked)?;
-    let took = start.elapsed(rt)?;
-    if done != count {
-        return println!(rt; "the office refused");
-    }
-    print_each(rt, what, count, took)
+    Ok(())
 }
 
 pub fn measure(rt: &HostRuntime) -> io::Result<()> {
-    let Ok(mut office) = office_of(rt.alloc()) else {
-        return println!(rt; "the office refused");
-    };
-    measure_requests(rt, &mut office, "total served", TOTALS, Asked::Total)?;
-    measure_requests(rt, &mut office, "order served", ORDERS, Asked::Order)
+    let mut office = granted(office_of(rt.alloc()))?;
+    let ((), took) = timed!(rt, exchange_all(rt, &mut office, Asked::Total, TOTALS)?);
+    print_each(rt, "total served", TOTALS, took)?;
+    let ((), took) = timed!(rt, exchange_all(rt, &mut office, Asked::Order, ORDERS)?);
+    print_each(rt, "order served", ORDERS, took)
 }

@@ -1,18 +1,41 @@
-//! Keeping readings in a database: replies of 125 registers, slot after slot of 1,000 points, and
-//! look-ups among them by key.
-use crate::office::{POINTS, filled};
-use crate::pace::print_each;
+//! Offices over databases: keeping readings, slot after slot of 1,000 points, and look-ups among them by
+//! key; the oldest order that waits, where all orders are settled, searched for the first time, and then
+//! again; and opening an office in a file of 200,000 readings. What names a database's place opens it and
+//! does no more: a proof that carries its files is a dear one.
+use crate::office::{POINTS, Work, opened};
+use crate::pace::{granted, print_each, refused, timed};
+use crate::polling::measure;
 use office_store::{SqlKeeper, create};
 use poll_book::{Keeper, Neighbours, PointRow};
-use sqlite::{Alter, Connection, File, FileStore, Files, MemStore, Options};
+use sqlite::{Alter, Connection, Files, Options};
 use sqlite_disk::Memory;
-use std::alloc::Global;
-use std::io;
-use std::rt::Clock;
 use std::time::{Duration, Instant};
+use std::{fs, io};
 
-/// How often each point is looked up.
-const LOOKUPS: u32 = 10;
+/// Where a database lies.
+#[derive(Clone, Copy)]
+pub enum Place {
+    Memory,
+    /// Its files, a B-tree of pages and a log, lie in memory.
+    Pages,
+    /// In a file, which is flushed once a commit.
+    File(&'static str),
+}
+
+/// What is done with a database.
+#[derive(Drop)]
+pub enum Task {
+    /// Readings of so many slots are kept, and each point is looked up in some of them.
+    LookUp(u32),
+    /// So many orders are settled, and one that waits is searched for.
+    Search(u32),
+    /// Two rounds are polled.
+    Poll,
+    /// Readings of so many slots are kept.
+    Fill(u32),
+    /// An office opens. The database began to open at this time.
+    Open(Instant),
+}
 
 /// All pages stay in the cache.
 const PAGES: Options = Options {
@@ -22,20 +45,58 @@ const PAGES: Options = Options {
     seed: 7,
 };
 
-/// A keeper over a new database; `None` where it was refused.
-fn kept<S: Alter + Drop>(mut connection: Connection<S>) -> Option<SqlKeeper<S>> {
-    if !connection.is_autocommit() || create(&mut connection).is_err() {
+/// A database's keeper, over tables that are made first where they are asked for.
+fn kept<S: Alter + Drop>(mut connection: Connection<S>, is_new: bool) -> Option<SqlKeeper<S>> {
+    if is_new && (!connection.is_autocommit() || create(&mut connection).is_err()) {
         return None;
     }
     SqlKeeper::open(connection).ok()
 }
 
-pub fn in_memory(alloc: Global) -> Option<SqlKeeper<MemStore>> {
-    kept(Connection::open_in_memory(alloc).ok()?)
+fn done_over<S: Alter + Drop>(
+    rt: &HostRuntime,
+    connection: Connection<S>,
+    task: Task,
+) -> io::Result<Duration> {
+    let keeper = granted(kept(connection, !matches!(task, Task::Open(_))))?;
+    match task {
+        Task::LookUp(slots) => look_up(rt, keeper, slots),
+        Task::Search(count) => search(rt, keeper, count),
+        Task::Poll => measure(rt, keeper),
+        Task::Fill(slots) => {
+            let (_keeper, took) = timed!(rt, Work::Slots(slots).measured(rt, keeper)?);
+            Ok(took)
+        }
+        Task::Open(start) => open(rt, keeper, start),
+    }
 }
 
+/// Does something with a database, which is new but to be opened. Tells how long the last of it took.
+fn done_in(rt: &HostRuntime, place: Place, task: Task) -> io::Result<Duration> {
+    match place {
+        Place::Memory => done_over(rt, Connection::open_in_memory(rt.alloc())?, task),
+        Place::Pages => {
+            let files = Files {
+                log: Memory::new(rt.alloc()),
+                db: Memory::new(rt.alloc()),
+            };
+            match Connection::open_files(rt.alloc(), files, PAGES) {
+                Ok(connection) => done_over(rt, connection, task),
+                Err(_) => Err(refused()),
+            }
+        }
+        Place::File(path) => match Connection::open(rt, path) {
+            Ok(connection) => done_over(rt, connection, task),
+            Err(_) => Err(refused()),
+        },
+    }
+}
+
+/// How often each point is looked up.
+const LOOKUPS: u32 = 10;
+
 /// Looks each point up so often, in the slots from 0 on.
-fn look_up<K: Keeper>(keeper: &mut K, points: &[PointRow]) -> u32 {
+fn found<K: Keeper>(keeper: &mut K, points: &[PointRow]) -> u32 {
     let mut found = 0u32;
     for slot in 0..LOOKUPS {
         for point in points {
@@ -47,85 +108,85 @@ fn look_up<K: Keeper>(keeper: &mut K, points: &[PointRow]) -> u32 {
     found
 }
 
-/// Prints how long a look-up by key takes; `None` where one was refused or found nothing.
-fn measure_lookups<R: Print + Clock + AllocGlobal, K: Keeper>(
-    rt: &R,
-    keeper: &mut K,
-) -> io::Result<Option<Duration>> {
-    let Ok(points) = keeper.points(rt.alloc()) else {
-        return Ok(None);
-    };
-    let start = Instant::now(rt)?;
-    let found = look_up(keeper, points.as_slice());
-    let took = start.elapsed(rt)?;
+/// Prints how long the readings of so many slots take, and look-ups among them, and tells the latter.
+fn look_up<K: Keeper + Drop>(rt: &HostRuntime, keeper: K, slots: u32) -> io::Result<Duration> {
+    let mut keeper = Work::Slots(slots).measured(rt, keeper)?;
+    let points = granted(keeper.points(rt.alloc()).ok())?;
+    let (found, took) = timed!(rt, found(&mut keeper, points.as_slice()));
     let count = POINTS.wrapping_mul(LOOKUPS);
     print_each(rt, "look-up by key", count, took)?;
-    Ok(if found == count { Some(took) } else { None })
-}
-
-/// Prints how long the readings of so many slots take, and look-ups among them, and tells the latter;
-/// `None` where something was refused.
-fn measure_over<R: Print + Clock + AllocGlobal, S: Alter + Drop>(
-    rt: &R,
-    keeper: Option<SqlKeeper<S>>,
-    slots: u32,
-) -> io::Result<Option<Duration>> {
-    let Some(keeper) = keeper else {
-        return Ok(None);
-    };
-    let Some((took, mut keeper)) = filled(rt, keeper, slots)? else {
-        return Ok(None);
-    };
-    print_each(rt, "reading stored", POINTS.wrapping_mul(slots), took)?;
-    measure_lookups(rt, &mut keeper)
+    granted((found == count).then_some(took))
 }
 
 /// Prints how a look-up among ten times the readings compares.
-fn compare(rt: &impl Print, few: Option<Duration>, many: Option<Duration>) -> io::Result<()> {
-    let (Some(few), Some(many)) = (few, many) else {
-        return println!(rt; "the store refused");
-    };
+pub fn look_ups(rt: &HostRuntime, few: Place, many: Place) -> io::Result<()> {
+    let few = done_in(rt, few, Task::LookUp(10))?;
+    let many = done_in(rt, many, Task::LookUp(100))?;
     let percent = many.as_nanos().saturating_mul(100) / few.as_nanos().max(1);
     println!(rt; "a look-up among ten times the readings: {percent}% of the time")
 }
 
-/// Over a database in memory.
-pub fn measure<R: Print + Clock + AllocGlobal>(rt: &R) -> io::Result<()> {
-    let few = measure_over(rt, in_memory(rt.alloc()), 10)?;
-    let many = measure_over(rt, in_memory(rt.alloc()), 100)?;
-    compare(rt, few, many)
-}
+/// How often an order is searched for again.
+const AGAIN: u32 = 1_000;
 
-/// A keeper over a database whose files, a B-tree of pages and a log, lie in memory.
-fn in_pages(alloc: Global) -> Option<SqlKeeper<FileStore<Memory>>> {
-    let files = Files {
-        log: Memory::new(alloc),
-        db: Memory::new(alloc),
-    };
-    match Connection::open_files(alloc, files, PAGES) {
-        Ok(connection) => kept(connection),
-        Err(_) => None,
+/// Searches so often, and finds none.
+fn find_none<K: Keeper>(keeper: &mut K, times: u32) -> Option<()> {
+    for _ in 0..times {
+        if !matches!(keeper.oldest_waiting("m1"), Ok(None)) {
+            return None;
+        }
     }
+    Some(())
 }
 
-/// Over files in memory.
-pub fn measure_pages<R: Print + Clock + AllocGlobal>(rt: &R) -> io::Result<()> {
-    let few = measure_over(rt, in_pages(rt.alloc()), 10)?;
-    let many = measure_over(rt, in_pages(rt.alloc()), 100)?;
-    compare(rt, few, many)
+/// Prints how long so many orders take, and the searches of a keeper that has made none.
+fn search<S: Alter + Drop>(
+    rt: &HostRuntime,
+    keeper: SqlKeeper<S>,
+    count: u32,
+) -> io::Result<Duration> {
+    let keeper = Work::Orders(count).measured(rt, keeper)?;
+    let mut keeper = granted(kept(keeper.into_connection(), false))?;
+    let (first, took) = timed!(rt, find_none(&mut keeper, 1));
+    print_each(rt, "first search, for each settled order", count, took)?;
+    let (others, took) = timed!(rt, find_none(&mut keeper, AGAIN));
+    print_each(rt, "search again", AGAIN, took)?;
+    granted(first.and(others))?;
+    Ok(took)
 }
 
-/// A keeper over a new file; `None` where it was refused.
-pub fn in_file(rt: &HostRuntime, path: &str) -> Option<SqlKeeper<FileStore<File>>> {
-    match Connection::open(rt, path) {
-        Ok(connection) => kept(connection),
-        Err(_) => None,
+pub fn searches(rt: &HostRuntime) -> io::Result<()> {
+    for count in [1_000u32, 10_000] {
+        done_in(rt, Place::Memory, Task::Search(count))?;
     }
+    Ok(())
 }
 
-/// Over a file, which flushes once a commit.
-pub fn measure_file(rt: &HostRuntime) -> io::Result<()> {
-    let few = measure_over(rt, in_file(rt, "bench-10.db"), 10)?;
-    let many = measure_over(rt, in_file(rt, "bench-100.db"), 100)?;
-    compare(rt, few, many)
+/// Over a new file.
+pub fn polling(rt: &HostRuntime) -> io::Result<()> {
+    done_in(rt, Place::File("bench-poll.db"), Task::Poll)?;
+    Ok(())
+}
+
+/// Prints how long an office takes to open, with its database.
+fn open<K: Keeper + Drop>(rt: &HostRuntime, keeper: K, start: Instant) -> io::Result<Duration> {
+    let office = granted(opened(rt.alloc(), keeper))?;
+    let took = start.elapsed(rt)?;
+    let micros = took.as_micros();
+    println!(rt;
+        "an office of {} points opened in {micros} us",
+        office.points().len()
+    )?;
+    Ok(took)
+}
+
+const OPENED: &str = "bench-200.db";
+
+/// Over the file, which is made if there is none.
+pub fn opening(rt: &HostRuntime) -> io::Result<()> {
+    if !fs::exists(rt, OPENED)? {
+        done_in(rt, Place::File(OPENED), Task::Fill(200))?;
+    }
+    done_in(rt, Place::File(OPENED), Task::Open(Instant::now(rt)?))?;
+    Ok(())
 }

@@ -9,43 +9,6 @@ use std::alloc::Global;
 use std::test::Fail;
 use telling::{Trial, twice};
 
-/// Texts, and whether each names a caller and a key.
-const NAMES: &[(&str, bool, bool)] = &[
-    ("", false, false),
-    ("x", true, true),
-    ("A_z-9", true, true),
-    ("a.b", false, false),
-    ("abcdefghijklmnopqrstuvwxyz012345", true, true),
-    ("abcdefghijklmnopqrstuvwxyz0123456", false, true),
-    (
-        "abcdefghijklmnopqrstuvwxyz0123456789_-ABCDEFGHIJKLMNOPQRSTUVWXYZ",
-        false,
-        true,
-    ),
-    (
-        "abcdefghijklmnopqrstuvwxyz0123456789_-ABCDEFGHIJKLMNOPQRSTUVWXYZ0",
-        false,
-        false,
-    ),
-];
-
-fn names(trial: &Trial<'_>) -> Result<(), StoreFault> {
-    for (text, is_caller, is_key) in NAMES {
-        let (caller, key) = (Caller::new(text), Key::new(text));
-        let told = (
-            caller.is_some_and(|caller| caller.as_bytes() == text.as_bytes()),
-            key.is_some_and(|key| key.as_bytes() == text.as_bytes()),
-        );
-        trial.told(text, &told, &(*is_caller, *is_key));
-    }
-    Ok(())
-}
-
-#[test]
-fn callers_and_keys(rt: HostRuntime) -> Result<(), Fail> {
-    Ok(twice!(rt, names)?)
-}
-
 fn named(caller: &str, key: &str) -> Result<(Caller, Key), StoreFault> {
     match (Caller::new(caller), Key::new(key)) {
         (Some(caller), Some(key)) => Ok((caller, key)),

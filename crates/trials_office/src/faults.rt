@@ -3,9 +3,7 @@ use office_core::{Event, EventAnswer, Office, OfficeError};
 use office_plays::builders::{BARE, MEMORY, TWO, begun, events_of, office_over, shown};
 use office_plays::refusing::Refusing;
 use office_plays::steps::Happens::{self, Arrive, Ask, Load, Open, Order, Send};
-use office_plays::steps::{
-    answered, has_words, is_refused, opened, rows, state, take, take_happening, total,
-};
+use office_plays::steps::{answered, has_words, is_refused, opened, state, take, take_happening};
 use poll_book::StoreFault::{self, Disk, Full, Memory, Other};
 use poll_book::{MemKeeper, OrderState};
 use std::alloc::Global;
@@ -114,23 +112,16 @@ fn is_refused_once(
     }
 }
 
-/// An office of which nothing was refused, and which refuses the call after those.
-fn used_office(
-    alloc: Global,
-    events: &[Event],
-    at: u32,
-    fault: StoreFault,
-) -> Result<Office<Refusing>, OfficeError> {
-    let (mut office, _) = refusing_office(alloc, at, fault)?;
+fn answer_all(office: &mut Office<Refusing>, events: &[Event]) {
     for event in events {
-        let _ = answered(&mut office, event);
+        let _ = answered(office, event);
     }
-    Ok(office)
 }
 
 /// How many calls of a keeper the events make.
 fn calls(alloc: Global, events: &[Event]) -> Result<u32, OfficeError> {
-    let office = used_office(alloc, events, u32::MAX, Other)?;
+    let (mut office, _) = refusing_office(alloc, u32::MAX, Other)?;
+    answer_all(&mut office, events);
     Ok(office.into_keeper().calls)
 }
 
@@ -153,58 +144,6 @@ fn calls_refused(trial: &Trial<'_>) -> Result<(), OfficeError> {
 #[test]
 fn each_call_refused_once(rt: HostRuntime) -> Result<(), Fail> {
     Ok(twice!(rt, calls_refused)?)
-}
-
-/// Expects that a total is refused once, and then as if nothing had been.
-fn total_refused(
-    trial: &Trial<'_>,
-    office: &mut Office<Refusing>,
-    fault: StoreFault,
-) -> Result<(), OfficeError> {
-    if total(office, "e").err() != Some(OfficeError::Store(fault)) {
-        return Err(OfficeError::NoRead);
-    }
-    trial.told(&fault, &total(office, "e")?, &Some(65_534));
-    Ok(())
-}
-
-/// Expects that readings are refused once, and then as if nothing had been.
-fn rows_refused(
-    trial: &Trial<'_>,
-    office: &mut Office<Refusing>,
-    fault: StoreFault,
-) -> Result<(), OfficeError> {
-    if rows(office, "a", 0, 9).err() != Some(OfficeError::Store(fault)) {
-        return Err(OfficeError::NoRead);
-    }
-    trial.told(&fault, &has_words(office, "a", 4, &[1])?, &true);
-    trial.told(&fault, &has_words(office, "a", 5, &[555])?, &true);
-    Ok(())
-}
-
-/// The calls that only show.
-fn shows_refused(trial: &Trial<'_>) -> Result<(), OfficeError> {
-    let alloc = trial.alloc();
-    let events = events_of(alloc, HAPPENINGS)?;
-    let count = calls(alloc, &events)?;
-    for fault in [Memory, Disk] {
-        total_refused(
-            trial,
-            &mut used_office(alloc, &events, count, fault)?,
-            fault,
-        )?;
-        rows_refused(
-            trial,
-            &mut used_office(alloc, &events, count, fault)?,
-            fault,
-        )?;
-    }
-    Ok(())
-}
-
-#[test]
-fn shows_refused_once(rt: HostRuntime) -> Result<(), Fail> {
-    Ok(twice!(rt, shows_refused)?)
 }
 
 fn take_all(alloc: Global, office: &mut Office<MemKeeper>) -> Result<(), OfficeError> {

@@ -1,18 +1,12 @@
 //! Files without room, files of which one call fails, and files with a damaged byte, under the database
 //! of an office: what it still answers is right, and the rest is refused.
-ghost use Rattle.std.specs.Prelude.{IsTrue};
-
-use crate::disks::{Full, Once};
-use crate::files::{copied, files_below, new_tables, office_on};
-use crate::stops::POINTS;
-use office_core::{Event, EventAnswer, Office, OfficeError};
-use office_plays::builders::{MEMORY, events_of, office_over, shown};
+use crate::disks::{Failing, Which};
+use crate::plays::{POINTS, Playing, copied, done_on, new_tables, options};
+use office_core::OfficeError;
 use office_plays::steps::Happens::{self, Arrive, Ask, Load, Open, Order, Send};
-use office_plays::steps::{answered, is_refused, take};
-use poll_book::{Keeper, MemKeeper, StoreFault};
-use sqlite::{Files, Options};
-use sqlite_disk::{Disk, Memory, Rot};
-use std::alloc::Global;
+use poll_book::StoreFault;
+use sqlite::Files;
+use sqlite_disk::{Memory, Rot};
 use std::test::Fail;
 use telling::{Trial, twice};
 
@@ -28,173 +22,105 @@ const HAPPENINGS: &[Happens] = &[
     Order("k1", "lim", 80),
 ];
 
-/// One of the two files.
+/// What is wrong with a file.
 #[derive(Clone, Copy, Debug)]
-enum Which {
-    Log,
-    Db,
+enum Harm {
+    /// It has little room.
+    Room,
+    /// One of its calls fails.
+    Call,
+    /// One of its bytes is damaged.
+    Byte,
 }
 
-/// Few pages are kept in memory, so that most are read from the files, and the log is copied into the
-/// database file every few frames.
-const COPIED: Options = Options {
-    cache_pages: 1,
-    spill_pages: 1,
-    checkpoint_frames: 4,
-    seed: 7,
-};
+/// A file's room, the number of its call that fails, and the place of its damaged byte.
+type Limits = (usize, u64, usize);
 
-/// The log is never copied, and grows.
-const GROWING: Options = Options {
-    cache_pages: 1,
-    spill_pages: 1,
-    checkpoint_frames: 1_000,
-    seed: 7,
-};
+const SOUND: Limits = (usize::MAX, u64::MAX, usize::MAX);
 
-impl Which {
-    fn file(self, tables: &Files<Memory>) -> &Memory {
+impl Harm {
+    /// What is wrong with a file of so many bytes at a step: more and more room, each call, and a byte here
+    /// and there.
+    fn limits(self, step: usize, len: usize) -> Limits {
+        let (room, call, byte) = SOUND;
         match self {
-            Which::Log => &tables.log,
-            Which::Db => &tables.db,
+            Harm::Room => (len.saturating_add(step.saturating_mul(4096)), call, byte),
+            Harm::Call => (room, step as u64, byte),
+            Harm::Byte => (room, call, step.saturating_mul(2401)),
         }
     }
 
-    /// What holds of this file, and what of the other.
-    fn both<T: Copy>(self, it: T, other: T) -> (T, T) {
+    fn fault(self) -> StoreFault {
         match self {
-            Which::Log => (it, other),
-            Which::Db => (other, it),
+            Harm::Room => StoreFault::Full,
+            Harm::Call | Harm::Byte => StoreFault::Disk,
         }
     }
 }
 
-fn store_fault(answer: &EventAnswer) -> Option<StoreFault> {
-    match answer {
-        EventAnswer::Refused(OfficeError::Store(fault)) => Some(*fault),
-        _ => None,
-    }
-}
-
-/// The tables are the twin's, or can't be read.
-fn are_shown<K: Keeper>(
+/// How many events an office over harmed files refuses; `None` where a greater step harms nothing: with
+/// room for all, or where fewer calls were made.
+fn refused(
     trial: &Trial<'_>,
-    office: &mut Office<K>,
-    twin: &mut Office<MemKeeper>,
+    tables: &Files<Memory>,
+    (harm, which): (Harm, Which),
+    step: usize,
+) -> Result<Option<u32>, OfficeError> {
+    // A log that is to grow is never copied into the database file, else it is every few frames. Most pages
+    // are read from the files.
+    let (frames, len) = match (harm, which) {
+        (Harm::Room, Which::Log) => (1_000, tables.log.bytes().len()),
+        _ => (4, tables.db.bytes().len()),
+    };
+    let (log, db) = which.both(harm.limits(step, len), SOUND);
+    let log_file = Rot::new(copied(trial.alloc(), &tables.log)?, log.2);
+    let db_file = Rot::new(copied(trial.alloc(), &tables.db)?, db.2);
+    let files = Files {
+        log: Failing::new(log_file, log.0, log.1),
+        db: Failing::new(db_file, db.0, db.1),
+    };
+    let playing = Playing {
+        is_new: false,
+        happenings: HAPPENINGS,
+        fault: harm.fault(),
+    };
+    let (reached, files) = done_on(trial, files, options(1, frames), &playing)?;
+    let refused = reached.map(|reached| reached.refused);
+    let is_past = match harm {
+        Harm::Room => refused == Some(0),
+        Harm::Call => !files.log.has_failed() && !files.db.has_failed(),
+        Harm::Byte => false,
+    };
+    Ok(if is_past {
+        None
+    } else {
+        Some(refused.unwrap_or(0))
+    })
+}
+
+/// Step by step, until none harms or for so many, so many offices refuse something.
+fn are_refused(
+    trial: &Trial<'_>,
+    case: (Harm, Which),
+    steps: usize,
+    least: u32,
 ) -> Result<(), OfficeError> {
-    let tables = shown(trial.alloc(), twin)?;
-    match shown(trial.alloc(), office) {
-        Ok(told) => trial.told(&"tables", &told, &tables),
-        Err(error) if error == MEMORY => return Err(MEMORY),
-        Err(error) => {
-            trial.told(&"tables", &error, &OfficeError::Store(StoreFault::Disk));
+    let tables = new_tables(trial)?;
+    let mut offices = 0u32;
+    for step in 0..steps {
+        match refused(trial, &tables, case, step)? {
+            None => break,
+            Some(0) => {}
+            Some(_) => offices = offices.saturating_add(1),
         }
     }
+    trial.told(&(case, offices), &(offices >= least), &true);
     Ok(())
 }
 
-/// Takes an event as the twin does. What the store refuses the twin isn't told of, and then the tables
-/// are the twin's, or can't be read. Tells whether it was refused.
-fn take_as<K: Keeper>(
-    trial: &Trial<'_>,
-    office: &mut Office<K>,
-    twin: &mut Office<MemKeeper>,
-    event: &Event,
-    expected: StoreFault,
-) -> Result<bool, OfficeError> {
-    let answer = answered(office, event);
-    if is_refused(&answer, StoreFault::Memory) {
-        return Err(MEMORY);
-    }
-    let Some(fault) = store_fault(&answer) else {
-        trial.told(&expected, &answer, &take(twin, event)?);
-        return Ok(false);
-    };
-    are_shown(trial, office, twin)?;
-    let is_told = fault == expected || fault == StoreFault::Disk;
-    trial.told(&(expected, fault), &is_told, &true);
-    Ok(true)
-}
-
-/// Takes the events, and tells how many were refused.
-fn take_all_as<K: Keeper>(
-    trial: &Trial<'_>,
-    office: &mut Office<K>,
-    fault: StoreFault,
-) -> Result<u32, OfficeError> {
-    let mut twin = office_over(trial.alloc(), MemKeeper::new(trial.alloc()))?;
-    let mut refused = 0u32;
-    for event in &events_of(trial.alloc(), HAPPENINGS)? {
-        if take_as(trial, office, &mut twin, event, fault)? {
-            refused = refused.saturating_add(1);
-        }
-    }
-    are_shown(trial, office, &mut twin)?;
-    Ok(refused)
-}
-
-/// How many events an office over new tables in these files refuses, `None` where they refuse to be
-/// opened, and the files.
-fn refusals_over<D: Disk + Drop>(
-    trial: &Trial<'_>,
-    files: Files<D>,
-    options: Options,
-    fault: StoreFault,
-) -> Result<(Option<u32>, Files<D>), OfficeError>
-    requires log { IsTrue (D.Disk.is_usable files.log) }
-    requires db { IsTrue (D.Disk.is_usable files.db) }
-{
-    match office_on(trial.alloc(), files, options)? {
-        Ok(mut office) => {
-            let refused = take_all_as(trial, &mut office, fault)?;
-            Ok((Some(refused), files_below(office)))
-        }
-        Err(files) => Ok((None, files)),
-    }
-}
-
-/// How many events a file of so much room refuses; `None` where it can't be opened.
-fn refusals_in(
-    trial: &Trial<'_>,
-    tables: &Files<Memory>,
-    which: Which,
-    room: usize,
-) -> Result<Option<u32>, OfficeError> {
-    let (log, db) = which.both(room, usize::MAX);
-    let files = Files {
-        log: Full::new(copied(trial.alloc(), &tables.log)?, log),
-        db: Full::new(copied(trial.alloc(), &tables.db)?, db),
-    };
-    let options = match which {
-        Which::Log => GROWING,
-        Which::Db => COPIED,
-    };
-    let (refused, _files) = refusals_over(trial, files, options, StoreFault::Full)?;
-    Ok(refused)
-}
-
-/// More and more room, until nothing is refused, and so many offices were refused something.
-fn are_rooms(trial: &Trial<'_>, which: Which, least: u32) -> Result<(), OfficeError> {
-    let tables = new_tables(trial.alloc())?;
-    let room = which.file(&tables).bytes().len();
-    let mut offices = 0u32;
-    for step in 0..256usize {
-        let room = room.saturating_add(step.saturating_mul(4096));
-        match refusals_in(trial, &tables, which, room)? {
-            Some(0) => {
-                trial.told(&(which, offices), &(offices >= least), &true);
-                return Ok(());
-            }
-            Some(_) => offices = offices.saturating_add(1),
-            None => {}
-        }
-    }
-    Err(OfficeError::Exhausted)
-}
-
 fn rooms(trial: &Trial<'_>) -> Result<(), OfficeError> {
-    are_rooms(trial, Which::Log, 20)?;
-    are_rooms(trial, Which::Db, 5)
+    are_refused(trial, (Harm::Room, Which::Log), usize::MAX, 20)?;
+    are_refused(trial, (Harm::Room, Which::Db), usize::MAX, 5)
 }
 
 #[test]
@@ -202,44 +128,9 @@ fn files_without_room_refuse_and_stay(rt: HostRuntime) -> Result<(), Fail> {
     Ok(twice!(rt, rooms)?)
 }
 
-/// How many events are refused where this call of a file fails; `None` where it makes fewer calls.
-fn refusals_at(
-    trial: &Trial<'_>,
-    tables: &Files<Memory>,
-    which: Which,
-    call: u64,
-) -> Result<Option<u32>, OfficeError> {
-    let (log, db) = which.both(call, u64::MAX);
-    let files = Files {
-        log: Once::new(copied(trial.alloc(), &tables.log)?, log),
-        db: Once::new(copied(trial.alloc(), &tables.db)?, db),
-    };
-    let (refused, files) = refusals_over(trial, files, COPIED, StoreFault::Disk)?;
-    Ok(if files.log.has_failed() || files.db.has_failed() {
-        Some(refused.unwrap_or(0))
-    } else {
-        None
-    })
-}
-
-/// Each call fails, until a file makes no more, and so many offices were refused something.
-fn are_calls(trial: &Trial<'_>, which: Which, least: u32) -> Result<(), OfficeError> {
-    let tables = new_tables(trial.alloc())?;
-    let mut offices = 0u32;
-    for call in 0..u64::MAX {
-        match refusals_at(trial, &tables, which, call)? {
-            None => break,
-            Some(0) => {}
-            Some(_) => offices = offices.saturating_add(1),
-        }
-    }
-    trial.told(&(which, offices), &(offices >= least), &true);
-    Ok(())
-}
-
 fn calls(trial: &Trial<'_>) -> Result<(), OfficeError> {
-    are_calls(trial, Which::Log, 50)?;
-    are_calls(trial, Which::Db, 20)
+    are_refused(trial, (Harm::Call, Which::Log), usize::MAX, 50)?;
+    are_refused(trial, (Harm::Call, Which::Db), usize::MAX, 20)
 }
 
 #[test]
@@ -247,39 +138,9 @@ fn files_of_which_one_call_fails_refuse(rt: HostRuntime) -> Result<(), Fail> {
     Ok(twice!(rt, calls)?)
 }
 
-/// How many events are refused where a byte of a file is damaged.
-fn refusals_by(
-    trial: &Trial<'_>,
-    tables: &Files<Memory>,
-    which: Which,
-    at: usize,
-) -> Result<Option<u32>, OfficeError> {
-    let (log, db) = which.both(at, usize::MAX);
-    let files = Files {
-        log: Rot::new(copied(trial.alloc(), &tables.log)?, log),
-        db: Rot::new(copied(trial.alloc(), &tables.db)?, db),
-    };
-    let (refused, _files) = refusals_over(trial, files, COPIED, StoreFault::Disk)?;
-    Ok(refused)
-}
-
-/// A damaged byte here and there, and so many offices are refused something.
-fn are_bytes(trial: &Trial<'_>, which: Which, least: u32) -> Result<(), OfficeError> {
-    let tables = new_tables(trial.alloc())?;
-    let mut offices = 0u32;
-    for step in 0..20usize {
-        let at = step.saturating_mul(2401);
-        if let Some(1..) = refusals_by(trial, &tables, which, at)? {
-            offices = offices.saturating_add(1);
-        }
-    }
-    trial.told(&(which, offices), &(offices >= least), &true);
-    Ok(())
-}
-
 fn bytes(trial: &Trial<'_>) -> Result<(), OfficeError> {
-    are_bytes(trial, Which::Log, 1)?;
-    are_bytes(trial, Which::Db, 3)
+    are_refused(trial, (Harm::Byte, Which::Log), 20, 1)?;
+    are_refused(trial, (Harm::Byte, Which::Db), 20, 3)
 }
 
 #[test]

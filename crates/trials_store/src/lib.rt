@@ -7,10 +7,8 @@ mod damage;
 #[cfg(test)]
 mod disks;
 #[cfg(test)]
-mod files;
-#[cfg(test)]
-mod making;
-#[cfg(test)]
 mod opening;
+#[cfg(test)]
+mod plays;
 #[cfg(test)]
 mod stops;

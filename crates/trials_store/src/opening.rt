@@ -1,20 +1,16 @@
 //! Which databases are an office's, and which sites an office is opened with.
-use office_core::{EventAnswer, Office, OfficeError, RequestAnswer};
-use office_plays::builders::{BARE, MEMORY, TWO, begun, event_of, office_over};
+use office_core::OfficeError;
+use office_plays::builders::{BARE, MEMORY, begun, event_of, office_over};
 use office_plays::steps::Happens::{self, Load};
 use office_plays::steps::{opened as opened_line, take};
-use store_plays::{empty, made, opened, stored};
 use office_plays::tables::text_of;
 use office_store::{SqlKeeper, StoreError};
-use point_list::ListFault::UnknownDevice;
-use poll_book::RequestFault::List as OfList;
-use poll_book::{Keeper, Outcome, Reason, StoreFault};
-use sqlite::{Connection, Error, ErrorCode, MemStore};
+use poll_book::{Keeper, StoreFault};
+use sqlite::{Alter, Connection, Error, ErrorCode, MemStore};
 use std::alloc::Global;
 use std::test::Fail;
+use store_plays::{empty, made, opened, stored};
 use telling::{Trial, twice};
-
-const NO_TABLES: &[&str] = &[];
 
 const OTHER_TABLES: &[&str] = &[
     "CREATE TABLE note(id INTEGER PRIMARY KEY, title TEXT NOT NULL) STRICT",
@@ -36,13 +32,16 @@ const NO_NUMBER: &[&str] = &[
     "INSERT INTO meta(name, value) VALUES ('version', '1')",
 ];
 
-/// What a database's statements leave, and why it isn't opened.
-const OTHERS: &[(&[&str], StoreError)] = &[
-    (NO_TABLES, StoreError::NotOffice),
-    (OTHER_TABLES, StoreError::NotOffice),
-    (NO_VERSION, StoreError::NotOffice),
-    (VERSION_7, StoreError::BadVersion),
-    (NO_NUMBER, StoreError::BadVersion),
+const CHANGED: &[&str] = &["UPDATE meta SET value = 7 WHERE name = 'version'"];
+
+/// Whether an office's tables are made, what is done then, and why the database isn't opened.
+const OTHERS: &[(bool, &[&str], StoreError)] = &[
+    (false, &[], StoreError::NotOffice),
+    (false, OTHER_TABLES, StoreError::NotOffice),
+    (false, NO_VERSION, StoreError::NotOffice),
+    (false, VERSION_7, StoreError::BadVersion),
+    (false, NO_NUMBER, StoreError::BadVersion),
+    (true, CHANGED, StoreError::BadVersion),
 ];
 
 fn run(connection: &mut Connection<MemStore>, sql: &str) -> Result<(), OfficeError> {
@@ -53,128 +52,63 @@ fn run(connection: &mut Connection<MemStore>, sql: &str) -> Result<(), OfficeErr
     }
 }
 
-/// Why a database isn't opened, and the connection again.
+/// It isn't opened for this reason, and is given back.
 fn refused(
-    connection: Connection<MemStore>,
-) -> Result<(StoreError, Connection<MemStore>), OfficeError> {
-    match SqlKeeper::open(connection) {
-        Ok(_) => Err(OfficeError::NoRead),
-        Err((StoreError::Store(StoreFault::Memory), _)) => Err(MEMORY),
-        Err(refused) => Ok(refused),
-    }
-}
-
-/// It isn't opened for this reason, and as often as it is tried.
-fn is_refused(
     trial: &Trial<'_>,
     connection: Connection<MemStore>,
     expected: StoreError,
+) -> Result<Connection<MemStore>, OfficeError> {
+    match SqlKeeper::open(connection) {
+        Ok(_) => Err(OfficeError::NoRead),
+        Err((StoreError::Store(StoreFault::Memory), _)) => Err(MEMORY),
+        Err((told, connection)) => {
+            trial.told(&"refused", &told, &expected);
+            Ok(connection)
+        }
+    }
+}
+
+/// What has these statements behind it isn't opened, as often as it is tried.
+fn are_refused(
+    trial: &Trial<'_>,
+    is_made: bool,
+    statements: &[&str],
+    expected: StoreError,
 ) -> Result<(), OfficeError> {
-    let (first, connection) = refused(connection)?;
-    trial.told(&"first", &first, &expected);
-    let (second, _) = refused(connection)?;
-    trial.told(&"second", &second, &expected);
+    let mut connection = empty(trial.alloc())?;
+    if is_made && made(&mut connection).is_err() {
+        return Err(MEMORY);
+    }
+    for sql in statements {
+        run(&mut connection, sql)?;
+    }
+    let connection = refused(trial, connection, expected)?;
+    refused(trial, connection, expected)?;
     Ok(())
 }
 
 fn others(trial: &Trial<'_>) -> Result<(), OfficeError> {
-    for (statements, expected) in OTHERS {
-        let mut connection = empty(trial.alloc())?;
-        for sql in *statements {
-            run(&mut connection, sql)?;
-        }
-        is_refused(trial, connection, *expected)?;
+    for (is_made, statements, expected) in OTHERS {
+        are_refused(trial, *is_made, statements, *expected)?;
     }
     Ok(())
 }
 
 #[test]
-fn databases_of_no_office_are_refused(rt: HostRuntime) -> Result<(), Fail> {
+fn databases_of_no_office_or_another_version_are_refused(rt: HostRuntime) -> Result<(), Fail> {
     Ok(twice!(rt, others)?)
 }
 
-fn made_new(alloc: Global) -> Result<Connection<MemStore>, OfficeError> {
-    let mut connection = empty(alloc)?;
-    match made(&mut connection) {
-        Ok(()) => Ok(connection),
-        Err(_) => Err(MEMORY),
-    }
-}
-
-/// The tables of an office whose version was changed.
-fn later_version(trial: &Trial<'_>) -> Result<(), OfficeError> {
-    let mut connection = made_new(trial.alloc())?;
-    run(
-        &mut connection,
-        "UPDATE meta SET value = 7 WHERE name = 'version'",
-    )?;
-    is_refused(trial, connection, StoreError::BadVersion)
-}
-
-#[test]
-fn another_version_is_refused(rt: HostRuntime) -> Result<(), Fail> {
-    Ok(twice!(rt, later_version)?)
-}
-
-/// The roof with its device alone.
-const ONE: &str =
-    "[[line]]\nname = \"roof\"\naddress = \"127.0.0.1:502\"\n[[device]]\nname = \"m1\"\nline = \"roof\"\nunit = 17\n";
-
-const SECOND: &str = "c,m2,holding,7,uint16,,,gauge,\n";
-
-const UNKNOWN: Outcome = Outcome::RefusedFor(Reason {
-    fault: OfList(UnknownDevice),
-    row: 2,
-    column: 2,
-});
-
 /// The keeper of the same tables, opened anew.
-fn again(keeper: SqlKeeper<MemStore>) -> Result<SqlKeeper<MemStore>, OfficeError> {
+fn again<S: Alter + Drop>(keeper: SqlKeeper<S>) -> Result<SqlKeeper<S>, OfficeError> {
     opened(keeper.into_connection()).map_err(|(error, _)| error)
-}
-
-fn office_of<K: Keeper + Drop>(
-    alloc: Global,
-    keeper: K,
-    site: &str,
-) -> Result<Office<K>, OfficeError> {
-    begun(alloc, keeper, site)?.map_err(|(error, _)| error)
-}
-
-/// Expects what became of a list of the second device.
-fn second_is<K: Keeper>(
-    trial: &Trial<'_>,
-    office: &mut Office<K>,
-    key: &'static str,
-    (first, outcome): (bool, Outcome),
-) -> Result<(), OfficeError> {
-    let told = take(office, &event_of(trial.alloc(), &Load(key, SECOND))?)?;
-    let expected = EventAnswer::Request(RequestAnswer::Kept { first, outcome });
-    trial.told(&key, &told, &expected);
-    Ok(())
-}
-
-/// A site without the second device refuses the list. With the device the first answer stays, and the
-/// same list is taken under another key.
-fn site_of_list(trial: &Trial<'_>) -> Result<(), OfficeError> {
-    let mut without = office_of(trial.alloc(), stored(trial.alloc())?, ONE)?;
-    second_is(trial, &mut without, "l1", (true, UNKNOWN))?;
-    let keeper = again(without.into_keeper())?;
-    let mut with = office_of(trial.alloc(), keeper, TWO)?;
-    second_is(trial, &mut with, "l1", (false, UNKNOWN))?;
-    second_is(trial, &mut with, "l2", (true, Outcome::Loaded(1)))
-}
-
-#[test]
-fn an_answer_stays_under_another_site(rt: HostRuntime) -> Result<(), Fail> {
-    Ok(twice!(rt, site_of_list)?)
 }
 
 const FIRST: Happens = Load("l1", "a,m1,holding,107,uint16,,,counter,\n");
 
 /// A keeper that knows a point of the first device.
-fn used_keeper(alloc: Global) -> Result<SqlKeeper<MemStore>, OfficeError> {
-    let mut office = office_over(alloc, stored(alloc)?)?;
+fn used_keeper<K: Keeper + Drop>(alloc: Global, keeper: K) -> Result<K, OfficeError> {
+    let mut office = office_over(alloc, keeper)?;
     take(&mut office, &event_of(alloc, &FIRST)?)?;
     opened_line(&mut office, "roof")?;
     Ok(office.into_keeper())
@@ -189,18 +123,19 @@ fn given_back<K: Keeper + Drop>(alloc: Global, keeper: K) -> Result<K, OfficeErr
     }
 }
 
-fn gives_back(trial: &Trial<'_>) -> Result<(), OfficeError> {
-    let mut keeper = again(used_keeper(trial.alloc())?)?;
+fn is_given_back<K: Keeper + Drop>(trial: &Trial<'_>, mut keeper: K) -> Result<(), OfficeError> {
     let before = text_of(trial.alloc(), &mut keeper, &["l1"])?;
     let mut keeper = given_back(trial.alloc(), keeper)?;
-    trial.told(
-        &"tables",
-        &text_of(trial.alloc(), &mut keeper, &["l1"])?,
-        &before,
-    );
+    let tables = text_of(trial.alloc(), &mut keeper, &["l1"])?;
+    trial.told(&"tables", &tables, &before);
     let mut office = office_over(trial.alloc(), keeper)?;
     trial.told(&"number", &opened_line(&mut office, "roof")?, &2);
     Ok(())
+}
+
+fn gives_back(trial: &Trial<'_>) -> Result<(), OfficeError> {
+    let keeper = used_keeper(trial.alloc(), stored(trial.alloc())?)?;
+    is_given_back(trial, again(keeper)?)
 }
 
 #[test]

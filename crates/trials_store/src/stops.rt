@@ -1,23 +1,23 @@
-//! A stop at each write: an office over a database whose files fail from some call on, and one begun
-//! anew on what a crash leaves of them.
-use crate::files::{connected, copied, files_below, new_tables, office_on};
-use office_core::{Event, EventAnswer, Office, OfficeError};
-use office_plays::builders::{MEMORY, events_of, office_over};
+//! A stop at each write, as a new office's tables are made and as events happen to an office: files that
+//! fail from some call on, and an office that is begun anew on what a crash leaves of them.
+use crate::disks::Which;
+use crate::plays::{
+    MAKING, POINTS, Playing, Reached, Task, copied, done_on, empty_files, new_tables, options,
+};
+use office_core::{EventAnswer, Office, OfficeError};
+use office_plays::builders::{MEMORY, event_of, office_over};
 use office_plays::steps::Happens::{self, Arrive, Ask, Load, Open, Order, Restart, Send};
-use office_plays::steps::{answered, is_refused, opened, push, take};
-use store_plays::opened as opened_tables;
+use office_plays::steps::{opened, push, take};
 use office_plays::tables::text_of;
+use office_store::{SqlKeeper, StoreError};
 use poll_book::{Keeper, MemKeeper, StoreFault};
 use poll_match::Conn;
-use sqlite::{Connection, FileStore, Files, Options};
+use sqlite::{Alter, Connection, Files};
 use sqlite_disk::{Crash, Fuse, Memory};
 use std::alloc::Global;
 use std::test::Fail;
+use store_plays::begin;
 use telling::{Trial, twice};
-
-/// Two counters, and a setting.
-pub(crate) const POINTS: &str =
-    "a,m1,holding,107,uint16,,,counter,\nb,m1,holding,108,uint16,,,counter,\nlim,m1,holding,40,uint16,,,setting,\n";
 
 const HAPPENINGS: &[Happens] = &[
     Load("l1", POINTS),
@@ -32,158 +32,64 @@ const HAPPENINGS: &[Happens] = &[
     Open("roof"),
 ];
 
-/// The keys of its requests.
-pub(crate) const KEYS: &[&str] = &["l1", "k1", "k2"];
-
-/// The log is copied into the database file every few commits, so that both are written.
-pub(crate) const OPTIONS: Options = Options {
-    cache_pages: 64,
-    spill_pages: 64,
-    checkpoint_frames: 8,
-    seed: 7,
+const PLAYING: Playing = Playing {
+    is_new: false,
+    happenings: HAPPENINGS,
+    fault: StoreFault::Disk,
 };
 
-/// How far a run came before its files failed: how many events were acknowledged, and the greatest
-/// number of a connection that was told.
-#[derive(Clone, Copy)]
-pub(crate) struct Reached {
-    pub(crate) events: usize,
-    conn: u32,
-}
+/// The keys of its requests.
+const KEYS: &[&str] = &["l1", "k1", "k2"];
 
-const NOTHING: Reached = Reached { events: 0, conn: 0 };
-
-fn is_stopped(answer: &EventAnswer) -> bool {
-    matches!(answer, EventAnswer::Refused(OfficeError::Store(_)))
-}
-
-/// Takes events until one is refused by the store.
-pub(crate) fn take_all<K: Keeper>(
-    office: &mut Office<K>,
-    events: &[Event],
-) -> Result<Reached, OfficeError> {
-    let mut reached = NOTHING;
-    for event in events {
-        let answer = answered(office, event);
-        if is_refused(&answer, StoreFault::Memory) {
-            return Err(MEMORY);
-        }
-        if is_stopped(&answer) {
-            return Ok(reached);
-        }
-        if let EventAnswer::Opened(conn) = answer {
-            reached.conn = conn.number();
-        }
-        reached.events = reached.events.saturating_add(1);
-    }
-    Ok(reached)
-}
-
-pub(crate) type Stopped = Files<Fuse<Memory>>;
-
-/// A run over new tables in files that fail after so many calls, and what it leaves.
-fn run_on(
-    alloc: Global,
-    tables: &Files<Memory>,
-    (log_calls, db_calls): (u64, u64),
-    events: &[Event],
-) -> Result<(Reached, Stopped), OfficeError> {
-    let files = Files {
-        log: Fuse::new(copied(alloc, &tables.log)?, log_calls),
-        db: Fuse::new(copied(alloc, &tables.db)?, db_calls),
-    };
-    match office_on(alloc, files, OPTIONS)? {
-        Ok(mut office) => {
-            let reached = take_all(&mut office, events)?;
-            Ok((reached, files_below(office)))
-        }
-        Err(files) => Ok((NOTHING, files)),
-    }
-}
-
-/// The database that files hold, opened anew.
-pub(crate) fn reopened(
-    alloc: Global,
-    files: &Stopped,
-) -> Result<Connection<FileStore<Memory>>, OfficeError> {
-    let files = Files {
-        log: copied(alloc, files.log.inner())?,
-        db: copied(alloc, files.db.inner())?,
-    };
-    connected(alloc, files, OPTIONS)?.map_err(|_| OfficeError::Store(StoreFault::Disk))
-}
-
-/// The answers to the requests among these events.
-fn asked_again<K: Keeper>(
+fn take_first<K: Keeper>(
     alloc: Global,
     office: &mut Office<K>,
-    events: &[Event],
-) -> Result<Vec<EventAnswer>, OfficeError> {
-    let mut answers = Vec::with_capacity(alloc, events.len())?;
-    for event in events {
-        if let Event::Load(..) | Event::Order(..) = event {
-            let _ = answers.push(take(office, event)?);
-        }
+    count: usize,
+) -> Result<(), OfficeError> {
+    for happens in HAPPENINGS.iter().take(count) {
+        take(office, &event_of(alloc, happens)?)?;
     }
-    Ok(answers)
+    Ok(())
 }
 
-/// The events of a run, and what is to come of it: the tables as text before the first event and after
-/// each, the answers to its requests when they are asked again, and how many orders there are.
-#[derive(Drop)]
-pub(crate) struct Run {
-    pub(crate) events: Vec<Event>,
-    pub(crate) tables: Vec<String>,
-    answers: Vec<EventAnswer>,
-    orders: u32,
+/// An office in memory after so many events.
+fn twin_after(alloc: Global, count: usize) -> Result<Office<MemKeeper>, OfficeError> {
+    let mut twin = office_over(alloc, MemKeeper::new(alloc))?;
+    take_first(alloc, &mut twin, count)?;
+    Ok(twin)
 }
 
-fn orders<K: Keeper>(office: &mut Office<K>) -> Result<u32, OfficeError> {
-    office.orders()
+/// Its tables as text.
+fn tables_after(alloc: Global, count: usize) -> Result<String, OfficeError> {
+    text_of(alloc, &mut twin_after(alloc, count)?.into_keeper(), KEYS)
 }
 
-/// The tables as text after these events.
-fn tables_after(alloc: Global, events: &[Event]) -> Result<String, OfficeError> {
-    let mut office = office_over(alloc, MemKeeper::new(alloc))?;
-    take_all(&mut office, events)?;
-    text_of(alloc, &mut office.into_keeper(), KEYS)
-}
-
-fn tables_after_each(alloc: Global, events: &[Event]) -> Result<Vec<String>, OfficeError> {
-    let mut all = Vec::new(alloc);
-    for count in 0..=events.len() {
-        let tables = tables_after(alloc, &events[..count])?;
-        push(&mut all, tables)?;
-    }
-    Ok(all)
-}
-
-pub(crate) fn expected(alloc: Global) -> Result<Run, OfficeError> {
-    let events = events_of(alloc, HAPPENINGS)?;
-    let tables = tables_after_each(alloc, &events)?;
-    let mut office = office_over(alloc, MemKeeper::new(alloc))?;
-    take_all(&mut office, &events)?;
-    let answers = asked_again(alloc, &mut office, &events)?;
-    Ok(Run {
-        events,
-        tables,
-        answers,
-        orders: orders(&mut office)?,
-    })
-}
-
-/// The tables are those of the events that were acknowledged, or of one more.
+/// The tables are those after so many events, or after so many.
 fn are_tables<K: Keeper>(
     trial: &Trial<'_>,
     keeper: &mut K,
-    reached: Reached,
-    run: &Run,
+    count: usize,
+    other: usize,
 ) -> Result<(), OfficeError> {
     let tables = text_of(trial.alloc(), keeper, KEYS)?;
-    let is_known = run.tables.get(reached.events) == Some(&tables)
-        || run.tables.get(reached.events.saturating_add(1)) == Some(&tables);
-    trial.told(&(reached.events, &tables), &is_known, &true);
+    let is_known = tables == tables_after(trial.alloc(), count)?
+        || tables == tables_after(trial.alloc(), other)?;
+    trial.told(&(count, &tables), &is_known, &true);
     Ok(())
+}
+
+/// The answers to the requests, made again, and how many orders there are then.
+fn asked_again<K: Keeper>(
+    alloc: Global,
+    office: &mut Office<K>,
+) -> Result<(Vec<EventAnswer>, u32), OfficeError> {
+    let mut answers = Vec::new(alloc);
+    for happens in HAPPENINGS {
+        if let Load(..) | Order(..) = happens {
+            push(&mut answers, take(office, &event_of(alloc, happens)?)?)?;
+        }
+    }
+    Ok((answers, office.orders()?))
 }
 
 fn sent<K: Keeper>(office: &mut Office<K>, conn: u32) -> Option<OfficeError> {
@@ -194,89 +100,160 @@ fn sent<K: Keeper>(office: &mut Office<K>, conn: u32) -> Option<OfficeError> {
 fn is_unconnected<K: Keeper>(
     trial: &Trial<'_>,
     office: &mut Office<K>,
-    reached: Reached,
+    twin: &mut Office<MemKeeper>,
 ) -> Result<(), OfficeError> {
-    let refused = Some(OfficeError::NoConnection);
-    for number in 0..=reached.conn {
-        trial.told(&number, &sent(office, number), &refused);
+    let untold = opened(twin, "roof")?;
+    for number in 0..untold {
+        trial.told(
+            &number,
+            &sent(office, number),
+            &Some(OfficeError::NoConnection),
+        );
     }
     let next = opened(office, "roof")?;
-    trial.told(&next, &(next > reached.conn), &true);
+    trial.told(&next, &(next >= untold), &true);
     Ok(())
 }
 
-/// The requests, made again, count once.
-fn count_once<K: Keeper>(
+/// An office that took so many events goes on: the requests, made again, count once.
+fn goes_on<K: Keeper>(
     trial: &Trial<'_>,
     office: &mut Office<K>,
-    run: &Run,
+    count: usize,
 ) -> Result<(), OfficeError> {
-    asked_again(trial.alloc(), office, &run.events)?;
-    let answers = asked_again(trial.alloc(), office, &run.events)?;
-    trial.told(&"requests", &answers, &run.answers);
-    trial.told(&"orders", &orders(office)?, &run.orders);
+    is_unconnected(trial, office, &mut twin_after(trial.alloc(), count)?)?;
+    asked_again(trial.alloc(), office)?;
+    let told = asked_again(trial.alloc(), office)?;
+    let mut twin = twin_after(trial.alloc(), HAPPENINGS.len())?;
+    trial.told(&"requests", &told, &asked_again(trial.alloc(), &mut twin)?);
     Ok(())
 }
 
-/// What the files hold is an office that goes on so.
-fn opens(
-    trial: &Trial<'_>,
-    files: &Stopped,
-    reached: Reached,
-    run: &Run,
-) -> Result<(), OfficeError> {
-    let mut keeper = match opened_tables(reopened(trial.alloc(), files)?) {
-        Ok(keeper) => keeper,
-        Err((error, _connection)) => return Err(error),
-    };
-    are_tables(trial, &mut keeper, reached, run)?;
-    let mut office = office_over(trial.alloc(), keeper)?;
-    is_unconnected(trial, &mut office, reached)?;
-    count_once(trial, &mut office, run)
+/// What a stop leaves is an office that goes on. Where tables were being made there may be none, and then
+/// they are made now.
+#[derive(Clone, Copy)]
+struct GoingOn {
+    is_new: bool,
+    reached: Option<Reached>,
 }
 
-/// Stops a run after so many calls, and expects what both outcomes of it leave: all that was written,
-/// and only what was flushed. Tells whether it was stopped.
-fn is_stop(
-    trial: &Trial<'_>,
-    tables: &Files<Memory>,
-    calls: (u64, u64),
-    run: &Run,
-) -> Result<bool, OfficeError> {
-    let (reached, mut files) = run_on(trial.alloc(), tables, calls, &run.events)?;
-    opens(trial, &files, reached, run)?;
-    files.log.crash();
-    files.db.crash();
-    opens(trial, &files, reached, run)?;
-    Ok(reached.events < run.events.len())
-}
+impl GoingOn {
+    fn kept<S: Alter + Drop>(
+        &self,
+        trial: &Trial<'_>,
+        connection: Connection<S>,
+    ) -> Result<SqlKeeper<S>, OfficeError> {
+        let is_made = !self.is_new || self.reached.is_some();
+        match SqlKeeper::open(connection) {
+            Ok(keeper) => Ok(keeper),
+            Err((StoreError::Store(StoreFault::Memory), _connection)) => Err(MEMORY),
+            Err((error, connection)) => {
+                trial.told(&is_made, &error, &StoreError::NotOffice);
+                trial.told(&"no tables", &is_made, &false);
+                begin(connection).map_err(|(error, _connection)| error)
+            }
+        }
+    }
 
-/// How many calls of the log and of the database file pass, where one of them is to fail.
-pub(crate) fn calls_of(is_log: bool, count: u64) -> (u64, u64) {
-    if is_log {
-        (count, u64::MAX)
-    } else {
-        (u64::MAX, count)
+    /// A new office takes all events; another, which took so many, goes on.
+    fn used<K: Keeper>(
+        &self,
+        trial: &Trial<'_>,
+        office: &mut Office<K>,
+        count: usize,
+    ) -> Result<(), OfficeError> {
+        if !self.is_new {
+            return goes_on(trial, office, count);
+        }
+        let reached = PLAYING.played(trial, office)?;
+        trial.told(&"events", &reached.events, &HAPPENINGS.len());
+        Ok(())
+    }
+
+    fn begun<K: Keeper + Drop>(&self, trial: &Trial<'_>, mut keeper: K) -> Result<K, OfficeError> {
+        let count = self.reached.map_or(0, |reached| reached.events);
+        let more = if self.is_new { 0 } else { 1 };
+        are_tables(trial, &mut keeper, count, count.saturating_add(more))?;
+        let mut office = office_over(trial.alloc(), keeper)?;
+        self.used(trial, &mut office, count)?;
+        Ok(office.into_keeper())
     }
 }
 
-/// Stops runs later and later, until one isn't stopped, and more than so many are.
-fn are_stops(trial: &Trial<'_>, is_log: bool, least: u64) -> Result<(), OfficeError> {
-    let run = expected(trial.alloc())?;
-    let tables = new_tables(trial.alloc())?;
+impl Task for GoingOn {
+    fn done_in<S: Alter + Drop>(
+        &self,
+        trial: &Trial<'_>,
+        connection: Connection<S>,
+    ) -> Result<(Option<Reached>, S), OfficeError> {
+        let mut keeper = self.begun(trial, self.kept(trial, connection)?)?;
+        if self.is_new {
+            are_tables(trial, &mut keeper, HAPPENINGS.len(), HAPPENINGS.len())?;
+        }
+        Ok((self.reached, keeper.into_connection().into_store()))
+    }
+}
+
+type Stopped = Files<Fuse<Memory>>;
+
+/// Does a task with the database that a stop left, opened anew.
+fn reopened<T: Task>(trial: &Trial<'_>, files: &Stopped, task: &T) -> Result<(), OfficeError> {
+    let files = Files {
+        log: copied(trial.alloc(), files.log.inner())?,
+        db: copied(trial.alloc(), files.db.inner())?,
+    };
+    let (_reached, _files) = done_on(trial, files, options(64, 8), task)?;
+    Ok(())
+}
+
+/// Stops an office after so many calls of a file, and expects what both outcomes of it leave: all that was
+/// written, and only what was flushed. Tells whether it was stopped.
+fn is_stopped(
+    trial: &Trial<'_>,
+    files: &Files<Memory>,
+    playing: &Playing,
+    which: Which,
+    calls: u64,
+) -> Result<bool, OfficeError> {
+    let (log, db) = which.both(calls, u64::MAX);
+    let files = Files {
+        log: Fuse::new(copied(trial.alloc(), &files.log)?, log),
+        db: Fuse::new(copied(trial.alloc(), &files.db)?, db),
+    };
+    // The log is copied into the database file every few commits, so that both are written.
+    let (reached, mut files) = done_on(trial, files, options(64, 8), playing)?;
+    let going_on = GoingOn {
+        is_new: playing.is_new,
+        reached,
+    };
+    reopened(trial, &files, &going_on)?;
+    files.log.crash();
+    files.db.crash();
+    reopened(trial, &files, &going_on)?;
+    Ok(reached.is_none_or(|reached| reached.refused > 0))
+}
+
+/// Stops later and later, until it isn't stopped, and at least so often.
+fn are_stops(
+    trial: &Trial<'_>,
+    files: &Files<Memory>,
+    playing: &Playing,
+    which: Which,
+    least: u64,
+) -> Result<(), OfficeError> {
     let mut stops = 0u64;
-    for count in 0..u64::MAX {
-        if !is_stop(trial, &tables, calls_of(is_log, count), &run)? {
+    for calls in 0..u64::MAX {
+        if !is_stopped(trial, files, playing, which, calls)? {
             break;
         }
         stops = stops.saturating_add(1);
     }
-    trial.told(&stops, &(stops > least), &true);
+    trial.told(&(which, stops), &(stops >= least), &true);
     Ok(())
 }
 
 fn log_stops(trial: &Trial<'_>) -> Result<(), OfficeError> {
-    are_stops(trial, true, 20)
+    are_stops(trial, &new_tables(trial)?, &PLAYING, Which::Log, 21)
 }
 
 #[test]
@@ -285,10 +262,21 @@ fn a_stop_of_the_log_leaves_whole_events(rt: HostRuntime) -> Result<(), Fail> {
 }
 
 fn database_stops(trial: &Trial<'_>) -> Result<(), OfficeError> {
-    are_stops(trial, false, 5)
+    are_stops(trial, &new_tables(trial)?, &PLAYING, Which::Db, 6)
 }
 
 #[test]
 fn a_stop_of_the_database_file_leaves_whole_events(rt: HostRuntime) -> Result<(), Fail> {
     Ok(twice!(rt, database_stops)?)
+}
+
+fn making_stops(trial: &Trial<'_>) -> Result<(), OfficeError> {
+    let files = empty_files(trial.alloc());
+    are_stops(trial, &files, &MAKING, Which::Log, 5)?;
+    are_stops(trial, &files, &MAKING, Which::Db, 5)
+}
+
+#[test]
+fn a_stop_as_tables_are_made_leaves_none_or_all(rt: HostRuntime) -> Result<(), Fail> {
+    Ok(twice!(rt, making_stops)?)
 }
