@@ -1,7 +1,7 @@
 //! Reading a list of 10,000 points and a site of 64 lines and 256 devices, loading the list twice, and
 //! planning the reads of 10,000 points: spread out, and each inside strings that begin sooner.
 use crate::office::{HEADER, begun, load, site};
-use crate::pace::{granted, print_each, timed};
+use crate::pace::{granted, print_each, refused, timed};
 use mb_pdu::Table;
 use office_core::Office;
 use point_list::{Label, Name, Point, Role, Site, read_list};
@@ -71,7 +71,10 @@ fn measure_loads(rt: &HostRuntime, office: &mut Office<MemKeeper>, text: &str) -
 pub fn lists(rt: &HostRuntime) -> io::Result<()> {
     let text = site_text(rt.alloc())?;
     let (site, took) = timed!(rt, site(rt.alloc(), text.as_str()));
-    let (site, micros) = (granted(site)?, took.as_micros());
+    let Some(site) = site else {
+        return Err(refused());
+    };
+    let micros = took.as_micros();
     println!(rt; "a site of {LINES} lines and {DEVICES} devices read in {micros} us")?;
     let list = list_text(rt.alloc())?;
     measure_list(rt, &site, list.as_str())?;
