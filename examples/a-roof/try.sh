@@ -1,12 +1,15 @@
 #!/usr/bin/env bash
 # Plays two devices on this machine, and polls, orders, reports and serves with the program `office`, as
 #
-#     bash examples/a-roof/try.sh PATH-OF-OFFICE
+#     bash examples/a-roof/try.sh [PATH-OF-OFFICE]
 #
-# It works in a new folder of its own, which it leaves, and needs curl and the ports 15020 to 15022.
+# Without a path it proves and builds the program first. It works in a new folder of its own, which it leaves, and
+# needs curl and the ports 15020 to 15022.
 set -euo pipefail
-office=$(realpath "$(command -v "${1:-office}")")
 here=$(realpath "$(dirname "$0")")
+crate=$here/../../crates/office
+[[ $# -gt 0 ]] || (cd "$crate" && rt run -- --version)
+office=$(realpath "$(command -v "${1:-$crate/out/office}")")
 cd "$(mktemp -d)"
 cp "$here"/*.toml "$here"/*.csv .
 store=(--store roof.db --site site.toml)
