@@ -2,11 +2,22 @@
 # Plays two devices on this machine, and polls, orders, reports and serves with the program `office`, as
 #
 #     bash examples/a-roof/try.sh [PATH-OF-OFFICE]
+#     bash examples/a-roof/try.sh --quick
 #
 # Without a path it proves and builds the program first. It works in a new folder of its own, which it leaves, and
-# needs curl and the ports 15020 to 15022.
+# needs curl and the ports 15020 to 15022. With --quick it proves nothing and opens no socket: the player of the pages
+# plays roof.md in one process, and what it shows is printed.
 set -euo pipefail
 here=$(realpath "$(dirname "$0")")
+if [[ ${1:-} == --quick ]]; then
+    cd "$here/../../crates/cases_office"
+    page=examples/a-roof/roof.md
+    files=()
+    for file in data/examples/a-roof/*; do files+=(--data "${file#data/}=$file"); done
+    rt try --seconds 300 "${files[@]}" -- "$page" | grep -v '^examples/'
+    sed -n '/^```console/,/^```$/p' "data/$page" | grep -v '^```'
+    exit
+fi
 crate=$here/../../crates/office
 [[ $# -gt 0 ]] || (cd "$crate" && rt run -- --version)
 office=$(realpath "$(command -v "${1:-$crate/out/office}")")

@@ -1,6 +1,6 @@
 //! Measures the speed of the office's crates. Each word of the command line is one measure: `units`,
 //! `frames`, `map`, `lists`, `plans`, `office`, `orders`, `store`, `store-pages`, `store-file`, `waiting`,
-//! `serve` (requests over sockets on 127.0.0.1), `poll-file` and `open-file`. But `script` and
+//! `serve` (requests over sockets on 127.0.0.1), `serve-list`, `poll-file` and `open-file`. But `script` and
 //! `script-1000` write a script for `office replay` of 100 or 1,000 slots. In the folder that it runs in,
 //! `store-file` makes the files `bench-10.db` and `bench-100.db` and `poll-file` makes `bench-poll.db`,
 //! each where there is none yet; `open-file` opens `bench-200.db`, which it makes if there is none. All
@@ -21,7 +21,7 @@ mod serving;
 mod store;
 
 const WORDS: &str =
-    "units frames map lists plans office orders store store-pages store-file waiting serve poll-file open-file script script-1000";
+    "units frames map lists plans office orders store store-pages store-file waiting serve serve-list poll-file open-file script script-1000";
 
 fn main(rt: HostRuntime) -> Result<()> {
     for word in env::args(&rt)?.skip(1) {
@@ -40,6 +40,7 @@ fn main(rt: HostRuntime) -> Result<()> {
             }
             "waiting" => store::searches(&rt)?,
             "serve" => serving::measure(&rt)?,
+            "serve-list" => serving::lists(&rt)?,
             "poll-file" => store::polling(&rt)?,
             "open-file" => store::opening(&rt)?,
             "script" => script::write(&rt, 100)?,

@@ -1,6 +1,7 @@
 //! Requests over sockets on 127.0.0.1, a connection each. Both ends are in this process, and take
-//! their turns one after the other, over an office in memory.
-use crate::office::{loaded, poll};
+//! their turns one after the other, over an office in memory. And lists as large as a body may be,
+//! from memory.
+use crate::office::{HEADER, load, loaded, poll};
 use crate::pace::{granted, print_each, timed};
 use mb_mbap::Counted;
 use mb_pdu::{Span, Unit};
@@ -105,4 +106,64 @@ pub fn measure(rt: &HostRuntime) -> io::Result<()> {
     print_each(rt, "total served", TOTALS, took)?;
     let ((), took) = timed!(rt, exchange_all(rt, &mut office, Asked::Order, ORDERS)?);
     print_each(rt, "order served", ORDERS, took)
+}
+
+/// So many lists are put.
+const LISTS: u32 = 20;
+
+/// So many rows are nearly as many bytes as a body may have.
+const ROWS: u32 = 6_000;
+
+const ROW: &str = "m1.energy,m1,holding,100,uint16,,,counter,\n";
+
+/// A list with a bad header, so that the office looks no further.
+fn long_list(alloc: Global) -> Result<String, AllocError> {
+    let mut text = String::from_str(alloc, "names")?;
+    text.push_str(HEADER)?;
+    for _ in 0..ROWS {
+        text.push_str(ROW)?;
+    }
+    Ok(text)
+}
+
+/// The answer to this request, whose bytes are read from memory.
+fn put<K: Keeper>(alloc: Global, office: &mut Office<K>, request: &str) -> Vec<u8> {
+    let mut reader = Counted::new(request.as_bytes());
+    let mut writer = Counted::new(Vec::new(alloc));
+    let _ = serve_one(alloc, office, &mut reader, &mut writer);
+    writer.into_inner()
+}
+
+/// Puts the list so many times, each under a key of its own.
+fn put_all<K: Keeper>(alloc: Global, office: &mut Office<K>, list: &str) -> io::Result<()> {
+    let length = list.len();
+    for number in 0..LISTS {
+        let request = format!(in alloc;
+            "PUT /callers/bench/lists/put{number} HTTP/1.1\r\nContent-Length: {length}\r\n\r\n{list}"
+        )?;
+        let answer = put(alloc, office, request.as_str());
+        granted(answer.starts_with(b"HTTP/1.1 422 ").then_some(()))?;
+    }
+    Ok(())
+}
+
+/// Hands the list to the office so many times, each under a key of its own.
+fn load_all<K: Keeper>(alloc: Global, office: &mut Office<K>, list: &str) -> io::Result<()> {
+    for number in 0..LISTS {
+        let key = format!(in alloc; "load{number}")?;
+        granted(load(office, key.as_str(), list).and_then(Result::ok))?;
+    }
+    Ok(())
+}
+
+/// Puts a list over HTTP, in the pieces in which `serve_one` reads it, and loads it without.
+pub fn lists(rt: &HostRuntime) -> io::Result<()> {
+    let list = long_list(rt.alloc())?;
+    let mut office = granted(loaded(rt.alloc(), MemKeeper::new(rt.alloc()), LIST))?;
+    let bytes = list.len();
+    println!(rt; "a list of {bytes} bytes")?;
+    let ((), took) = timed!(rt, put_all(rt.alloc(), &mut office, list.as_str())?);
+    print_each(rt, "list served", LISTS, took)?;
+    let ((), took) = timed!(rt, load_all(rt.alloc(), &mut office, list.as_str())?);
+    print_each(rt, "list loaded", LISTS, took)
 }

@@ -1,20 +1,19 @@
-//! Whole files as examples: blocks `toml site`, `csv list` and `toml simulator`, behind whose two words the fault
-//! stands that the file is refused for; nothing where it is read. A list is read for the last site before it. Lines may
+//! Whole files as examples: blocks `toml site`, `csv list` and `toml simulator`, behind whose two words it stands why
+//! the file is refused, and where; nothing where it is read. A list is read for the last site before it. Lines may
 //! be left out between two that differ in a number.
 use crate::lists::last_of;
-use crate::sites;
 use crate::texts::refusal;
 use case_pages::{Block, Tally, Trouble};
 use mb_map::Sim;
-use point_list::ListFault;
+use point_list::{ListFault, Site};
 use std::alloc::{AllocError, Global};
 use std::fmt::Display;
 
 /// The line that stands for those between its neighbours, which differ in a number.
 const AND_SO_ON: &str = "…\n";
 
-/// What can be wrong with a list or a site, but for want of memory.
-const FAULTS: [ListFault; 17] = [
+/// What can be wrong with a list, but for want of memory.
+const FAULTS: [ListFault; 16] = [
     ListFault::BadCsv,
     ListFault::BadHeader,
     ListFault::BadName,
@@ -30,7 +29,6 @@ const FAULTS: [ListFault; 17] = [
     ListFault::Twice,
     ListFault::TooManyPoints,
     ListFault::NoModel,
-    ListFault::BadSite,
     ListFault::PastModel,
 ];
 
@@ -134,9 +132,9 @@ impl<'a> Examples<'a> {
         let text = whole(alloc, text)?;
         let bytes = text.as_bytes();
         match example {
-            "toml site" => fault_of(alloc, sites::read(alloc, bytes)),
+            "toml site" => fault_of(alloc, Site::from_toml(alloc, bytes)),
             "csv list" => fault_of(alloc, last_of(alloc, self.site, bytes)),
-            _ => fault_of(alloc, Sim::from_toml(alloc, bytes)),
+            _ => fault_of(alloc, Sim::from_image(alloc, bytes)),
         }
     }
 }
@@ -160,7 +158,7 @@ fn met<'a>(page: &[Block<'_>], fault: &'a str) -> &'a str {
     if is_met { fault } else { "no example" }
 }
 
-/// Expects of a page that each fault of lists and sites has an example.
+/// Expects of a page that each fault of lists has an example.
 pub(crate) fn play_faults<R: Print>(
     alloc: Global,
     tally: &mut Tally<'_, R>,

@@ -24,7 +24,7 @@ use case_pages::{Block, Player, Tally, Trouble, play_pages, play_rows};
 use std::alloc::Global;
 use std::process::ExitCode;
 
-/// The page whose examples have to show each fault of lists and sites.
+/// The page whose examples have to show each fault of lists.
 const FORMATS: &str = "FORMATS.md";
 
 #[derive(Drop)]

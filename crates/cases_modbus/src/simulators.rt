@@ -11,10 +11,10 @@ use std::alloc::Global;
 #[derive(Clone, Copy, Debug)]
 struct Read;
 
-/// What a simulator file is refused for, if it is.
+/// What is wrong with a simulator file, and where, if anything is.
 pub(crate) fn image(alloc: Global, input: &str) -> Result<String, Trouble> {
     let text = bytes_of(alloc, input)?;
-    outcome(alloc, Sim::from_toml(alloc, &text).map(|_| Read))
+    outcome(alloc, Sim::from_image(alloc, &text).map(|_| Read))
 }
 
 #[derive(Drop)]

@@ -1,7 +1,7 @@
 //! Site files.
 use crate::texts::{outcome, refusal};
 use case_pages::{Block, Trouble, bytes_of, file_of};
-use point_list::{Device, Line, ListError, Site, read_site};
+use point_list::{Device, Line, ListError, Site, SiteError, read_site};
 use std::alloc::{AllocError, Global};
 
 pub(crate) fn read(alloc: Global, text: &[u8]) -> Result<Site, ListError> {
@@ -15,15 +15,15 @@ struct Sizes {
     devices: usize,
 }
 
-fn sizes_of(alloc: Global, text: &[u8]) -> Result<Sizes, ListError> {
-    let site = read(alloc, text)?;
+fn sizes_of(alloc: Global, text: &[u8]) -> Result<Sizes, SiteError> {
+    let site = Site::from_toml(alloc, text)?;
     Ok(Sizes {
         lines: site.lines.len(),
         devices: site.devices.len(),
     })
 }
 
-/// How many lines and devices a site file has, or what it is refused for.
+/// How many lines and devices a site file has, or what is wrong with it, and where.
 pub(crate) fn site(alloc: Global, input: &str) -> Result<String, Trouble> {
     outcome(alloc, sizes_of(alloc, &bytes_of(alloc, input)?))
 }

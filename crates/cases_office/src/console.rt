@@ -25,11 +25,16 @@ fn is_wanted(told: &str, wanted: &str) -> bool {
     skips || lines.next().is_none()
 }
 
+/// What a command is told where memory, or a store of the page, was refused.
+const REFUSED: [&str; 3] = [
+    "office: memory",
+    "office: store memory",
+    "office: store disk",
+];
+
 /// Whether memory or the store was refused, so that the command is to be typed again.
 pub(crate) fn is_refused(told: &str) -> bool {
-    told.ends_with("office: memory\nstatus 1\n")
-        || told.ends_with("office: store memory\nstatus 1\n")
-        || told.ends_with("office: store disk\nstatus 1\n")
+    told.lines().any(|line| REFUSED.contains(&line))
 }
 
 /// What a command prints, typed once more where memory or the store was refused.

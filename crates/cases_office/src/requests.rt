@@ -1,7 +1,7 @@
 //! What bytes of HTTP ask for.
 use crate::cut::Cut;
 use case_pages::{Outcomes, Trouble, bytes_of};
-use office_http::{Asked, Exchange, Methods, Refusal};
+use office_http::{Exchange, Heard, Methods, Refusal};
 use std::alloc::{AllocError, Global};
 use std::str;
 
@@ -31,11 +31,11 @@ fn text(bytes: &[u8]) -> &str {
 }
 
 /// What is asked for, in words.
-fn told(alloc: Global, asked: &Asked) -> Result<String, AllocError> {
+fn told(alloc: Global, asked: &Heard) -> Result<String, AllocError> {
     match asked {
-        Asked::Nothing => String::from_str(alloc, "nothing"),
-        Asked::Refused(why) => String::from_str(alloc, refusal(*why)),
-        Asked::Load { caller, key, list } => {
+        Heard::Nothing => String::from_str(alloc, "nothing"),
+        Heard::Refused(why) => String::from_str(alloc, refusal(*why)),
+        Heard::Load { caller, key, list } => {
             let (caller, key) = (text(caller.as_bytes()), text(key.as_bytes()));
             if list.len() > MOST_SHOWN {
                 format!(in alloc; "load {caller} {key} of {} bytes", list.len())
@@ -43,7 +43,7 @@ fn told(alloc: Global, asked: &Asked) -> Result<String, AllocError> {
                 format!(in alloc; "load {caller} {key} {}", text(list))
             }
         }
-        Asked::Order {
+        Heard::Order {
             caller,
             key,
             point,
@@ -55,15 +55,15 @@ fn told(alloc: Global, asked: &Asked) -> Result<String, AllocError> {
                 text(key.as_bytes())
             )
         }
-        Asked::OrderUnder { caller, key } => {
+        Heard::OrderUnder { caller, key } => {
             format!(in alloc;
                 "under {} {}",
                 text(caller.as_bytes()),
                 text(key.as_bytes())
             )
         }
-        Asked::Readings { point, from, to } => { format!(in alloc; "readings {point} {from} {to}") }
-        Asked::Total { point } => format!(in alloc; "total {point}"),
+        Heard::Readings { point, from, to } => { format!(in alloc; "readings {point} {from} {to}") }
+        Heard::Total { point } => format!(in alloc; "total {point}"),
     }
 }
 
@@ -71,7 +71,7 @@ fn told(alloc: Global, asked: &Asked) -> Result<String, AllocError> {
 const MOST_ONE_BY_ONE: usize = 1000;
 
 /// What bytes ask for that come cut in some way, and then end.
-fn taken(alloc: Global, bytes: &[u8], cut: Cut) -> Result<Asked, AllocError> {
+fn taken(alloc: Global, bytes: &[u8], cut: Cut) -> Result<Heard, AllocError> {
     let least = if bytes.len() > MOST_ONE_BY_ONE {
         MOST_ONE_BY_ONE
     } else {

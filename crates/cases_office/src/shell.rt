@@ -58,7 +58,7 @@ pub(crate) fn office(world: &mut World<'_>, line: &str) -> Result<String, Troubl
 fn file(world: &World<'_>, name: &str) -> Result<Vec<u8>, Trouble> {
     match world.file(name) {
         Ok(bytes) => Ok(bytes),
-        Err(Fault::Memory) => Err(Trouble::Memory),
+        Err(failure) if failure.fault == Fault::Memory => Err(Trouble::Memory),
         Err(_) => Err(Trouble::Page("no file of this name")),
     }
 }

@@ -5,7 +5,7 @@ use crate::cut::{Bytes, Cut};
 use crate::wire::{Devices, End};
 use case_pages::Block;
 use mb_mbap::Counted;
-use office_commands::{Fault, Host, Stores, Task, work_in};
+use office_commands::{Failure, Fault, Host, Stores, Task, Why, work_in};
 use office_core::Office;
 use office_net::serve_one;
 use office_plays::refusing::Refusing;
@@ -15,6 +15,9 @@ use std::alloc::{AllocError, Global};
 use std::cell::RefCell;
 use std::fs;
 use std::io::{self, ErrorKind};
+
+/// The system's number for a connection that is refused, `ECONNREFUSED`.
+const REFUSED: i32 = 111;
 
 /// A store in memory.
 #[derive(Drop)]
@@ -105,7 +108,7 @@ impl<'a> World<'a> {
     }
 
     /// The file of a block, or else of the page's folder.
-    pub(crate) fn file(&self, path: &str) -> Result<Vec<u8>, Fault> {
+    pub(crate) fn file(&self, path: &str) -> Result<Vec<u8>, Failure> {
         let alloc = self.rt.alloc();
         for block in self.blocks {
             if block.file_name() == Some(path) {
@@ -113,11 +116,13 @@ impl<'a> World<'a> {
             }
         }
         let folder = self.folder.as_str();
-        let path = format!(in alloc; "{folder}{path}")?;
-        match fs::read(self.rt, path) {
+        let full = format!(in alloc; "{folder}{path}")?;
+        match fs::read(self.rt, full) {
             Ok(bytes) => Ok(bytes),
-            Err(error) if error.kind() == ErrorKind::OutOfMemory => Err(Fault::Memory),
-            Err(_) => Err(Fault::File),
+            Err(error) if error.kind() == ErrorKind::OutOfMemory => {
+                Err(Failure::from(Fault::Memory))
+            }
+            Err(error) => Err(Failure::new(Fault::File, Why::System(error)).of(alloc, path)),
         }
     }
 
@@ -175,7 +180,7 @@ fn worked(
     keeper: Refusing,
     site: Site,
     task: &Task<'_>,
-) -> (Result<(), Fault>, Refusing)
+) -> (Result<(), Failure>, Refusing)
     requires { IsSound site }
 {
     match office_over(world.rt.alloc(), keeper, site) {
@@ -183,7 +188,7 @@ fn worked(
             let done = work_in(world, &mut office, task);
             (done, office.into_keeper())
         }
-        Err((fault, keeper)) => (Err(fault), keeper),
+        Err((fault, keeper)) => (Err(Failure::from(fault)), keeper),
     }
 }
 
@@ -210,28 +215,29 @@ impl<'a> Host for World<'a> {
         }
     }
 
-    fn complain(&mut self, fault: Fault) -> io::Result<()> {
-        let text = format!(in self.rt.alloc(); "office: {fault}\n")?;
+    fn complain(&mut self, failure: &Failure) -> io::Result<()> {
+        let text = format!(in self.rt.alloc(); "office: {failure}\n")?;
         self.print(text.as_bytes())
     }
 
-    fn read_file(&mut self, path: &str) -> Result<Vec<u8>, Fault> {
+    fn read_file(&mut self, path: &str) -> Result<Vec<u8>, Failure> {
         self.file(path)
     }
 
-    fn connect(&mut self, address: &str, _seconds: u16) -> Result<(End<'a>, End<'a>), Fault> {
+    fn connect(&mut self, address: &str, _seconds: u16) -> Result<(End<'a>, End<'a>), Failure> {
         let Ok(mut devices) = self.devices.try_borrow_mut() else {
-            return Err(Fault::Line);
+            return Err(Failure::from(Fault::Line));
         };
         if devices.connect(address, self.play.cut)? {
             Ok((End(self.devices), End(self.devices)))
         } else {
-            Err(Fault::Line)
+            let refused = io::Error::from_raw_os_error(REFUSED);
+            Err(Failure::new(Fault::Line, Why::System(refused)).of(self.alloc(), address))
         }
     }
 
     /// The peer at this port connects at once.
-    fn accept(&mut self, port: u16) -> Result<(End<'a>, End<'a>), Fault> {
+    fn accept(&mut self, port: u16) -> Result<(End<'a>, End<'a>), Failure> {
         let address = format!(in self.rt.alloc(); "127.0.0.1:{port}")?;
         self.connect(address.as_str(), 0)
     }
@@ -243,11 +249,11 @@ impl<'a> Host for World<'a> {
         _port: u16,
         _count: Option<u32>,
         _seconds: u16,
-    ) -> Result<(), Fault> {
+    ) -> Result<(), Failure> {
         let alloc = self.rt.alloc();
         let request = std::mem::replace(&mut self.request, Vec::new(alloc));
         let Some(answer) = answered(alloc, office, request, self.play.cut) else {
-            return Err(Fault::Line);
+            return Err(Failure::from(Fault::Line));
         };
         self.output.extend_from_slice(&answer)?;
         Ok(())
@@ -255,7 +261,7 @@ impl<'a> Host for World<'a> {
 }
 
 impl Stores for World<'_> {
-    fn work(&mut self, store: &str, site: Site, task: &Task<'_>) -> Result<(), Fault> {
+    fn work(&mut self, store: &str, site: Site, task: &Task<'_>) -> Result<(), Failure> {
         let name = String::from_str(self.rt.alloc(), store)?;
         let keeper = self.take_keeper(store);
         let (done, keeper) = worked(self, keeper, site, task);

@@ -8,6 +8,7 @@ ghost use Rattle.mb_pdu.specs.declared.request.Request.TheVariants.{ReadHolding}
 ghost use Rattle.line_source.specs.LineSources.{HearsReply, query_of, reply_of};
 
 use crate::hearing::await_reply;
+use line_io::write_frame;
 use mb_mbap::{Counted, Frame, FrameReader};
 use mb_pdu::{Registers, Reply, Request, Span};
 use std::io::{Read, Write};
@@ -27,16 +28,6 @@ pub(crate) fn query_for(transaction: u16, unit_id: u8, span: Span) -> Frame
         transaction,
         unit_id,
         unit: Request::ReadHolding(span).encode(),
-    }
-}
-
-fn write_query<W: Write>(writer: &mut Counted<W>, query: &Frame) -> Result<(), SourceFault>
-    ensures { OnOk result (Appends (W.contents (inner_of writer.old)) (W.contents (inner_of writer.new)) (spelled query.now)) }
-{
-    let bytes = query.encode();
-    match writer.write_all(bytes.as_bytes()) {
-        Ok(()) => Ok(()),
-        Err(_) => Err(SourceFault),
     }
 }
 
@@ -63,7 +54,7 @@ pub(crate) fn exchange<R: Read, W: Write>(
     ensures answered { IfOk result (λ found. HearsReply query.now span (reply_of found) stream.old stream.new
         (R.remaining (inner_of reader.old)) (R.remaining (inner_of reader.new))) }
 {
-    write_query(writer, query)?;
+    write_frame(writer, query, SourceFault)?;
     let reply = await_reply(query, span, stream, reader)?;
     found_in(reply)
 }

@@ -4,6 +4,7 @@ ghost use Rattle.std.specs.Io.KnownBytes.{Consumes};
 ghost use Rattle.mb_mbap.specs.Counted.{inner_of};
 ghost use Rattle.line_source.specs.LineSources.{Hears, HearsReply, IsAnswer, IsOther, Tells};
 
+use line_io::read_some;
 use mb_mbap::{Counted, Frame, FrameReader};
 use mb_pdu::{Reply, Request, Span};
 use std::io::Read;
@@ -41,25 +42,6 @@ fn first_reply(query: &Frame, span: Span, frames: &[Frame]) -> Option<Reply>
     None
 }
 
-/// Reads the next piece, of at most so many bytes.
-fn read_piece<R: Read>(
-    reader: &mut Counted<R>,
-    piece: &mut [u8],
-    most: usize,
-) -> Result<usize, SourceFault>
-    requires some { 0 < most }
-    requires room { most ≤ length piece.old }
-    ensures some { IfOk result (λ count. (0 < count) × (count ≤ most)) }
-    ensures bytes { IfOk result (λ count. Consumes (R.remaining (inner_of reader.old)) (R.remaining (inner_of reader.new)) (take count piece.new)) }
-    ensures same { length piece.new ≡ length piece.old }
-{
-    match reader.read(&mut piece[..most]) {
-        Ok(0) => Err(SourceFault),
-        Ok(count) => Ok(count),
-        Err(_) => Err(SourceFault),
-    }
-}
-
 /// Reads a piece of at most so many bytes, and looks at the frames that it completes. It answers
 /// with how many bytes were read.
 fn read_on<R: Read>(
@@ -76,7 +58,7 @@ fn read_on<R: Read>(
         (R.remaining (inner_of reader.old)) (R.remaining (inner_of reader.new)) r.0) }
 {
     let mut piece = [0u8; PIECE];
-    let count = read_piece(reader, &mut piece, most)?;
+    let count = read_some(reader, &mut piece, most, SourceFault)?;
     let Ok(fed) = stream.feed(&piece[..count]) else {
         return Err(SourceFault);
     };

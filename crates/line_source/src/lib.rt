@@ -1,4 +1,6 @@
 //! A device's registers over a line, as a source that a device's models can be discovered from.
+//!
+//! `crates/tour/src/source.rt` is a short example.
 #![tactic(auto)]
 
 mod exchange;

@@ -6,8 +6,10 @@ use Rattle.std.specs.Str.{bytes_eq}
 use Rattle.std.specs.Str.Parse.{digits_value}
 use Rattle.toml.specs.Data.{Data, Members, as_str, as_table}
 use Rattle.toml_members.specs.Members.{◌>>=◌, each, number_at, number_in, optional_at, optional_entries_at}
-use Rattle.mb_map.specs.declared.error.MapError.{MapError}
-use Rattle.mb_map.specs.declared.error.MapError.TheVariants.{BadImage, Memory, TooLarge}
+use Rattle.mb_map.specs.declared.image_error.ImageError.{ImageError}
+use Rattle.mb_map.specs.declared.image_error.ImageFault.{ImageFault}
+use Rattle.mb_map.specs.declared.image_error.ImageFault.TheVariants.{Memory}
+use Rattle.mb_map.specs.declared.image_error.ImagePlace.{ImagePlace}
 use Rattle.mb_map.specs.declared.step.Step.{Step}
 use Rattle.mb_map.specs.declared.step.Step.TheVariants.{Drop, Hold, Pass, Twice}
 use Rattle.mb_map.specs.Queue.{differ}
@@ -15,14 +17,23 @@ use Rattle.mb_map.specs.Schedule.{Simulated, begun}
 use Rattle.mb_map.specs.Tables.{Cells, Tables}
 
 -- what a function returned is what reading gives, unless memory ran out
-abbrev pub Fails : {Y : Type 0} → MapError → Option Y → Type 0
+abbrev pub Fails : {Y : Type 0} → ImageFault → Option Y → Type 0
 Fails Memory read = ⊤
-Fails BadImage read = read ≡ None
-Fails TooLarge read = ⊥
+Fails fault read = read ≡ None
 
-abbrev pub Gives : {X Y : Type 0} → (X → Y) → Result X MapError → Option Y → Type 0
+abbrev pub Gives : {X Y : Type 0} → (X → Y) → Result X ImageFault → Option Y → Type 0
 Gives view (Ok x) read = read ≡ Some (view x)
-Gives view (Err e) read = Fails e read
+Gives view (Err fault) read = Fails fault read
+
+-- a fault with its place
+abbrev pub placed : {X : Type 0} → ImagePlace → Result X ImageFault → Result X ImageError
+placed place (Ok x) = Ok x
+placed place (Err fault) = Err (record { place = place; fault = fault })
+
+-- the same where an error tells the place, too
+abbrev pub GivesAt : {X Y : Type 0} → (X → Y) → Result X ImageError → Option Y → Type 0
+GivesAt view (Ok x) read = read ≡ Some (view x)
+GivesAt view (Err e) read = Fails e.fault read
 
 -- ---- a unit
 

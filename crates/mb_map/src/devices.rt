@@ -1,5 +1,5 @@
-ghost use Rattle.std.specs.Prelude.{ℕ, ◌≡◌, ◌≢◌, ◌<◌, ◌==◌, All, IfNone, IfSome, length, slice_index_or};
-ghost use Rattle.std.specs.List.{list_any};
+ghost use Rattle.std.specs.Prelude.{ℕ, ◌≡◌, ◌≢◌, ◌<◌, ◌==◌, All, IfNone, IfSome, length, is_none, slice_index_or};
+ghost use Rattle.std.specs.List.{position};
 ghost use Rattle.mb_map.specs.Queue.{HaveOwnIds, differ};
 ghost use Rattle.mb_map.specs.Schedule.{Serves};
 ghost use Rattle.mb_map.specs.Tables.{Tables};
@@ -40,23 +40,20 @@ pub(crate) fn serve(devices: &mut [(u8, Mapping)], frame: &Frame) -> Frame
     }
 }
 
-fn has_id(devices: &[(u8, Mapping)], id: u8) -> bool
-    ensures { result ≡ list_any (λ d. d.0 == id) devices.now }
+/// The place of a device whose unit identifier an earlier one has.
+pub(crate) fn repeated_id(devices: &[(u8, Mapping)]) -> Option<usize>
+    ensures none { is_none result ≡ differ devices.now }
+    ensures within { IfSome result (λ index. index < length devices.now) }
 {
-    devices.iter().any(|device| device.0 == id)
+    let (first, rest) = devices.split_first()?;
+    match device_of(rest, first.0) {
+        Some(index) => Some(index + 1),
+        None => Some(repeated_id(rest)? + 1),
+    }
 }
 
-pub(crate) fn ids_differ(devices: &[(u8, Mapping)]) -> bool
-    ensures { result ≡ differ devices.now }
+fn device_of(devices: &[(u8, Mapping)], id: u8) -> Option<usize>
+    ensures { result ≡ position (λ d. d.0 == id) devices.now }
 {
-    match devices.split_first() {
-        None => true,
-        Some((first, rest)) => {
-            if has_id(rest, first.0) {
-                false
-            } else {
-                ids_differ(rest)
-            }
-        }
-    }
+    devices.iter().position(|device| device.0 == id)
 }

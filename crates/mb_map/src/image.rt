@@ -5,28 +5,42 @@ ghost use Rattle.std.specs.Prelude.{length, true, ◌≡◌, ◌≢◌, ◌≤�
 ghost use Rattle.toml.specs.Data.{Members};
 ghost use Rattle.toml.specs.View.{items_view, table_view, view};
 ghost use Rattle.toml_members.specs.Members.{IsDocument, each, number_in};
-ghost use Rattle.mb_map.specs.Image.{Gives, cells_at, device_in, frames_of, image_of, step_in, step_of};
+ghost use Rattle.mb_map.specs.Image.{Gives, GivesAt, cells_at, device_in, frames_of, image_of, step_in, step_of};
 ghost use Rattle.mb_map.specs.Queue.{is_sound};
 ghost use Rattle.mb_map.specs.Schedule.{StandsFor};
 
 use crate::cells::Cells;
-use crate::devices::ids_differ;
+use crate::devices::repeated_id;
 use crate::error::MapError;
+use crate::image_error::{ImageError, ImageFault, ImagePlace, placed};
 use crate::mapping::Mapping;
 use crate::sim::Sim;
 use crate::step::Step;
 use std::alloc::Global;
-use toml::Value;
-use toml_members::{number_at, number_in, optional_at, optional_entries_at};
+use toml::{Table, Value};
+use toml_members::{
+    DocumentError, document, number_at, number_in, optional_at, optional_entries_at,
+};
 
-fn numbers_in(alloc: Global, entries: &[Value], greatest: u16) -> Result<Vec<u16>, MapError>
+fn numbers_in(
+    alloc: Global,
+    key: &'static str,
+    entries: &[Value],
+    greatest: u16,
+) -> Result<Vec<u16>, ImageFault>
     ensures gives { Gives (λ v. v.items) result (each (number_in greatest) (items_view entries.now)) }
     ensures within { IfOk result (λ v. All (λ n. n ≤ greatest) v.items) }
 {
     let mut numbers = Vec::new(alloc);
-    for entry in entries {
-        let number = number_in(entry, u32::from(greatest)).ok_or(MapError::BadImage)?;
-        numbers.push(number as u16).map_err(|_| MapError::Memory)?;
+    for (index, entry) in entries.iter().enumerate() {
+        let number = match number_in(entry, u32::from(greatest)) {
+            Ok(number) => number,
+            Err(fault) => {
+                let entry = index + 1;
+                return Err(ImageFault::Entry { key, entry, fault });
+            }
+        };
+        numbers.push(number as u16)?;
     }
     Ok(numbers)
 }
@@ -80,22 +94,21 @@ fn step_of(text: &str) -> Option<Step>
 }
 
 #[tactic(auto, unfolding(crate::specs::Image::step_in))]
-fn step_in(entry: &Value) -> Result<Step, MapError>
-    ensures gives { Gives (λ s. s) result (step_in (view entry.now)) }
-    ensures sound { IfOk result (λ step. IsTrue (is_sound step)) }
+fn step_in(entry: &Value) -> Option<Step>
+    ensures gives { result ≡ step_in (view entry.now) }
+    ensures sound { IfSome result (λ step. IsTrue (is_sound step)) }
 {
-    let text = entry.as_str().ok_or(MapError::BadImage)?;
-    step_of(text).ok_or(MapError::BadImage)
+    step_of(entry.as_str()?)
 }
 
-fn script_in(alloc: Global, entries: &[Value]) -> Result<Vec<Step>, MapError>
+fn script_in(alloc: Global, entries: &[Value]) -> Result<Vec<Step>, ImageFault>
     ensures gives { Gives (λ v. v.items) result (each step_in (items_view entries.now)) }
     ensures sound { IfOk result (λ v. IsTrue (list_all is_sound v.items)) }
 {
     let mut script = Vec::new(alloc);
-    for entry in entries {
-        let step = step_in(entry)?;
-        script.push(step).map_err(|_| MapError::Memory)?;
+    for (index, entry) in entries.iter().enumerate() {
+        let step = step_in(entry).ok_or(ImageFault::NoStep(index + 1))?;
+        script.push(step)?;
     }
     Ok(script)
 }
@@ -104,29 +117,29 @@ fn script_in(alloc: Global, entries: &[Value]) -> Result<Vec<Step>, MapError>
 #[tactic(auto, unfolding(crate::specs::Image::cells_at))]
 fn cells_at(
     alloc: Global,
-    table: &toml::Table,
-    key: &str,
-    start_key: &str,
+    table: &Table,
+    key: &'static str,
+    start_key: &'static str,
     greatest: u16,
-) -> Result<Cells, MapError>
+) -> Result<Cells, ImageFault>
     ensures gives { Gives (λ c. c) result (cells_at key.now start_key.now greatest (table_view table.now)) }
     ensures small { IfOk result (λ c. All (λ x. x.1 ≤ greatest) c) }
 {
-    let entries = optional_entries_at(table, key).ok_or(MapError::BadImage)?;
-    let numbers = numbers_in(alloc, entries, greatest)?;
-    let start = optional_at(table, start_key, 65536).ok_or(MapError::BadImage)?;
+    let entries = optional_entries_at(table, key)?;
+    let numbers = numbers_in(alloc, key, entries, greatest)?;
+    let start = optional_at(table, start_key, 65536)?;
     if start as usize + numbers.len() > 65536 {
-        return Err(MapError::BadImage);
+        return Err(ImageFault::PastEnd(key));
     }
     Ok(Cells::from_numbers(start, numbers))
 }
 
 #[tactic(auto, unfolding(crate::specs::Image::device_in))]
-fn device_in(alloc: Global, unit: &Value) -> Result<(u8, Mapping), MapError>
+fn device_in(alloc: Global, unit: &Value) -> Result<(u8, Mapping), ImageFault>
     ensures { Gives (λ d. d) result (device_in (view unit.now)) }
 {
-    let table = unit.as_table().ok_or(MapError::BadImage)?;
-    let id = number_at(table, "id", 255).ok_or(MapError::BadImage)?;
+    let table = unit.as_table().ok_or(ImageFault::NoTable)?;
+    let id = number_at(table, "id", 255)?;
     let coils = cells_at(alloc, table, "coils", "coils_start", 1)?;
     let discrete = cells_at(alloc, table, "discrete", "discrete_start", 1)?;
     let input = cells_at(alloc, table, "input", "input_start", u16::MAX)?;
@@ -140,29 +153,30 @@ fn device_in(alloc: Global, unit: &Value) -> Result<(u8, Mapping), MapError>
     Ok((id as u8, mapping))
 }
 
-fn devices_in(alloc: Global, units: &[Value]) -> Result<Vec<(u8, Mapping)>, MapError>
-    ensures { Gives (λ v. v.items) result (each device_in (items_view units.now)) }
+fn devices_in(alloc: Global, units: &[Value]) -> Result<Vec<(u8, Mapping)>, ImageError>
+    ensures { GivesAt (λ v. v.items) result (each device_in (items_view units.now)) }
 {
     let mut devices = Vec::new(alloc);
-    for unit in units {
-        let device = device_in(alloc, unit)?;
-        devices.push(device).map_err(|_| MapError::Memory)?;
+    for (index, unit) in units.iter().enumerate() {
+        let device = placed(ImagePlace::unit(index), device_in(alloc, unit))?;
+        devices.push(device)?;
     }
     Ok(devices)
 }
 
 // The simulator of a document.
 #[tactic(auto, unfolding(crate::specs::Image::image_of))]
-fn sim_in(alloc: Global, document: &toml::Table) -> Result<Sim, MapError>
-    ensures gives { Gives (λ s. s) result (image_of (table_view document.now)) }
+fn sim_in(alloc: Global, document: &Table) -> Result<Sim, ImageError>
+    ensures gives { GivesAt (λ s. s) result (image_of (table_view document.now)) }
     ensures stands { IfOk result (λ sim. StandsFor sim.devices sim.script [] [] sim) }
 {
-    let units = optional_entries_at(document, "unit").ok_or(MapError::BadImage)?;
+    let units = optional_entries_at(document, "unit")?;
     let devices = devices_in(alloc, units)?;
-    let steps = optional_entries_at(document, "script").ok_or(MapError::BadImage)?;
-    let script = script_in(alloc, steps)?;
-    if !ids_differ(devices.as_slice()) {
-        return Err(MapError::BadImage);
+    let steps = optional_entries_at(document, "script")?;
+    let script = placed(ImagePlace::Script, script_in(alloc, steps))?;
+    if let Some(index) = repeated_id(devices.as_slice()) {
+        let (id, _) = &devices[index];
+        return Err(ImageError::new(ImagePlace::unit(index), ImageFault::IdTwice(*id)));
     }
     Ok(Sim::new(alloc, devices, script))
 }
@@ -175,25 +189,32 @@ impl Sim {
     /// ignored.
     ///
     /// `docs/FORMATS.md` has the members one by one, with an example.
-    ///
-    /// `BadImage` comes exactly where the text is no such file, for another cause than memory.
-    pub fn from_toml(alloc: Global, bytes: &[u8]) -> Result<Sim, MapError>
+    pub fn from_image(alloc: Global, bytes: &[u8]) -> Result<Sim, ImageError>
         // What is read is the simulator of the document that the bytes are.
         ensures image { IfOk result (λ sim. (document : Members) × IsDocument bytes.now document × (image_of document ≡ Some sim)) }
         ensures stands { IfOk result (λ sim. StandsFor sim.devices sim.script [] [] sim) }
-        // The bytes are refused only where they are no document, or one of no simulator.
+        // The bytes are refused for want of memory, or where they are no document, or one of no simulator.
+        ensures bad { IfErr result (λ e. e.fault ≢ ImageFault.Memory → (document : Members) → IsDocument bytes.now document → image_of document ≡ None) }
+    {
+        match document(alloc, bytes) {
+            Ok(document) => sim_in(alloc, &document),
+            Err(DocumentError::NotToml(line)) => Err(ImageFault::NotToml(line).into()),
+            Err(DocumentError::Memory) => Err(ImageFault::Memory.into()),
+        }
+    }
+
+    /// The same, where the place of the fault isn't asked for: `BadImage` comes exactly where the text
+    /// is no such file, for another cause than memory.
+    pub fn from_toml(alloc: Global, bytes: &[u8]) -> Result<Sim, MapError>
+        ensures image { IfOk result (λ sim. (document : Members) × IsDocument bytes.now document × (image_of document ≡ Some sim)) }
+        ensures stands { IfOk result (λ sim. StandsFor sim.devices sim.script [] [] sim) }
         ensures bad { IfErr result (λ e. e ≡ MapError.BadImage → (document : Members) → IsDocument bytes.now document → image_of document ≡ None) }
         ensures fits { IfErr result (λ e. e ≢ MapError.TooLarge) }
     {
-        match toml::table_from_slice(alloc, bytes) {
-            Ok(document) => sim_in(alloc, &document),
-            Err(e) => {
-                if e.is_memory() {
-                    Err(MapError::Memory)
-                } else {
-                    Err(MapError::BadImage)
-                }
-            }
+        match Sim::from_image(alloc, bytes) {
+            Ok(sim) => Ok(sim),
+            Err(e) if e.is_memory() => Err(MapError::Memory),
+            Err(_) => Err(MapError::BadImage),
         }
     }
 }

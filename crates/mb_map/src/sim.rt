@@ -4,7 +4,7 @@ ghost use Rattle.mb_map.specs.Queue.{differ, is_sound};
 ghost use Rattle.mb_map.specs.Schedule.{Continues, StandsFor, begun, step_at};
 ghost use Rattle.mb_map.specs.Schedule.Call.{Rest, Take};
 
-use crate::devices::ids_differ;
+use crate::devices::repeated_id;
 use crate::error::MapError;
 use crate::held::Held;
 use crate::mapping::Mapping;
@@ -61,7 +61,7 @@ impl Sim {
     pub fn can_begin(devices: &[(u8, Mapping)], script: &[Step]) -> bool
         ensures { result ≡ (differ devices.now && list_all is_sound script.now) }
     {
-        ids_differ(devices) && steps_are_sound(script)
+        repeated_id(devices).is_none() && steps_are_sound(script)
     }
 
     /// A simulator of devices under their unit identifiers, which differ. The script has a step

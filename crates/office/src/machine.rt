@@ -2,14 +2,14 @@
 ghost use Rattle.point_list.specs.Sites.{IsSound};
 
 use crate::stores::work_on;
-use office_commands::{Fault, Host, Stores, Task, connect, serve};
+use office_commands::{Failure, Fault, Host, Stores, Task, Why, connect, serve};
 use office_core::Office;
 use point_list::Site;
 use poll_book::Keeper;
 use std::alloc::Global;
 use std::fs;
 use std::io::{self, ErrorKind, StdinLock, Write};
-use std::net::{TcpListener, TcpStream};
+use std::net::{SocketAddr, TcpListener, TcpStream};
 use std::time::Duration;
 
 #[derive(Drop)]
@@ -20,24 +20,41 @@ fn seconds(count: u16) -> Duration {
 }
 
 /// Listens on this host, and says so.
-fn listen(rt: &HostRuntime, port: u16) -> Result<TcpListener, Fault> {
-    let Ok(listener) = TcpListener::bind(rt, ("127.0.0.1", port)) else {
-        return Err(Fault::Line);
-    };
-    let Ok(address) = listener.local_addr() else {
-        return Err(Fault::Line);
+fn listen(rt: &HostRuntime, port: u16) -> Result<TcpListener, Failure> {
+    let (listener, address) = match bound(rt, port) {
+        Ok(bound) => bound,
+        Err(error) => return Err(on_port(rt, error, port)),
     };
     match eprintln!(rt; "office: listening on {address}") {
         Ok(()) => Ok(listener),
-        Err(_) => Err(Fault::File),
+        Err(_) => Err(Failure::from(Fault::File)),
     }
 }
 
+fn bound(rt: &HostRuntime, port: u16) -> io::Result<(TcpListener, SocketAddr)> {
+    let listener = TcpListener::bind(rt, ("127.0.0.1", port))?;
+    let address = listener.local_addr()?;
+    Ok((listener, address))
+}
+
+/// A port of this host failed.
+fn on_port(rt: &HostRuntime, error: io::Error, port: u16) -> Failure {
+    let failure = line_failure(error);
+    match format!(in rt.alloc(); "127.0.0.1:{port}") {
+        Ok(address) => failure.of(rt.alloc(), address.as_str()),
+        Err(_) => failure,
+    }
+}
+
+fn line_failure(error: io::Error) -> Failure {
+    Failure::new(Fault::Line, Why::System(error))
+}
+
 /// Both ends of a stream.
-fn ends(stream: TcpStream) -> Result<(TcpStream, TcpStream), Fault> {
+fn ends(stream: TcpStream) -> Result<(TcpStream, TcpStream), Failure> {
     match stream.try_clone() {
         Ok(same) => Ok((stream, same)),
-        Err(_) => Err(Fault::Line),
+        Err(error) => Err(line_failure(error)),
     }
 }
 
@@ -60,27 +77,34 @@ impl Host for Machine<'_> {
         io::writer(self.0).write_all(bytes)
     }
 
-    fn complain(&mut self, fault: Fault) -> io::Result<()> {
-        eprintln!(self.0; "office: {fault}")
+    fn complain(&mut self, failure: &Failure) -> io::Result<()> {
+        eprintln!(self.0; "office: {failure}")
     }
 
-    fn read_file(&mut self, path: &str) -> Result<Vec<u8>, Fault> {
+    fn read_file(&mut self, path: &str) -> Result<Vec<u8>, Failure> {
         match fs::read(self.0, path) {
             Ok(bytes) => Ok(bytes),
-            Err(error) if error.kind() == ErrorKind::OutOfMemory => Err(Fault::Memory),
-            Err(_) => Err(Fault::File),
+            Err(error) if error.kind() == ErrorKind::OutOfMemory => {
+                Err(Failure::from(Fault::Memory))
+            }
+            Err(error) => {
+                Err(Failure::new(Fault::File, Why::System(error)).of(self.alloc(), path))
+            }
         }
     }
 
-    fn connect(&mut self, address: &str, timeout: u16) -> Result<(TcpStream, TcpStream), Fault> {
-        ends(connect(self.0, address, seconds(timeout))?)
+    fn connect(&mut self, address: &str, timeout: u16) -> Result<(TcpStream, TcpStream), Failure> {
+        match connect(self.0, address, seconds(timeout)) {
+            Ok(stream) => ends(stream),
+            Err(failure) => Err(failure.of(self.alloc(), address)),
+        }
     }
 
-    fn accept(&mut self, port: u16) -> Result<(TcpStream, TcpStream), Fault> {
+    fn accept(&mut self, port: u16) -> Result<(TcpStream, TcpStream), Failure> {
         let listener = listen(self.0, port)?;
         match listener.accept() {
             Ok((stream, _)) => ends(stream),
-            Err(_) => Err(Fault::Line),
+            Err(error) => Err(line_failure(error)),
         }
     }
 
@@ -90,14 +114,14 @@ impl Host for Machine<'_> {
         port: u16,
         count: Option<u32>,
         timeout: u16,
-    ) -> Result<(), Fault> {
+    ) -> Result<(), Failure> {
         let listener = listen(self.0, port)?;
         serve(self.0, office, &listener, count, seconds(timeout))
     }
 }
 
 impl Stores for Machine<'_> {
-    fn work(&mut self, store: &str, site: Site, task: &Task<'_>) -> Result<(), Fault> {
+    fn work(&mut self, store: &str, site: Site, task: &Task<'_>) -> Result<(), Failure> {
         work_on(self, store, site, task)
     }
 }

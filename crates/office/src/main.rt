@@ -5,7 +5,7 @@ mod machine;
 mod stores;
 
 use crate::machine::Machine;
-use office_commands::{Fault, Host, run};
+use office_commands::{Failure, Fault, Host, run};
 use std::process::ExitCode;
 use std::{env, io};
 
@@ -20,7 +20,7 @@ fn main(rt: HostRuntime) -> io::Result<ExitCode> {
     match words_of(&rt) {
         Some(words) => Ok(ExitCode::from(run(&mut machine, words)?)),
         None => {
-            machine.complain(Fault::Memory)?;
+            machine.complain(&Failure::from(Fault::Memory))?;
             Ok(ExitCode::from(Fault::Memory.status()))
         }
     }

@@ -3,7 +3,7 @@
 ghost use Rattle.point_list.specs.Sites.{IsSound};
 
 use crate::machine::Machine;
-use office_commands::{Fault, Task, work_in};
+use office_commands::{Failure, Fault, Task, Why, work_in};
 use office_core::Office;
 use office_store::{SqlKeeper, StoreError, create};
 use point_list::Site;
@@ -34,10 +34,21 @@ fn opening_fault(error: &Error) -> Fault {
     }
 }
 
-fn open(rt: &HostRuntime, path: &str) -> Result<Connection<FileStore<File>>, Fault> {
+fn open(rt: &HostRuntime, path: &str) -> Result<Connection<FileStore<File>>, Failure> {
     match Connection::open(rt, path) {
         Ok(connection) => Ok(connection),
-        Err(error) => Err(opening_fault(&error)),
+        Err(error) => Err(opening_failure(rt, &error, path)),
+    }
+}
+
+/// The same with the file, which can be neither opened nor made.
+fn opening_failure(rt: &HostRuntime, error: &Error, path: &str) -> Failure {
+    match opening_fault(error) {
+        Fault::File => {
+            let why = Why::Words("it can be neither opened nor made");
+            Failure::new(Fault::File, why).of(rt.alloc(), path)
+        }
+        fault => Failure::from(fault),
     }
 }
 
@@ -71,7 +82,7 @@ fn work_over<S: Alter + Drop>(
     is_new: bool,
     site: Site,
     task: &Task<'_>,
-) -> Result<(), Fault>
+) -> Result<(), Failure>
     requires { IsSound site }
 {
     let keeper = keeper_over(connection, is_new)?;
@@ -85,11 +96,14 @@ pub(crate) fn work_on(
     path: &str,
     site: Site,
     task: &Task<'_>,
-) -> Result<(), Fault>
+) -> Result<(), Failure>
     requires { IsSound site }
 {
-    let Ok(exists) = fs::exists(machine.0, path) else {
-        return Err(Fault::File);
+    let exists = match fs::exists(machine.0, path) {
+        Ok(exists) => exists,
+        Err(error) => {
+            return Err(Failure::new(Fault::File, Why::System(error)).of(machine.0.alloc(), path));
+        }
     };
     let connection = open(machine.0, path)?;
     work_over(machine, connection, !exists, site, task)

@@ -1,5 +1,5 @@
 //! What a SunSpec device says of itself.
-use crate::Fault;
+use crate::Failure;
 use std::alloc::{AllocError, Global};
 use sunspec::{Chain, Common, Model, RegisterSource, Value, common, value_text};
 
@@ -72,7 +72,7 @@ fn chain_text(alloc: Global, chain: &Chain, common: Option<&Common>) -> Result<S
 /// Asks a device for its chain of models, and gives what is printed: `base N`; of a model 1 the lines
 /// `Mn`, `Md`, `Opt`, `Vr`, `SN` and `DA`, each with its value, `-` where it isn't implemented; `model ID at A
 /// length L` for each model; `end A`; and last the member `models` of the device in a site file.
-pub fn discover<S: RegisterSource>(alloc: Global, source: &mut S) -> Result<String, Fault> {
+pub fn discover<S: RegisterSource>(alloc: Global, source: &mut S) -> Result<String, Failure> {
     let chain = sunspec::discover(alloc, source)?;
     let common = common(source, &chain)?;
     let text = chain_text(alloc, &chain, common.as_ref())?;

@@ -1,6 +1,7 @@
 //! What is done in an office, wherever its store is.
 use crate::output::Output;
-use crate::{Fault, Host, load, order, poll};
+use crate::running::unknown;
+use crate::{Failure, Fault, Host, Why, load, order, poll};
 use mb_mbap::Counted;
 use office_core::Office;
 use office_report::write_report;
@@ -22,16 +23,16 @@ fn load_list<H: Host, K: Keeper>(
     caller: &Caller,
     key: &Key,
     list: &[u8],
-) -> Result<(), Fault> {
+) -> Result<(), Failure> {
     let text = load(host.alloc(), office, caller, key, list)?;
     print(host, text.as_str())
 }
 
 /// Prints a text as it stands.
-pub(crate) fn print<H: Host>(host: &mut H, text: &str) -> Result<(), Fault> {
+pub(crate) fn print<H: Host>(host: &mut H, text: &str) -> Result<(), Failure> {
     match host.print(text.as_bytes()) {
         Ok(()) => Ok(()),
-        Err(_) => Err(Fault::File),
+        Err(_) => Err(Failure::new(Fault::File, Why::Words("standard output can't be written"))),
     }
 }
 
@@ -52,13 +53,15 @@ fn poll_line<H: Host, K: Keeper>(
     slot: u32,
     timeout: u16,
     line: &str,
-) -> Result<(), Fault> {
+) -> Result<(), Failure> {
     let Some(address) = address_of(host.alloc(), office.site(), line)? else {
-        return Err(Fault::Unknown);
+        return Err(unknown(host.alloc(), line, "the site has no line of this name"));
     };
     let (reader, writer) = host.connect(address.as_str(), timeout)?;
-    let text = poll(host.alloc(), office, line, slot, reader, writer)?;
-    print(host, text.as_str())
+    match poll(host.alloc(), office, line, slot, reader, writer) {
+        Ok(text) => print(host, text.as_str()),
+        Err(failure) => Err(failure.of(host.alloc(), address.as_str())),
+    }
 }
 
 fn order_setting<H: Host, K: Keeper>(
@@ -68,7 +71,7 @@ fn order_setting<H: Host, K: Keeper>(
     key: &Key,
     point: &str,
     value: i128,
-) -> Result<(), Fault> {
+) -> Result<(), Failure> {
     let text = order(host.alloc(), office, caller, key, point, value)?;
     print(host, text.as_str())
 }
@@ -79,16 +82,19 @@ fn report_point<H: Host, K: Keeper>(
     point: &str,
     from: u32,
     to: u32,
-) -> Result<(), Fault> {
+) -> Result<(), Failure> {
     if from > to {
-        return Err(Fault::Command);
+        return Err(Failure::new(
+            Fault::Command,
+            Why::Words("the last slot lies before the first"),
+        ));
     }
     let alloc = host.alloc();
     let mut writer = Counted::new(Output(host));
     if write_report(alloc, office, point, from, to, &mut writer)? {
         Ok(())
     } else {
-        Err(Fault::Unknown)
+        Err(unknown(alloc, point, "no point of this name is known"))
     }
 }
 
@@ -97,7 +103,7 @@ pub fn work_in<H: Host, K: Keeper>(
     host: &mut H,
     office: &mut Office<K>,
     task: &Task<'_>,
-) -> Result<(), Fault> {
+) -> Result<(), Failure> {
     match task.errand {
         Errand::Load { caller, key, .. } => load_list(host, office, caller, key, task.list),
         Errand::Poll {

@@ -2,6 +2,7 @@
 ghost use Rattle.std.specs.Prelude.{◌≡◌};
 ghost use Rattle.office_commands.specs.declared.fault.Fault.TheVariants.{Memory};
 
+use crate::Why;
 use mb_map::MapError;
 use office_core::OfficeError;
 use office_net::PollFault;
@@ -64,6 +65,23 @@ impl Fault {
             Fault::Command | Fault::BadSite | Fault::BadList | Fault::Unknown | Fault::FrameLine =>
                 { 2 }
             _ => 1,
+        }
+    }
+
+    /// What a fault of a store comes from, in words.
+    pub(crate) fn reason(&self) -> Why {
+        match self {
+            Fault::Store(StoreFault::Full) => Why::Words("no room is left"),
+            Fault::Store(StoreFault::Disk) => Why::Words(
+                "it can't be read or written, or is damaged",
+            ),
+            Fault::Store(StoreFault::Other) => {
+                Why::Words("another process has it open, or it holds what no office wrote")
+            }
+            Fault::BadVersion => Why::Words("its tables are of another version"),
+            Fault::NotOffice => Why::Words("it is no office's store"),
+            Fault::SiteDiffers => Why::Words("a point of it is of a device that the site lacks"),
+            _ => Why::Unsaid,
         }
     }
 }

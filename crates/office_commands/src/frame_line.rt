@@ -1,31 +1,12 @@
 //! Frames as lines of text: bytes as two hexadecimal digits each, with single spaces between them.
-use hex::FromHex;
 use mb_mbap::Frame;
+use office_script::hexadecimal;
 use std::alloc::{AllocError, Global};
-
-/// The byte that two hexadecimal digits spell, in either case.
-fn byte(word: &[u8]) -> Option<u8> {
-    match <[u8; 1]>::from_hex(word) {
-        Ok(bytes) => Some(bytes[0]),
-        Err(_) => None,
-    }
-}
-
-/// The bytes that a line spells.
-fn bytes_of(alloc: Global, line: &[u8]) -> Result<Option<Vec<u8>>, AllocError> {
-    let mut bytes = Vec::new(alloc);
-    for word in line.split(|b| *b == b' ') {
-        let Some(value) = byte(word) else {
-            return Ok(None);
-        };
-        bytes.push(value)?;
-    }
-    Ok(Some(bytes))
-}
 
 /// The frame that a line spells, without the line's end; `None` where it spells none.
 pub(crate) fn frame_of(alloc: Global, line: &[u8]) -> Result<Option<Frame>, AllocError> {
-    let Some(bytes) = bytes_of(alloc, line)? else {
+    let words: Vec<&[u8]> = line.split(|byte| *byte == b' ').collect(alloc)?;
+    let Some(bytes) = hexadecimal::bytes(alloc, &words)? else {
         return Ok(None);
     };
     Ok(Frame::decode(&bytes).ok())
@@ -42,8 +23,7 @@ pub(crate) fn push_frame(
         if place > 0 {
             text.push(b' ')?;
         }
-        let digits = hex::encode_upper(alloc, [*byte])?;
-        text.extend_from_slice(digits.as_bytes())?;
+        hexadecimal::push_byte(alloc, text, *byte)?;
     }
     Ok(text.push(b'\n')?)
 }

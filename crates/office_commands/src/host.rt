@@ -1,7 +1,7 @@
 //! Where the files, the streams and the store of a command are.
 ghost use Rattle.point_list.specs.Sites.{IsSound};
 
-use crate::{Fault, Task};
+use crate::{Failure, Task};
 use office_core::Office;
 use point_list::Site;
 use poll_book::Keeper;
@@ -24,11 +24,11 @@ pub trait Host {
     /// Writes all of this to standard output.
     fn print(&mut self, bytes: &[u8]) -> io::Result<()>;
 
-    /// Tells a fault on standard error.
-    fn complain(&mut self, fault: Fault) -> io::Result<()>;
+    /// Tells on standard error what ended a command.
+    fn complain(&mut self, failure: &Failure) -> io::Result<()>;
 
     /// The whole of a file.
-    fn read_file(&mut self, path: &str) -> Result<Vec<u8>, Fault>;
+    fn read_file(&mut self, path: &str) -> Result<Vec<u8>, Failure>;
 
     /// Connects to the devices at a line's address. Connecting, each read and each write wait for so many seconds
     /// at most.
@@ -36,10 +36,10 @@ pub trait Host {
         &mut self,
         address: &str,
         seconds: u16,
-    ) -> Result<(Self::Reader, Self::Writer), Fault>;
+    ) -> Result<(Self::Reader, Self::Writer), Failure>;
 
     /// Waits for one connection on a port of this machine.
-    fn accept(&mut self, port: u16) -> Result<(Self::Reader, Self::Writer), Fault>;
+    fn accept(&mut self, port: u16) -> Result<(Self::Reader, Self::Writer), Failure>;
 
     /// Answers so many connections on a port of this machine, one after the other; without a count there is no
     /// end. Each read and each write wait for so many seconds at most.
@@ -49,12 +49,12 @@ pub trait Host {
         port: u16,
         count: Option<u32>,
         seconds: u16,
-    ) -> Result<(), Fault>;
+    ) -> Result<(), Failure>;
 }
 
 /// A host that has stores too.
 pub trait Stores: Host {
     /// Does a task in the office of a store over a site, by `work_in`.
-    fn work(&mut self, store: &str, site: Site, task: &Task<'_>) -> Result<(), Fault>
+    fn work(&mut self, store: &str, site: Site, task: &Task<'_>) -> Result<(), Failure>
         requires { IsSound site };
 }

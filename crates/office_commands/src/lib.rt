@@ -4,6 +4,7 @@
 
 mod discovering;
 mod errands;
+mod failure;
 mod fault;
 mod frame_line;
 mod host;
@@ -18,6 +19,7 @@ mod timed;
 
 pub use discovering::discover;
 pub use errands::{Task, work_in};
+pub use failure::{Failure, Why};
 pub use fault::Fault;
 pub use host::{Host, Stores};
 pub use listing::{load, plan};
@@ -25,4 +27,4 @@ pub use ordering::order;
 pub use polling::{connect, poll};
 pub use running::run;
 pub use serving::serve;
-pub use simulating::{answer_lines, answer_stream};
+pub use simulating::{LinesFault, answer_lines, answer_stream};

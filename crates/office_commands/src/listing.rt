@@ -1,24 +1,24 @@
 //! Point lists: loading them, and planning their reads.
 ghost use Rattle.point_list.specs.Sites.{IsSound};
 
-use crate::Fault;
+use crate::Failure;
 use office_core::{Office, RequestAnswer};
-use point_list::{Device, Point, Site, read_list, resolve};
-use poll_book::{Caller, Keeper, Key, Outcome, Reason};
-use read_planner::{Read, can_be_read};
+use office_net::reads_of;
+use office_report::request_text;
+use point_list::{Device, Point, Site, read_points};
+use poll_book::{Caller, Keeper, Key, Outcome, PointRow};
+use read_planner::Read;
 use std::alloc::{AllocError, Global};
 
-/// Why a list was refused, and where.
-fn refused_text(alloc: Global, reason: &Reason) -> Result<String, AllocError> {
-    let Reason { fault, row, column } = *reason;
-    format!(in alloc; "refused {fault} row {row} column {column}\n")
-}
-
-fn outcome_text(alloc: Global, outcome: &Outcome) -> Result<String, AllocError> {
-    match outcome {
-        Outcome::Loaded(count) => format!(in alloc; "loaded {count}\n"),
-        Outcome::Ordered(number) => format!(in alloc; "order {number}\n"),
-        Outcome::RefusedFor(reason) => refused_text(alloc, reason),
+/// What a list is answered, and where it was refused.
+fn list_text(alloc: Global, told: &RequestAnswer) -> Result<String, AllocError> {
+    let text = request_text(alloc, told)?;
+    match told {
+        RequestAnswer::Kept {
+            outcome: Outcome::RefusedFor(reason),
+            ..
+        } => format!(in alloc; "{text} row {} column {}\n", reason.row, reason.column),
+        _ => format!(in alloc; "{text}\n"),
     }
 }
 
@@ -31,53 +31,41 @@ pub fn load<K: Keeper>(
     caller: &Caller,
     key: &Key,
     list: &[u8],
-) -> Result<String, Fault> {
-    let text = match office.load(caller, key, list)? {
-        RequestAnswer::Kept { outcome, .. } => outcome_text(alloc, &outcome)?,
-        RequestAnswer::KeyReused => String::from_str(alloc, "key reused\n")?,
-    };
-    Ok(text)
+) -> Result<String, Failure> {
+    let told = office.load(caller, key, list)?;
+    Ok(list_text(alloc, &told)?)
 }
 
-/// The points of a list that are of a device.
-fn points_of(alloc: Global, points: &[Point], device: &Device) -> Result<Vec<Point>, AllocError> {
+/// The points of a list as rows, whose numbers count for nothing here.
+fn rows_of(alloc: Global, points: &[Point]) -> Result<Vec<PointRow>, AllocError> {
     points
         .iter()
-        .filter(|point| point.device.as_bytes() == device.name.as_bytes())
-        .copied()
+        .map(|point| PointRow {
+            number: 0,
+            point: *point,
+        })
         .collect(alloc)
 }
 
-/// The reads of a device's points. Points of a list can be read.
-fn reads_of(alloc: Global, points: &[Point], device: &Device) -> Result<Vec<Read>, Fault> {
-    if !points.iter().all(|point| can_be_read(point)) {
-        return Err(Fault::BadList);
-    }
-    let reads = read_planner::plan(alloc, points, device.gap)?;
-    Ok(reads)
-}
-
-fn push_read(alloc: Global, text: &mut String, read: &Read) -> Result<(), AllocError> {
+fn push_read(text: &mut String, read: &Read) -> Result<(), AllocError> {
     let Read { function, span } = *read;
-    let line = format!(in alloc; "{function:02} {} {}\n", span.start, span.quantity)?;
-    text.push_str(line.as_str())
+    writeln!(text, "{function:02} {} {}", span.start, span.quantity)
 }
 
 fn push_device(
     alloc: Global,
     text: &mut String,
-    points: &[Point],
+    known: &[PointRow],
     device: &Device,
-) -> Result<(), Fault> {
-    let points = points_of(alloc, points, device)?;
-    if points.is_empty() {
+) -> Result<(), AllocError> {
+    let reads = reads_of(alloc, known, device)?;
+    if reads.is_empty() {
         return Ok(());
     }
-    text.push_str("device ")?;
-    text.push_str(device.name.as_str())?;
-    text.push_str("\n")?;
-    for read in &reads_of(alloc, &points, device)? {
-        push_read(alloc, text, read)?;
+    let name = &device.name;
+    writeln!(text, "device {name}")?;
+    for read in &reads {
+        push_read(text, read)?;
     }
     Ok(())
 }
@@ -85,14 +73,14 @@ fn push_device(
 /// The fewest reads that give the points of a list, as they are printed: for each device of the site
 /// that has points a line `device NAME`, and then a line for each of its reads, with the function
 /// code, the start and the quantity, as `03 0 125`. A list that isn't one is `BadList`.
-pub fn plan(alloc: Global, site: &Site, list: &[u8]) -> Result<String, Fault>
+pub fn plan(alloc: Global, site: &Site, list: &[u8]) -> Result<String, Failure>
     requires { IsSound site.now }
 {
-    let rows = read_list(alloc, list, site)?;
-    let points = resolve(alloc, rows, site)?;
+    let points = read_points(alloc, list, site)?;
+    let known = rows_of(alloc, &points)?;
     let mut text = String::new(alloc);
     for device in site.devices.as_slice() {
-        push_device(alloc, &mut text, &points, device)?;
+        push_device(alloc, &mut text, &known, device)?;
     }
     Ok(text)
 }

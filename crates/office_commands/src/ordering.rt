@@ -1,16 +1,9 @@
 //! Orders of settings.
-use crate::Fault;
-use office_core::{Office, RequestAnswer};
-use poll_book::{Caller, Keeper, Key, Outcome};
-use std::alloc::{AllocError, Global};
-
-fn outcome_text(alloc: Global, outcome: &Outcome) -> Result<String, AllocError> {
-    match outcome {
-        Outcome::Ordered(number) => format!(in alloc; "order {number}\n"),
-        Outcome::Loaded(count) => format!(in alloc; "loaded {count}\n"),
-        Outcome::RefusedFor(reason) => format!(in alloc; "refused {}\n", reason.fault),
-    }
-}
+use crate::Failure;
+use office_core::Office;
+use office_report::request_text;
+use poll_book::{Caller, Keeper, Key};
+use std::alloc::Global;
 
 /// Orders that a point is set to a value, under a caller's key, and gives what is printed: `order N`
 /// with the order's number, `refused TEXT`, or `key reused` where another request had the key. A
@@ -22,10 +15,9 @@ pub fn order<K: Keeper>(
     key: &Key,
     point: &str,
     value: i128,
-) -> Result<String, Fault> {
-    let text = match office.order(caller, key, point, value)? {
-        RequestAnswer::Kept { outcome, .. } => outcome_text(alloc, &outcome)?,
-        RequestAnswer::KeyReused => String::from_str(alloc, "key reused\n")?,
-    };
+) -> Result<String, Failure> {
+    let told = office.order(caller, key, point, value)?;
+    let mut text = request_text(alloc, &told)?;
+    text.push_str("\n")?;
     Ok(text)
 }

@@ -1,12 +1,12 @@
 //! Polling a line.
-use crate::Fault;
+use crate::{Failure, Fault, Why};
 use mb_mbap::Counted;
 use office_core::Office;
 use office_net::{Round, poll_round};
 use poll_book::Keeper;
 use std::alloc::{AllocError, Global};
 use std::io::{self, Read, Write};
-use std::net::{Net, TcpStream, ToSocketAddrs};
+use std::net::{Net, SocketAddr, TcpStream, ToSocketAddrs};
 use std::time::Duration;
 
 /// A stream whose reads and writes wait for so long at most.
@@ -17,22 +17,33 @@ fn with_timeouts(stream: TcpStream, timeout: Duration) -> io::Result<TcpStream> 
     Ok(stream)
 }
 
+fn connect_to<N: Net<Stream = TcpStream>>(
+    net: &N,
+    address: &SocketAddr,
+    timeout: Duration,
+) -> io::Result<TcpStream> {
+    with_timeouts(TcpStream::connect_timeout(net, address, timeout)?, timeout)
+}
+
 /// Connects to a host and port as `127.0.0.1:1502`, where a host has several addresses to the first
 /// that answers. Connecting to each, and each read and write after that, waits for `timeout` at most.
 pub fn connect<N: Net<Stream = TcpStream>>(
     net: &N,
     address: &str,
     timeout: Duration,
-) -> Result<TcpStream, Fault> {
-    let Ok(found) = address.to_socket_addrs(net) else {
-        return Err(Fault::Line);
+) -> Result<TcpStream, Failure> {
+    let found = match address.to_socket_addrs(net) {
+        Ok(found) => found,
+        Err(error) => return Err(Failure::new(Fault::Line, Why::System(error))),
     };
+    let mut why = Why::Words("no host of this name");
     for one in found {
-        if let Ok(stream) = TcpStream::connect_timeout(net, &one, timeout) {
-            return with_timeouts(stream, timeout).map_err(|_| Fault::Line);
+        match connect_to(net, &one, timeout) {
+            Ok(stream) => return Ok(stream),
+            Err(error) => why = Why::System(error),
         }
     }
-    Err(Fault::Line)
+    Err(Failure::new(Fault::Line, why))
 }
 
 fn round_text(alloc: Global, round: &Round) -> Result<String, AllocError> {
@@ -55,7 +66,7 @@ pub fn poll<K: Keeper, R: Read + Drop, W: Write + Drop>(
     slot: u32,
     reader: R,
     writer: W,
-) -> Result<String, Fault> {
+) -> Result<String, Failure> {
     let conn = office.open_line(line)?;
     let (mut reader, mut writer) = (Counted::new(reader), Counted::new(writer));
     let round = poll_round(alloc, office, conn, slot, &mut reader, &mut writer)?;

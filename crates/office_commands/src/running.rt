@@ -5,13 +5,15 @@ ghost use Rattle.point_list.specs.Sites.{IsSound};
 
 use crate::errands::print;
 use crate::output::Output;
-use crate::{Fault, Host, Stores, Task, answer_lines, answer_stream, discover, plan};
+use crate::{Failure, Fault, Host, Stores, Task, Why, answer_lines, answer_stream, discover, plan};
 use line_source::LineSource;
 use mb_map::Sim;
 use mb_mbap::Counted;
 use office_script::{Replayed, replay};
 use office_words::{Errand, Job, WordFault, help_of, read_words};
-use point_list::{Site, read_site};
+use point_list::Site;
+use poll_book::StoreFault;
+use std::alloc::Global;
 use std::io;
 
 /// The status of a program that did what it was asked for.
@@ -20,23 +22,25 @@ const DONE: u8 = 0;
 /// The status where a script has a line of another form.
 const FAULTY: u8 = 2;
 
-fn site_of<H: Host>(host: &mut H, path: &str) -> Result<Site, Fault>
+fn site_of<H: Host>(host: &mut H, path: &str) -> Result<Site, Failure>
     ensures { IfOk result IsSound }
 {
     let bytes = host.read_file(path)?;
-    match read_site(host.alloc(), &bytes) {
+    match Site::from_toml(host.alloc(), &bytes) {
         Ok(site) => Ok(site),
-        Err(error) => Err(Fault::from(error)),
+        Err(error) => Err(Failure::from(error).of(host.alloc(), path)),
     }
 }
 
-fn sim_of<H: Host>(host: &mut H, path: &str) -> Result<Sim, Fault> {
+fn sim_of<H: Host>(host: &mut H, path: &str) -> Result<Sim, Failure> {
     let bytes = host.read_file(path)?;
-    let sim = Sim::from_toml(host.alloc(), &bytes)?;
-    Ok(sim)
+    match Sim::from_image(host.alloc(), &bytes) {
+        Ok(sim) => Ok(sim),
+        Err(error) => Err(Failure::from(error).of(host.alloc(), path)),
+    }
 }
 
-fn replay_input<H: Host>(host: &mut H) -> Result<u8, Fault> {
+fn replay_input<H: Host>(host: &mut H) -> Result<u8, Failure> {
     let alloc = host.alloc();
     let mut reader = Counted::new(host.input());
     let mut writer = Counted::new(Output(host));
@@ -46,11 +50,31 @@ fn replay_input<H: Host>(host: &mut H) -> Result<u8, Fault> {
     }
 }
 
-fn plan_file<H: Host>(host: &mut H, site: &str, list: &str) -> Result<(), Fault> {
+fn plan_file<H: Host>(host: &mut H, site: &str, list: &str) -> Result<(), Failure> {
     let site = site_of(host, site)?;
-    let list = host.read_file(list)?;
-    let text = plan(host.alloc(), &site, &list)?;
-    print(host, text.as_str())
+    let bytes = host.read_file(list)?;
+    match plan(host.alloc(), &site, &bytes) {
+        Ok(text) => print(host, text.as_str()),
+        Err(failure) => Err(failure.of(host.alloc(), list)),
+    }
+}
+
+/// No device, line or point of a name is known.
+pub(crate) fn unknown(alloc: Global, name: &str, why: &'static str) -> Failure {
+    Failure::new(Fault::Unknown, Why::Words(why)).of(alloc, name)
+}
+
+/// The chain of models of the device with a unit identifier at an address, as it is printed.
+fn discover_at<H: Host>(
+    host: &mut H,
+    address: &str,
+    unit: u8,
+    timeout: u16,
+) -> Result<String, Failure> {
+    let (reader, writer) = host.connect(address, timeout)?;
+    let (reader, writer) = (Counted::new(reader), Counted::new(writer));
+    let mut source = LineSource::new(host.alloc(), unit, reader, writer);
+    discover(host.alloc(), &mut source)
 }
 
 /// Asks a device which models it has.
@@ -58,55 +82,74 @@ fn discover_device<H: Host>(
     host: &mut H,
     site: &str,
     timeout: u16,
-    device: &str,
-) -> Result<(), Fault> {
+    name: &str,
+) -> Result<(), Failure> {
     let site = site_of(host, site)?;
-    let Some(device) = site.device(device) else {
-        return Err(Fault::Unknown);
+    let Some(device) = site.device(name) else {
+        return Err(unknown(host.alloc(), name, "the site has no device of this name"));
     };
     let Some(line) = site.lines.as_slice().get(device.line as usize) else {
-        return Err(Fault::Unknown);
+        return Err(unknown(host.alloc(), name, "the site has no line for this device"));
     };
-    let (reader, writer) = host.connect(line.address.as_str(), timeout)?;
-    let (reader, writer) = (Counted::new(reader), Counted::new(writer));
-    let mut source = LineSource::new(host.alloc(), device.unit, reader, writer);
-    let text = discover(host.alloc(), &mut source)?;
-    print(host, text.as_str())
+    match discover_at(host, line.address.as_str(), device.unit, timeout) {
+        Ok(text) => print(host, text.as_str()),
+        Err(failure) => Err(failure.of(host.alloc(), name)),
+    }
 }
 
-fn simulate_lines<H: Host>(host: &mut H, image: &str) -> Result<(), Fault> {
+fn simulate_lines<H: Host>(host: &mut H, image: &str) -> Result<(), Failure> {
     let mut sim = sim_of(host, image)?;
     let alloc = host.alloc();
-    let mut reader = host.input();
-    let mut writer = Output(host);
-    answer_lines(alloc, &mut sim, &mut reader, &mut writer)
+    let mut reader = Counted::new(host.input());
+    let mut writer = Counted::new(Output(host));
+    match answer_lines(alloc, &mut sim, &mut reader, &mut writer) {
+        Ok(()) => Ok(()),
+        Err(fault) => Err(Failure::from(fault)),
+    }
 }
 
-fn simulate_port<H: Host>(host: &mut H, image: &str, port: u16) -> Result<(), Fault> {
+fn simulate_port<H: Host>(host: &mut H, image: &str, port: u16) -> Result<(), Failure> {
     let mut sim = sim_of(host, image)?;
-    let (mut reader, mut writer) = host.accept(port)?;
+    let (reader, writer) = host.accept(port)?;
+    let (mut reader, mut writer) = (Counted::new(reader), Counted::new(writer));
     answer_stream(host.alloc(), &mut sim, &mut reader, &mut writer)
 }
 
 /// The list that an errand loads, or no bytes.
-fn list_of<H: Host>(host: &mut H, errand: &Errand) -> Result<Vec<u8>, Fault> {
+fn list_of<H: Host>(host: &mut H, errand: &Errand) -> Result<Vec<u8>, Failure> {
     match errand {
         Errand::Load { list, .. } => host.read_file(list.as_str()),
         _ => Ok(Vec::new(host.alloc())),
     }
 }
 
-fn work<H: Stores>(host: &mut H, store: &str, site: &str, errand: &Errand) -> Result<(), Fault> {
+/// Whether it is the store that a fault is of.
+fn is_of_store(fault: Fault) -> bool {
+    matches!(
+        fault,
+        Fault::Store(StoreFault::Full | StoreFault::Disk | StoreFault::Other)
+            | Fault::BadVersion
+            | Fault::NotOffice
+            | Fault::SiteDiffers
+    )
+}
+
+fn work<H: Stores>(host: &mut H, store: &str, site: &str, errand: &Errand) -> Result<(), Failure> {
     let site = site_of(host, site)?;
     let list = list_of(host, errand)?;
     let task = Task {
         errand,
         list: &list,
     };
-    host.work(store, site, &task)
+    match host.work(store, site, &task) {
+        Err(failure) if is_of_store(failure.fault) => {
+            Err(failure.explained().of(host.alloc(), store))
+        }
+        done => done,
+    }
 }
 
-fn carry_out<H: Stores>(host: &mut H, job: &Job) -> Result<u8, Fault> {
+fn carry_out<H: Stores>(host: &mut H, job: &Job) -> Result<u8, Failure> {
     match job {
         Job::Replay => return replay_input(host),
         Job::Plan { site, list } => plan_file(host, site.as_str(), list.as_str())?,
@@ -130,19 +173,22 @@ fn carry_out<H: Stores>(host: &mut H, job: &Job) -> Result<u8, Fault> {
 }
 
 /// Prints the help that words ask for which are no job.
-fn help<H: Host>(host: &mut H, words: Vec<String>) -> Result<u8, Fault> {
+fn help<H: Host>(host: &mut H, words: Vec<String>) -> Result<u8, Failure> {
     let Some(text) = help_of(host.alloc(), words)? else {
-        return Err(Fault::Command);
+        return Err(Failure::new(
+            Fault::Command,
+            Why::Words("'office --help' says which words there are"),
+        ));
     };
     print(host, text.as_str())?;
     Ok(DONE)
 }
 
-fn obey<H: Stores>(host: &mut H, words: Vec<String>) -> Result<u8, Fault> {
+fn obey<H: Stores>(host: &mut H, words: Vec<String>) -> Result<u8, Failure> {
     let again = words.clone()?;
     match read_words(host.alloc(), words) {
         Ok(job) => carry_out(host, &job),
-        Err(WordFault::Memory) => Err(Fault::Memory),
+        Err(WordFault::Memory) => Err(Failure::from(Fault::Memory)),
         Err(WordFault::Words) => help(host, again),
     }
 }
@@ -152,9 +198,9 @@ fn obey<H: Stores>(host: &mut H, words: Vec<String>) -> Result<u8, Fault> {
 pub fn run<H: Stores>(host: &mut H, words: Vec<String>) -> io::Result<u8> {
     match obey(host, words) {
         Ok(status) => Ok(status),
-        Err(fault) => {
-            host.complain(fault)?;
-            Ok(fault.status())
+        Err(failure) => {
+            host.complain(&failure)?;
+            Ok(failure.fault.status())
         }
     }
 }

@@ -1,6 +1,6 @@
 //! Answering over HTTP, one connection after the other.
-use crate::Fault;
 use crate::timed::Timed;
+use crate::{Failure, Fault, Why};
 use mb_mbap::Counted;
 use office_core::Office;
 use office_net::serve_one;
@@ -61,11 +61,12 @@ pub fn serve<R: Clock + AllocGlobal, K: Keeper>(
     listener: &TcpListener,
     count: Option<u32>,
     timeout: Duration,
-) -> Result<(), Fault> {
+) -> Result<(), Failure> {
     let count = count.map_or(u64::MAX, u64::from);
     for _ in 0..count {
-        let Ok((stream, _)) = listener.accept() else {
-            return Err(Fault::Line);
+        let stream = match listener.accept() {
+            Ok((stream, _)) => stream,
+            Err(error) => return Err(Failure::new(Fault::Line, Why::System(error))),
         };
         // Of a connection that fails nobody is there to be told.
         let _ = answer(rt, office, &stream, timeout);

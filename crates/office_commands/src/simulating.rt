@@ -1,11 +1,12 @@
 //! Playing devices, for frames as lines of text or over a stream.
-ghost use Rattle.std.specs.Prelude.{◌≡◌, ◌≤◌, IfOk, length};
-
-use crate::Fault;
 use crate::frame_line::{frame_of, push_frame};
+use crate::{Failure, Fault, Why};
+use line_io::{read_piece, write, write_frame};
 use mb_map::Sim;
-use mb_mbap::{Frame, FrameReader};
+use mb_mbap::{Counted, Frame, FrameReader};
 use std::alloc::{AllocError, Global};
+use std::error::Error;
+use std::fmt;
 use std::io::{Read, Write};
 
 /// So many bytes are taken at most.
@@ -17,21 +18,56 @@ const PIECE: usize = 4096;
 /// The longest line of a frame: 260 bytes with a space between each two, and a carriage return.
 const MOST_LINE: usize = 780;
 
-/// Reads the next piece, which is empty at the end.
-fn read_piece<R: Read>(reader: &mut R, piece: &mut [u8], fault: Fault) -> Result<usize, Fault>
-    ensures within { IfOk result (λ count. count ≤ length piece.new) }
-    ensures same { length piece.new ≡ length piece.old }
-{
-    match reader.read(piece) {
-        Ok(count) => Ok(count),
-        Err(_) => Err(fault),
+const UNREAD: Why = Why::Words("what comes in can't be read");
+
+const UNWRITTEN: Why = Why::Words("what goes out can't be written");
+
+const TOO_MUCH: Why = Why::Words("16,777,216 bytes came");
+
+/// Why frames in lines aren't answered to their end.
+#[derive(Clone, Copy, Debug, PartialEq, Eq)]
+pub enum LinesFault {
+    /// The lines can't be read.
+    Read,
+    /// The replies can't be written.
+    Write,
+    /// The line of this number, from 1 on, is no frame.
+    NoFrame(u64),
+    /// 16,777,216 bytes came.
+    Noise,
+    /// Memory was refused.
+    Memory,
+}
+
+impl fmt::Display for LinesFault {
+    fn fmt<W: fmt::Write>(&self, f: &mut fmt::Formatter<W>) -> fmt::Result {
+        match self {
+            LinesFault::Read => f.write_str("unread"),
+            LinesFault::Write => f.write_str("unwritten"),
+            LinesFault::NoFrame(number) => write!(f, "line {number} is no frame"),
+            LinesFault::Noise => f.write_str("noise"),
+            LinesFault::Memory => f.write_str("memory"),
+        }
     }
 }
 
-fn write<W: Write>(writer: &mut W, bytes: &[u8], fault: Fault) -> Result<(), Fault> {
-    match writer.write_all(bytes) {
-        Ok(()) => Ok(()),
-        Err(_) => Err(fault),
+impl Error for LinesFault {}
+
+impl From<AllocError> for LinesFault {
+    fn from(_: AllocError) -> LinesFault {
+        LinesFault::Memory
+    }
+}
+
+impl From<LinesFault> for Failure {
+    fn from(fault: LinesFault) -> Failure {
+        match fault {
+            LinesFault::Read => Failure::new(Fault::File, UNREAD),
+            LinesFault::Write => Failure::new(Fault::File, UNWRITTEN),
+            LinesFault::NoFrame(number) => Failure::new(Fault::FrameLine, Why::Line(number)),
+            LinesFault::Noise => Failure::new(Fault::Noise, TOO_MUCH),
+            LinesFault::Memory => Failure::from(Fault::Memory),
+        }
     }
 }
 
@@ -44,9 +80,13 @@ fn lines_of(alloc: Global, replies: &[Frame]) -> Result<Vec<u8>, AllocError> {
     Ok(text)
 }
 
-fn write_lines<W: Write>(alloc: Global, replies: &[Frame], writer: &mut W) -> Result<(), Fault> {
+fn write_lines<W: Write>(
+    alloc: Global,
+    replies: &[Frame],
+    writer: &mut Counted<W>,
+) -> Result<(), LinesFault> {
     let text = lines_of(alloc, replies)?;
-    write(writer, &text, Fault::File)
+    write(writer, &text, LinesFault::Write)
 }
 
 /// A line without its end.
@@ -57,17 +97,27 @@ fn without_return(line: &[u8]) -> &[u8] {
     }
 }
 
+/// The line that is being read, without its end, and its number from 1 on.
+#[derive(Drop)]
+struct Line {
+    bytes: Vec<u8>,
+    number: u64,
+}
+
 /// Answers the frame of a line.
 fn answer_line<W: Write>(
     alloc: Global,
     sim: &mut Sim,
-    line: &[u8],
-    writer: &mut W,
-) -> Result<(), Fault> {
-    let Some(frame) = frame_of(alloc, without_return(line))? else {
-        return Err(Fault::FrameLine);
+    line: &Line,
+    writer: &mut Counted<W>,
+) -> Result<(), LinesFault> {
+    let Some(frame) = frame_of(alloc, without_return(&line.bytes))? else {
+        return Err(LinesFault::NoFrame(line.number));
     };
-    let replies = sim.take(&frame)?;
+    // A simulator's step is refused for want of memory alone.
+    let Ok(replies) = sim.take(&frame) else {
+        return Err(LinesFault::Memory);
+    };
     write_lines(alloc, &replies, writer)
 }
 
@@ -75,73 +125,82 @@ fn answer_line<W: Write>(
 fn take_byte<W: Write>(
     alloc: Global,
     sim: &mut Sim,
-    line: &mut Vec<u8>,
+    line: &mut Line,
     byte: u8,
-    writer: &mut W,
-) -> Result<(), Fault> {
+    writer: &mut Counted<W>,
+) -> Result<(), LinesFault> {
     if byte == b'\n' {
         answer_line(alloc, sim, line, writer)?;
-        line.clear();
+        line.bytes.clear();
+        line.number = line.number.saturating_add(1);
         return Ok(());
     }
-    if line.len() == MOST_LINE {
-        return Err(Fault::FrameLine);
+    if line.bytes.len() == MOST_LINE {
+        return Err(LinesFault::NoFrame(line.number));
     }
-    match line.push(byte) {
+    match line.bytes.push(byte) {
         Ok(()) => Ok(()),
-        Err(_) => Err(Fault::Memory),
+        Err(_) => Err(LinesFault::Memory),
     }
 }
 
 /// Answers frames in hexadecimal digits, a line each, with the replies of simulated devices, a line
-/// each, as they come, and gives out all replies that are held at the end. `FrameLine` at a line that is no
-/// frame, `Noise` after 16,777,216 bytes.
+/// each, as they come, and gives out all replies that are held at the end.
 pub fn answer_lines<R: Read, W: Write>(
     alloc: Global,
     sim: &mut Sim,
-    reader: &mut R,
-    writer: &mut W,
-) -> Result<(), Fault> {
+    reader: &mut Counted<R>,
+    writer: &mut Counted<W>,
+) -> Result<(), LinesFault> {
     let mut piece = [0u8; PIECE];
-    let mut line = Vec::new(alloc);
+    let mut line = Line {
+        bytes: Vec::new(alloc),
+        number: 1,
+    };
     let mut taken = 0;
     'pieces: while taken < MOST_READ {
-        let count = read_piece(reader, &mut piece, Fault::File)?;
+        let count = read_piece(reader, &mut piece, LinesFault::Read)?;
         if count == 0 {
-            if !line.is_empty() {
+            if !line.bytes.is_empty() {
                 answer_line(alloc, sim, &line, writer)?;
             }
-            let replies = sim.rest()?;
+            let Ok(replies) = sim.rest() else {
+                return Err(LinesFault::Memory);
+            };
             return write_lines(alloc, &replies, writer);
         }
         taken += count;
         take_bytes(alloc, sim, &mut line, &piece[..count], writer)?;
     }
-    Err(Fault::Noise)
+    Err(LinesFault::Noise)
 }
 
 fn take_bytes<W: Write>(
     alloc: Global,
     sim: &mut Sim,
-    line: &mut Vec<u8>,
+    line: &mut Line,
     bytes: &[u8],
-    writer: &mut W,
-) -> Result<(), Fault> {
+    writer: &mut Counted<W>,
+) -> Result<(), LinesFault> {
     for byte in bytes {
         take_byte(alloc, sim, line, *byte, writer)?;
     }
     Ok(())
 }
 
-fn write_frames<W: Write>(replies: &[Frame], writer: &mut W) -> Result<(), Fault> {
+fn write_frames<W: Write>(replies: &[Frame], writer: &mut Counted<W>) -> Result<(), Failure> {
     for reply in replies {
-        write(writer, reply.encode().as_bytes(), Fault::Line)?;
+        write_frame(writer, reply, Failure::new(Fault::Line, UNWRITTEN))?;
     }
     Ok(())
 }
 
 /// Answers each frame.
-fn answer_frames<W: Write>(sim: &mut Sim, frames: &[Frame], writer: &mut W) -> Result<(), Fault> {
+fn answer_frames<W: Write>(
+    sim: &mut Sim,
+    frames: &[Frame],
+    writer: &mut Counted<W>,
+) -> Result<(), Failure> {
     for frame in frames {
         let replies = sim.take(frame)?;
         write_frames(&replies, writer)?;
@@ -155,14 +214,14 @@ fn answer_frames<W: Write>(sim: &mut Sim, frames: &[Frame], writer: &mut W) -> R
 pub fn answer_stream<R: Read, W: Write>(
     alloc: Global,
     sim: &mut Sim,
-    reader: &mut R,
-    writer: &mut W,
-) -> Result<(), Fault> {
+    reader: &mut Counted<R>,
+    writer: &mut Counted<W>,
+) -> Result<(), Failure> {
     let mut piece = [0u8; PIECE];
     let mut stream = FrameReader::new(alloc);
     let mut taken = 0;
     'pieces: while taken < MOST_READ {
-        let count = read_piece(reader, &mut piece, Fault::Line)?;
+        let count = read_piece(reader, &mut piece, Failure::new(Fault::Line, UNREAD))?;
         if count == 0 {
             let replies = sim.rest()?;
             return write_frames(&replies, writer);
@@ -170,9 +229,9 @@ pub fn answer_stream<R: Read, W: Write>(
         taken += count;
         let fed = stream.feed(&piece[..count])?;
         answer_frames(sim, &fed.frames, writer)?;
-        if fed.fault.is_some() {
-            return Err(Fault::Frames);
+        if let Some(fault) = fed.fault {
+            return Err(Failure::new(Fault::Frames, Why::Frames(fault)));
         }
     }
-    Err(Fault::Noise)
+    Err(Failure::new(Fault::Noise, TOO_MUCH))
 }

@@ -1,5 +1,7 @@
 //! The office: what it keeps of lists, connections, queries and replies, whatever is lost, late,
 //! repeated or reordered.
+//!
+//! `crates/tour/src/offices.rt` is a short example.
 #![tactic(auto)]
 
 mod arrival;

@@ -2,8 +2,9 @@ mod Slashes
 mod Finding
 mod More
 mod OnePlace
-mod Reading
 mod Lacking
+mod Reading
+mod Judged
 mod OneMeaning
 mod Utf8
 mod Readings

@@ -5,7 +5,7 @@ use Rattle.std.proofs.lemmas.Bool.{leb-true, le-leb}
 use Rattle.std.proofs.lemmas.Option.{none-some}
 use Rattle.office_http.specs.declared.fields.Length.{Length}
 use Rattle.office_http.specs.declared.fields.Length.TheVariants.{Missing, Bad, TooLarge, Of}
-use Rattle.office_http.specs.declared.asked.Refusal.TheVariants.{BadRequest}
+use Rattle.office_http.specs.declared.heard.Refusal.TheVariants.{BadRequest}
 use Rattle.office_http.specs.Fields.{FieldText, length_of}
 use Rattle.office_http.specs.Orders.{order_of}
 use Rattle.office_http.specs.Places.{Place, orders, lists, readings, total}

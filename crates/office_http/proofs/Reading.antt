@@ -1,22 +1,22 @@
 -- From the front of the bytes to what all of them mean.
-use Rattle.std.proofs.Common.{◌≡◌, ◌≢◌, ℕ, zero, suc, ◌<◌, ◌≤◌, inl, inr, List, [], ◌∷◌, ◌++◌, length, take, drop, refl, sym, ap, ◌∙◌, arith, subst, Option, Some, None, length-append, length-take, append_assoc, map, Result, Ok, Err, IfOk, true, false, true≢false, ◌==◌}
-use Rattle.std.proofs.lemmas.List.{length-map, take-append-le, take-append-drop, take_all}
+use Rattle.std.proofs.Common.{◌≡◌, ◌≢◌, ℕ, zero, suc, ◌+◌, ◌<◌, ◌≤◌, inl, inr, List, [], ◌∷◌, ◌++◌, length, take, drop, refl, sym, ap, ◌∙◌, arith, subst, Option, Some, None, length-append, length-take, append_assoc, map}
+use Rattle.std.proofs.lemmas.List.{length-drop, length-map, take-append-le, take-append-drop, take_all}
 use Rattle.std.proofs.Math.Seq.{take-append_seam}
 use Rattle.httparse.specs.Grammar.{ReadsRequest, RequestHead, print_request, HasNoRequest}
 use Rattle.httparse.specs.Spans.{IsRequestAt, IsRequestOf, IsRequestWithin, RequestOverflows, name_and_value, header_bytes}
 use Rattle.httparse.specs.declared.spans.HeaderSpan.{HeaderSpan}
 use Rattle.httparse.specs.declared.spans.RequestSpans.{RequestSpans}
 use Rattle.httparse.proofs.GrammarLemmas.{ReadsRequest-append, request_unique}
-use Rattle.std.specs.declared.alloc.AllocError.{AllocError}
-use Rattle.office_http.specs.declared.asked.Asked.{Asked}
-use Rattle.office_http.specs.declared.asked.Refusal.TheVariants.{BadRequest}
+use Rattle.office_http.specs.declared.heard.Heard.{Heard}
+use Rattle.office_http.specs.declared.heard.Refusal.TheVariants.{BadRequest}
 use Rattle.office_http.specs.Head.{HasHead}
 use Rattle.office_http.specs.Heads.{IsAsked}
-use Rattle.office_http.specs.Asked.{meaning_of, meaning_in}
+use Rattle.office_http.specs.Heard.{meaning_of}
 use Rattle.office_http.specs.Meanings.{Meaning, refused, asked_of}
 use Rattle.office_http.specs.Deciding.{Lacks, Decides}
-use Rattle.office_http.specs.Judging.{Judges}
-use Rattle.std.proofs.lemmas.Bool.{eqb-true}
+use Rattle.office_http.specs.Judging.{IsDue, Waits}
+use Rattle.office_http.specs.Fields.{count_in, length_of}
+use Rattle.office_http.proofs.Lacking.{lacks_until}
 use Rattle.std.proofs.lemmas.Option.{none-some}
 use Rattle.office_http.proofs.More.{asked_more}
 use Rattle.office_http.proofs.OnePlace.{names_once}
@@ -55,10 +55,6 @@ has_head_in bytes more n headers spans h limit few at within =
     let Q : List ℕ → Type 0 = λ r. HasHead (front ++ (tail ++ more)) h r in
     subst P (sym input) (subst Q (sym behind) (has_head front (tail ++ more) headers spans h short few at within))
 
-append_nil : (xs : List ℕ) → xs ++ [] ≡ xs
-append_nil [] = refl
-append_nil (x ∷ xs) = ap (λ l. x ∷ l) (append_nil xs)
-
 -- whatever a whole head asks for, another head that reads the same asks for too
 pub asked_once : (input : List ℕ) (h g : RequestHead) (rest more : List ℕ) (a b : Option Meaning) → ReadsRequest input h rest → ReadsRequest input g more → IsAsked h rest a → IsAsked g more b → a ≡ b
 asked_once input h g rest more a b reads others one two =
@@ -68,33 +64,6 @@ asked_once input h g rest more a b reads others one two =
     let it = subst Q (sym same.1) (subst P (sym same.0) two) in
     let place = names_once h.target one.place it.place one.names it.names in
     sym one.is ∙ ap (λ p. asked_of p h.method (map name_and_value h.fields) rest) place ∙ it.is
-
--- what is known where a whole head is there
-pub judged_whole : (bytes : List ℕ) (n : ℕ) (headers : List HeaderSpan) (spans : RequestSpans) (r : Option Asked) → n ≤ 8192 → length headers ≤ 32
-    → IsRequestOf (take n bytes) headers spans → IsRequestWithin (take n bytes) headers spans
-    → ((h : RequestHead) → IsRequestAt (take n bytes) headers spans h → IsAsked h (drop spans.len bytes) (meaning_in r)) → Judges bytes r
-judged_whole bytes n headers spans (Some a) limit few of within asks = λ more.
-    let it = asks of.0 of.1 in
-    inl (record {
-      head = of.0;
-      rest = drop spans.len bytes ++ more;
-      has = has_head_in bytes more n headers spans of.0 limit few of.1 within;
-      asked = record { place = it.place; names = it.names; is = asked_more it.place of.0.method (map name_and_value of.0.fields) (drop spans.len bytes) more (meaning_of a) it.is };
-    })
-judged_whole bytes n headers spans None limit few of within asks = λ m w.
-    let has = has_head_in bytes [] n headers spans of.0 limit few of.1 within in
-    let P : List ℕ → Type 0 = λ b. ReadsRequest b of.0 (drop spans.len bytes) in
-    let Q : List ℕ → Type 0 = λ r. ReadsRequest (bytes ++ []) of.0 r in
-    let reads = subst P (append_nil bytes) (subst Q (append_nil (drop spans.len bytes)) has.reads) in
-    none-some m (asked_once bytes of.0 w.head (drop spans.len bytes) w.rest None (Some m) reads w.has.reads (asks of.0 of.1) w.asked)
-
-pub judged_result : (bytes : List ℕ) (n : ℕ) (headers : List HeaderSpan) (spans : RequestSpans) (rest : List ℕ) (r : Result (Option Asked) AllocError) → n ≤ 8192 → length headers ≤ 32
-    → IsRequestOf (take n bytes) headers spans → IsRequestWithin (take n bytes) headers spans → rest ≡ drop spans.len bytes
-    → IfOk r (λ asked. (h : RequestHead) → IsRequestAt (take n bytes) headers spans h → IsAsked h rest (meaning_in asked)) → IfOk r (Judges bytes)
-judged_result bytes n headers spans rest (Ok asked) limit few of within is asks =
-    let P : List ℕ → Type 0 = λ m. (h : RequestHead) → IsRequestAt (take n bytes) headers spans h → IsAsked h m (meaning_in asked) in
-    judged_whole bytes n headers spans asked limit few of within (subst P is asks)
-judged_result bytes n headers spans rest (Err e) limit few of within is asks = tt
 
 -- bytes that begin with no head hold no whole request
 pub lacks_partial : (bytes : List ℕ) (n : ℕ) → length bytes ≤ n → HasNoRequest (take n bytes) → Lacks bytes
@@ -114,13 +83,79 @@ lacks_empty = λ m w.
     let e = ap length w.has.reads.1 in
     omega (arith, n, l, e)
 
-pub has_bytes : (bytes : List ℕ) → false ≡ (length bytes == 0) → 0 < length bytes
-has_bytes [] e = absurd (true≢false (sym e))
-has_bytes (x ∷ xs) e = omega arith
+-- what is known where a whole head is there
+pub decided_whole : (bytes : List ℕ) (n : ℕ) (headers : List HeaderSpan) (spans : RequestSpans) (heard : Heard) → n ≤ 8192 → length headers ≤ 32
+    → IsRequestOf (take n bytes) headers spans → IsRequestWithin (take n bytes) headers spans
+    → ((h : RequestHead) → IsRequestAt (take n bytes) headers spans h → IsAsked h (drop spans.len bytes) (Some (meaning_of heard))) → Decides bytes (meaning_of heard)
+decided_whole bytes n headers spans heard limit few of within asks = λ more.
+    let it = asks of.0 of.1 in
+    inl (record {
+      head = of.0;
+      rest = drop spans.len bytes ++ more;
+      has = has_head_in bytes more n headers spans of.0 limit few of.1 within;
+      asked = record { place = it.place; names = it.names; is = asked_more it.place of.0.method (map name_and_value of.0.fields) (drop spans.len bytes) more (meaning_of heard) it.is };
+    })
 
-pub lacks_bytes : (bytes : List ℕ) → true ≡ (length bytes == 0) → Lacks bytes
-lacks_bytes [] e = lacks_empty
-lacks_bytes (x ∷ xs) e = let n : suc (length xs) ≡ 0 = eqb-true (suc (length xs)) 0 (sym e) in absurd (omega (arith, n))
+-- how long nothing is known where a whole head is there whose body lacks bytes
+pub due_whole : (bytes : List ℕ) (n : ℕ) (headers : List HeaderSpan) (spans : RequestSpans) → n ≤ 8192 → length headers ≤ 32
+    → IsRequestOf (take n bytes) headers spans → IsRequestWithin (take n bytes) headers spans
+    → ((h : RequestHead) → IsRequestAt (take n bytes) headers spans h → IsAsked h (drop spans.len bytes) None)
+    → (until : ℕ) → until ≡ spans.len + count_in (length_of (map (header_bytes (take n bytes)) (take spans.headers headers))) → until ≤ 270336
+    → IsDue bytes until
+due_whole bytes n headers spans limit few of within asks until is near =
+    let h = of.0 in
+    let it = asks h of.1 in
+    let fields = map name_and_value h.fields in
+    let count = count_in (length_of fields) in
+    let lacking = lacks_until it.place h.method fields (drop spans.len bytes) it.is in
+    let until_is : until ≡ spans.len + count = is ∙ ap (λ fs. spans.len + count_in (length_of fs)) of.1.fields in
+    let inside : spans.len ≤ length bytes =
+    let fits = within.section.len_fits in
+    omega (arith, fits, length-take n bytes) in
+    let behind = length-drop spans.len bytes in
+    let short = lacking.0 in
+    record {
+      waits = λ more less meaning w.
+          let rest = drop spans.len bytes ++ more in
+          let has = has_head_in bytes more n headers spans h limit few of.1 within in
+          let fewer : length rest < count = omega (arith, length-append bytes more, length-append (drop spans.len bytes) more, behind, inside, until_is, less) in
+          let none : IsAsked h rest None = record { place = it.place; names = it.names; is = lacking.1 rest fewer } in
+          none-some meaning (asked_once (bytes ++ more) h w.head rest w.rest None (Some meaning) has.reads w.has.reads none w.asked);
+      ahead = omega (arith, behind, inside, short, until_is);
+      near = near;
+    }
+
+append_nil : (xs : List ℕ) → xs ++ [] ≡ xs
+append_nil [] = refl
+append_nil (x ∷ xs) = ap (λ l. x ∷ l) (append_nil xs)
+
+nothing_more : (bytes more : List ℕ) → length (bytes ++ more) < suc (length bytes) → bytes ++ more ≡ bytes
+nothing_more bytes [] less = append_nil bytes
+nothing_more bytes (x ∷ more) less = absurd (omega (arith, length-append bytes (x ∷ more), less))
+
+-- where no whole request is there, none is before there is a byte more
+pub waits_one : (bytes : List ℕ) (until : ℕ) → until ≡ length bytes + 1 → Lacks bytes → Waits bytes until
+waits_one bytes until is lacks = λ more less. subst Lacks (sym (nothing_more bytes more (omega (arith, is, less)))) lacks
+
+-- how long nothing is known where the head lacks bytes
+pub due_partial : (bytes : List ℕ) (n : ℕ) (until : ℕ) → until ≡ length bytes + 1 → length bytes < 8192 → length bytes ≤ n → HasNoRequest (take n bytes) → IsDue bytes until
+due_partial bytes n until is short all none = record {
+  waits = waits_one bytes until is (lacks_partial bytes n all none);
+  ahead = omega (arith, is);
+  near = omega (arith, is, short);
+}
+
+-- no whole request is there now
+pub lacks_now : (bytes : List ℕ) (until : ℕ) → Waits bytes until → length bytes < until → Lacks bytes
+lacks_now bytes until waits ahead =
+    let same = append_nil bytes in
+    subst Lacks same (waits [] (omega (arith, ap length same, ahead)))
+
+-- bytes that were waited for
+pub waits_more : (bytes piece : List ℕ) (until : ℕ) → Waits bytes until → Waits (bytes ++ piece) until
+waits_more bytes piece until waits = λ more less.
+    let joined = append_assoc bytes piece more in
+    subst Lacks (sym joined) (waits (piece ++ more) (omega (arith, ap length joined, less)))
 
 some_bytes : (bytes more : List ℕ) → 0 < length bytes → bytes ++ more ≢ []
 some_bytes bytes more some = λ e. let n = ap length e in omega (arith, n, some, length-append bytes more)

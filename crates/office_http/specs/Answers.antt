@@ -5,10 +5,10 @@ use Rattle.serde_json.specs.View.{items_of}
 use Rattle.serde_json.specs.Written.{compact_text}
 use Rattle.poll_book.specs.declared.rows.OrderState.{OrderState}
 use Rattle.poll_book.specs.declared.rows.OrderState.TheVariants as state
-use Rattle.office_http.specs.declared.asked.Methods.{Methods}
-use Rattle.office_http.specs.declared.asked.Methods.TheVariants.{Get, Put, GetPut}
-use Rattle.office_http.specs.declared.asked.Refusal.{Refusal}
-use Rattle.office_http.specs.declared.asked.Refusal.TheVariants as refusal
+use Rattle.office_http.specs.declared.heard.Methods.{Methods}
+use Rattle.office_http.specs.declared.heard.Methods.TheVariants.{Get, Put, GetPut}
+use Rattle.office_http.specs.declared.heard.Refusal.{Refusal}
+use Rattle.office_http.specs.declared.heard.Refusal.TheVariants as refusal
 use Rattle.office_http.specs.declared.status.Status.{Status}
 use Rattle.office_http.specs.declared.status.Status.TheVariants.{Done, Created, BadRequest, NotFound, NotAllowed, Conflict, LengthRequired, TooLarge, Unprocessable}
 

@@ -1,7 +1,7 @@
 -- What the bytes of a connection mean.
 use Rattle.std.specs.Prelude.{◌≡◌, ◌≢◌, ◌⊎◌, ℕ, List, [], ◌++◌, Some}
 use Rattle.httparse.specs.Grammar.{RequestHead}
-use Rattle.office_http.specs.declared.asked.Refusal.TheVariants.{BadRequest}
+use Rattle.office_http.specs.declared.heard.Refusal.TheVariants.{BadRequest}
 use Rattle.office_http.specs.Head.{HasHead}
 use Rattle.office_http.specs.Heads.{IsAsked}
 use Rattle.office_http.specs.Meanings.{Meaning, nothing, refused}

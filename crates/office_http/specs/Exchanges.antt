@@ -4,3 +4,6 @@ use Rattle.office_http.specs.declared.exchange.Exchange.{Exchange}
 
 abbrev pub bytes_of : Exchange → List ℕ
 bytes_of exchange = exchange.bytes.items
+
+abbrev pub due_of : Exchange → ℕ
+due_of exchange = exchange.due

@@ -37,3 +37,8 @@ length_of fields =
     if nat_lt 0 (named_count (codes "transfer-encoding") fields) || (named_count (codes "content-length") fields == 0) then Missing
     else if nat_lt 1 (named_count (codes "content-length") fields) then Bad
     else length_in (find (is_named (codes "content-length")) fields)
+
+-- how many bytes a body of this length has
+abbrev pub count_in : Length → ℕ
+count_in (Of n) = n
+count_in _ = 0

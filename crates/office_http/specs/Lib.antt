@@ -12,8 +12,9 @@ pub mod Meanings
 pub mod Bodies
 pub mod Heads
 pub mod Deciding
-pub mod Asked
+pub mod Heard
 pub mod Judging
+pub mod Verdicts
 pub mod Exchanges
 pub mod Answers
 pub mod Shown

@@ -4,9 +4,9 @@ use Rattle.std.specs.Cmp.Lexicographic.{pointwise}
 use Rattle.poll_book.specs.Callers.{is_caller, is_key}
 use Rattle.office_http.specs.declared.fields.Length.{Length}
 use Rattle.office_http.specs.declared.fields.Length.TheVariants as size
-use Rattle.office_http.specs.declared.asked.Methods.TheVariants.{Get, Put, GetPut}
-use Rattle.office_http.specs.declared.asked.Refusal.{Refusal}
-use Rattle.office_http.specs.declared.asked.Refusal.TheVariants.{BadRequest, NotFound, NotAllowed, LengthRequired, TooLarge}
+use Rattle.office_http.specs.declared.heard.Methods.TheVariants.{Get, Put, GetPut}
+use Rattle.office_http.specs.declared.heard.Refusal.{Refusal}
+use Rattle.office_http.specs.declared.heard.Refusal.TheVariants.{BadRequest, NotFound, NotAllowed, LengthRequired, TooLarge}
 use Rattle.office_http.specs.Fields.{FieldText, length_of}
 use Rattle.office_http.specs.Numbers.{slot_of, range_of}
 use Rattle.office_http.specs.Orders.{order_of}

@@ -5,10 +5,10 @@ ghost use Rattle.office_http.specs.declared.status.Status.TheVariants.{Conflict,
 ghost use Rattle.office_http.specs.Shown.{shown};
 ghost use Rattle.poll_book.specs.declared.rows.OrderState.TheVariants.{Waiting};
 
-use crate::asked::{Methods, Refusal};
 use crate::bodies::{
     error_body, list_refused_body, order_body, points_body, refused_body, total_body,
 };
+use crate::heard::{Methods, Refusal};
 use crate::reading_body::{Shown, readings_body};
 use crate::status::Status;
 use poll_book::OrderState;

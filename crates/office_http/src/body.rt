@@ -3,8 +3,8 @@ ghost use Rattle.std.specs.Prelude.{◌≡◌, ℕ, List};
 ghost use Rattle.office_http.specs.Bodies.{made_of};
 ghost use Rattle.office_http.specs.Meanings.{Meaning, with_body};
 
-use crate::asked::Refusal;
 use crate::fields::Length;
+use crate::heard::Refusal;
 
 /// The body, as far as it came.
 #[derive(Clone, Copy)]

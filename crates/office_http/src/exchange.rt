@@ -1,87 +1,27 @@
 //! A request, of which pieces come.
-ghost use Rattle.std.specs.Prelude.{◌≡◌, ◌++◌, ◌≤◌, List, [], IfOk, OnErr, OnOk, Some, map, take, drop, length};
-ghost use Rattle.httparse.specs.Spans.{IsRequestAt, IsRequestOf, IsRequestWithin, name_and_value};
-ghost use Rattle.httparse.specs.Grammar.{RequestHead};
-ghost use Rattle.office_http.specs.Asked.{meaning_in, meaning_of};
+ghost use Rattle.std.specs.Prelude.{◌≡◌, ◌++◌, ◌<◌, ◌≤◌, [], IfOk, OnErr, OnOk, length};
 ghost use Rattle.office_http.specs.Deciding.{Lacks, Means};
-ghost use Rattle.office_http.specs.Heads.{IsAsked};
-ghost use Rattle.office_http.specs.Judging.{IsShort, Judges};
+ghost use Rattle.office_http.specs.Heard.{meaning_of};
+ghost use Rattle.office_http.specs.Judging.{IsShort, Judges, Waits};
 
-use crate::asked::{Asked, Refusal};
-use crate::head::{Judged, MOST_HEAD, judge_head};
-use crate::judge::{Head, asked_at};
-use crate::place::place_of;
-use crate::routes::routes;
-use httparse::spans::{EMPTY_HEADER_SPAN, HeaderSpan, RequestSpans};
+use crate::heard::{Heard, Refusal};
+use crate::verdict::{Verdict, judge};
 use std::alloc::{AllocError, Global};
-use std::str;
-
-/// What a whole head at the front of the bytes asks for, with the bytes behind it.
-fn asked_by_head(
-    alloc: Global,
-    front: &[u8],
-    fields: &[HeaderSpan],
-    spans: RequestSpans,
-    rest: &[u8],
-) -> Result<Option<Asked>, AllocError>
-    requires reads { IsRequestOf front.now fields.now spans }
-    requires within { IsRequestWithin front.now fields.now spans }
-    ensures { IfOk result (λ asked. (head : RequestHead) → IsRequestAt front.now fields.now spans head → IsAsked head rest.now (meaning_in asked)) }
-{
-    let router = routes(alloc)?;
-    let Ok(target) = str::from_utf8(spans.path.of(front)) else {
-        return Ok(Some(Asked::Refused(Refusal::NotFound)));
-    };
-    let head = Head {
-        method: spans.method.of(front),
-        bytes: front,
-        fields: &fields[..spans.headers],
-    };
-    asked_at(alloc, place_of(&router, target), head, rest)
-}
-
-/// The bytes behind so many.
-fn behind(bytes: &[u8], count: usize) -> &[u8]
-    requires { count ≤ length bytes.now }
-    ensures { result.now ≡ drop count bytes.now }
-{
-    &bytes[count..]
-}
-
-/// What the bytes so far ask for; `None` while no whole request is there.
-fn judge(alloc: Global, bytes: &[u8]) -> Result<Option<Asked>, AllocError>
-    ensures judges { IfOk result (Judges bytes.now) }
-    ensures short { IfOk result (IsShort bytes.now) }
-{
-    if bytes.is_empty() {
-        return Ok(None);
-    }
-    let mut fields = [EMPTY_HEADER_SPAN; 32];
-    let front = &bytes[..bytes.len().min(MOST_HEAD)];
-    match judge_head(front, &mut fields) {
-        Judged::Whole(spans) => {
-            let rest = behind(bytes, spans.len);
-            asked_by_head(alloc, front, &fields, spans, rest)
-        }
-        Judged::Partial => {
-            if front.len() < MOST_HEAD {
-                return Ok(None);
-            }
-            Ok(Some(Asked::Refused(Refusal::BadRequest)))
-        }
-        Judged::Refused => Ok(Some(Asked::Refused(Refusal::BadRequest))),
-    }
-}
 
 /// A connection's request, of which pieces come.
 #[derive(Drop)]
 pub struct Exchange {
     alloc: Global,
     bytes: Vec<u8>,
+    /// No whole request is there before so many bytes are.
+    due: usize,
+    ghost some: { 0 < due },
+    ghost near: { due ≤ 270336 },
+    ghost waits: { Waits bytes.items due },
 }
 
 impl Exchange {
-    ghost use Rattle.office_http.specs.Exchanges.{bytes_of};
+    ghost use Rattle.office_http.specs.Exchanges.{bytes_of, due_of};
 
     pub fn new(alloc: Global) -> Exchange
         ensures bytes { bytes_of result ≡ [] }
@@ -90,12 +30,31 @@ impl Exchange {
         Exchange {
             alloc,
             bytes: Vec::new(alloc),
+            due: 1,
+        }
+    }
+
+    /// Judges the bytes. Where a request lacks some, there is room for them then.
+    fn judge(&mut self) -> Result<Option<Heard>, AllocError>
+        requires { due_of self.old ≤ length (bytes_of self.old) }
+        ensures same { bytes_of self.new ≡ bytes_of self.old }
+        ensures asked { IfOk result (Judges (bytes_of self.old)) }
+        ensures short { IfOk result (IsShort (bytes_of self.old)) }
+        ensures memory { OnErr result (due_of self.new ≡ due_of self.old) }
+    {
+        match judge(self.alloc, &self.bytes)? {
+            Verdict::Known(asked) => Ok(Some(asked)),
+            Verdict::Lacks { until } => {
+                self.bytes.reserve(until - self.bytes.len())?;
+                self.due = until;
+                Ok(None)
+            }
         }
     }
 
     /// Takes a piece, and tells what is asked for, as soon as that is known whatever follows; `None`
     /// while no whole request is there: then fewer than 270,336 bytes came.
-    pub fn take(&mut self, piece: &[u8]) -> Result<Option<Asked>, AllocError>
+    pub fn take(&mut self, piece: &[u8]) -> Result<Option<Heard>, AllocError>
         ensures taken { OnOk result (bytes_of self.new ≡ bytes_of self.old ++ piece.now) }
         ensures asked { IfOk result (Judges (bytes_of self.new)) }
         ensures short { IfOk result (IsShort (bytes_of self.new)) }
@@ -103,7 +62,10 @@ impl Exchange {
     {
         let count = self.bytes.len();
         self.bytes.extend_from_slice(piece)?;
-        let asked = judge(self.alloc, &self.bytes);
+        if self.bytes.len() < self.due {
+            return Ok(None);
+        }
+        let asked = self.judge();
         if asked.is_err() {
             self.bytes.truncate(count);
         }
@@ -111,13 +73,13 @@ impl Exchange {
     }
 
     /// What is asked for where no more bytes come, and no whole request is there.
-    pub fn end(&self) -> Asked
+    pub fn end(&self) -> Heard
         ensures { Lacks (bytes_of self.now) → Means (bytes_of self.now) (meaning_of result) }
     {
         if self.bytes.is_empty() {
-            Asked::Nothing
+            Heard::Nothing
         } else {
-            Asked::Refused(Refusal::BadRequest)
+            Heard::Refused(Refusal::BadRequest)
         }
     }
 }

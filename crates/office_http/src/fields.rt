@@ -1,8 +1,8 @@
 //! The fields of a head.
-ghost use Rattle.std.specs.Prelude.{◌≡◌, All, find, length, map, option_map};
+ghost use Rattle.std.specs.Prelude.{◌≡◌, ◌≤◌, All, find, length, map, option_map};
 ghost use Rattle.httparse.specs.Spans.{header_bytes, IsHeaderWithin};
 ghost use Rattle.sunspec.specs.Digits.{number_of};
-ghost use Rattle.office_http.specs.Fields.{is_named, length_of, length_within, named_count};
+ghost use Rattle.office_http.specs.Fields.{count_in, is_named, length_of, length_within, named_count};
 ghost use Rattle.office_http.specs.Spanned.{value_at};
 
 use httparse::spans::HeaderSpan;
@@ -91,5 +91,17 @@ pub(crate) fn body_length(bytes: &[u8], headers: &[HeaderSpan]) -> Length
     match value_named(bytes, headers, b"content-length") {
         Some(value) => length_of(value),
         None => Length::Missing,
+    }
+}
+
+/// How many bytes the body has, if the fields give it a length.
+pub(crate) fn body_count(bytes: &[u8], headers: &[HeaderSpan]) -> usize
+    requires { All (IsHeaderWithin (length bytes.now)) headers.now }
+    ensures count { result ≡ count_in (length_of (map (header_bytes bytes.now) headers.now)) }
+    ensures limit { result ≤ 262144 }
+{
+    match body_length(bytes, headers) {
+        Length::Of(count) => count,
+        _ => 0,
     }
 }

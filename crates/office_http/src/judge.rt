@@ -2,17 +2,17 @@
 ghost use Rattle.std.specs.Prelude.{◌≡◌, ◌&&◌, ℕ, List, All, Some, None, IfOk, length, map, option_map, if◌then◌else◌};
 ghost use Rattle.httparse.specs.Spans.{header_bytes, IsHeaderWithin};
 ghost use Rattle.poll_book.specs.Callers.{is_caller, is_key};
-ghost use Rattle.office_http.specs.Asked.{meaning_in, meaning_of};
+ghost use Rattle.office_http.specs.Heard.{meaning_in, meaning_of};
 ghost use Rattle.office_http.specs.Found.{place_of};
-ghost use Rattle.office_http.specs.declared.asked.Refusal.TheVariants.{BadRequest};
+ghost use Rattle.office_http.specs.declared.heard.Refusal.TheVariants.{BadRequest};
 ghost use Rattle.office_http.specs.Meanings.{are_words, asked_at, asked_of, in_range, is_get, is_put, load, order_under, ordered, refused, total_of, with_body};
 ghost use Rattle.office_http.specs.Numbers.{range_of, slot_of};
 ghost use Rattle.office_http.specs.Orders.{order_of};
 ghost use Rattle.office_http.specs.Places as place;
 
-use crate::asked::{Asked, Methods, Refusal};
 use crate::body::{Body, body_of};
 use crate::fields::{Length, body_length};
+use crate::heard::{Heard, Methods, Refusal};
 use crate::order::order_of;
 use crate::place::Place;
 use httparse::spans::HeaderSpan;
@@ -76,26 +76,26 @@ fn range_of(from: &str, to: &str) -> Option<(u32, u32)>
 }
 
 /// The list of a body.
-fn loaded(alloc: Global, caller: Caller, key: Key, body: &[u8]) -> Result<Asked, AllocError>
+fn loaded(alloc: Global, caller: Caller, key: Key, body: &[u8]) -> Result<Heard, AllocError>
     ensures { IfOk result (λ asked. meaning_of asked ≡ load caller key body.now) }
 {
     let mut list = Vec::with_capacity(alloc, body.len())?;
     list.extend_from_slice(body)?;
-    Ok(Asked::Load { caller, key, list })
+    Ok(Heard::Load { caller, key, list })
 }
 
 /// The order of a body.
-fn ordered(alloc: Global, caller: Caller, key: Key, body: &[u8]) -> Result<Asked, AllocError>
+fn ordered(alloc: Global, caller: Caller, key: Key, body: &[u8]) -> Result<Heard, AllocError>
     ensures { IfOk result (λ asked. meaning_of asked ≡ ordered caller key (order_of body.now)) }
 {
     Ok(match order_of(alloc, body)? {
-        Some((point, value)) => Asked::Order {
+        Some((point, value)) => Heard::Order {
             caller,
             key,
             point,
             value,
         },
-        None => Asked::Refused(Refusal::BadRequest),
+        None => Heard::Refused(Refusal::BadRequest),
     })
 }
 
@@ -105,15 +105,15 @@ fn put_list(
     key: &str,
     length: Length,
     rest: &[u8],
-) -> Result<Option<Asked>, AllocError>
+) -> Result<Option<Heard>, AllocError>
     ensures { IfOk result (λ asked. meaning_in asked
         ≡ (if are_words caller.now key.now then with_body (load caller.now key.now) rest.now length else Some (refused BadRequest))) }
 {
     let Some((caller, key)) = words(caller, key) else {
-        return Ok(Some(Asked::Refused(Refusal::BadRequest)));
+        return Ok(Some(Heard::Refused(Refusal::BadRequest)));
     };
     match body_of(length, rest) {
-        Body::Refused(refusal) => Ok(Some(Asked::Refused(refusal))),
+        Body::Refused(refusal) => Ok(Some(Heard::Refused(refusal))),
         Body::Lacking => Ok(None),
         Body::Whole(body) => Ok(Some(loaded(alloc, caller, key, body)?)),
     }
@@ -125,46 +125,46 @@ fn put_order(
     key: &str,
     length: Length,
     rest: &[u8],
-) -> Result<Option<Asked>, AllocError>
+) -> Result<Option<Heard>, AllocError>
     ensures { IfOk result (λ asked. meaning_in asked
         ≡ (if are_words caller.now key.now then with_body (λ body. ordered caller.now key.now (order_of body)) rest.now length else Some (refused BadRequest))) }
 {
     let Some((caller, key)) = words(caller, key) else {
-        return Ok(Some(Asked::Refused(Refusal::BadRequest)));
+        return Ok(Some(Heard::Refused(Refusal::BadRequest)));
     };
     match body_of(length, rest) {
-        Body::Refused(refusal) => Ok(Some(Asked::Refused(refusal))),
+        Body::Refused(refusal) => Ok(Some(Heard::Refused(refusal))),
         Body::Lacking => Ok(None),
         Body::Whole(body) => Ok(Some(ordered(alloc, caller, key, body)?)),
     }
 }
 
-fn get_order(caller: &str, key: &str) -> Asked
+fn get_order(caller: &str, key: &str) -> Heard
     ensures { meaning_of result ≡ (if are_words caller.now key.now then order_under caller.now key.now else refused BadRequest) }
 {
     match words(caller, key) {
-        Some((caller, key)) => Asked::OrderUnder { caller, key },
-        None => Asked::Refused(Refusal::BadRequest),
+        Some((caller, key)) => Heard::OrderUnder { caller, key },
+        None => Heard::Refused(Refusal::BadRequest),
     }
 }
 
-fn get_readings(alloc: Global, point: &str, from: &str, to: &str) -> Result<Asked, AllocError>
+fn get_readings(alloc: Global, point: &str, from: &str, to: &str) -> Result<Heard, AllocError>
     ensures { IfOk result (λ asked. meaning_of asked ≡ in_range point.now (range_of (slot_of from.now) (slot_of to.now))) }
 {
     match range_of(from, to) {
         Some((from, to)) => {
             let point = String::from_str(alloc, point)?;
-            Ok(Asked::Readings { point, from, to })
+            Ok(Heard::Readings { point, from, to })
         }
-        None => Ok(Asked::Refused(Refusal::BadRequest)),
+        None => Ok(Heard::Refused(Refusal::BadRequest)),
     }
 }
 
-fn get_total(alloc: Global, point: &str) -> Result<Asked, AllocError>
+fn get_total(alloc: Global, point: &str) -> Result<Heard, AllocError>
     ensures { IfOk result (λ asked. meaning_of asked ≡ total_of point.now) }
 {
     let point = String::from_str(alloc, point)?;
-    Ok(Asked::Total { point })
+    Ok(Heard::Total { point })
 }
 
 /// What a head asks for at an order.
@@ -174,7 +174,7 @@ fn at_order(
     key: &str,
     head: Head<'_>,
     rest: &[u8],
-) -> Result<Option<Asked>, AllocError>
+) -> Result<Option<Heard>, AllocError>
     requires { All (IsHeaderWithin (length head.bytes.now)) head.fields.now }
     ensures { IfOk result (λ asked. meaning_in asked
         ≡ asked_at (place.orders caller.now key.now) head.entry.method.now (map (header_bytes head.entry.bytes.now) head.entry.fields.now) rest.now) }
@@ -183,7 +183,7 @@ fn at_order(
         return Ok(Some(get_order(caller, key)));
     }
     if !is_put(head.method) {
-        return Ok(Some(Asked::Refused(Refusal::NotAllowed(Methods::GetPut))));
+        return Ok(Some(Heard::Refused(Refusal::NotAllowed(Methods::GetPut))));
     }
     let length = body_length(head.bytes, head.fields);
     put_order(alloc, caller, key, length, rest)
@@ -196,13 +196,13 @@ fn at_list(
     key: &str,
     head: Head<'_>,
     rest: &[u8],
-) -> Result<Option<Asked>, AllocError>
+) -> Result<Option<Heard>, AllocError>
     requires { All (IsHeaderWithin (length head.bytes.now)) head.fields.now }
     ensures { IfOk result (λ asked. meaning_in asked
         ≡ asked_at (place.lists caller.now key.now) head.entry.method.now (map (header_bytes head.entry.bytes.now) head.entry.fields.now) rest.now) }
 {
     if !is_put(head.method) {
-        return Ok(Some(Asked::Refused(Refusal::NotAllowed(Methods::Put))));
+        return Ok(Some(Heard::Refused(Refusal::NotAllowed(Methods::Put))));
     }
     let length = body_length(head.bytes, head.fields);
     put_list(alloc, caller, key, length, rest)
@@ -214,18 +214,18 @@ pub(crate) fn asked_at(
     place: Option<Place<'_>>,
     head: Head<'_>,
     rest: &[u8],
-) -> Result<Option<Asked>, AllocError>
+) -> Result<Option<Heard>, AllocError>
     requires { All (IsHeaderWithin (length head.bytes.now)) head.fields.now }
     ensures { IfOk result (λ asked. meaning_in asked
         ≡ asked_of (place_of place.entry) head.entry.method.now (map (header_bytes head.entry.bytes.now) head.entry.fields.now) rest.now) }
 {
     let Some(place) = place else {
-        return Ok(Some(Asked::Refused(Refusal::NotFound)));
+        return Ok(Some(Heard::Refused(Refusal::NotFound)));
     };
     match place {
         Place::Orders { caller, key } => at_order(alloc, caller, key, head, rest),
         Place::Lists { caller, key } => at_list(alloc, caller, key, head, rest),
-        _ if !is_get(head.method) => { Ok(Some(Asked::Refused(Refusal::NotAllowed(Methods::Get)))) }
+        _ if !is_get(head.method) => { Ok(Some(Heard::Refused(Refusal::NotAllowed(Methods::Get)))) }
         Place::Readings { point, from, to } => Ok(Some(get_readings(alloc, point, from, to)?)),
         Place::Total { point } => Ok(Some(get_total(alloc, point)?)),
     }

@@ -1,14 +1,16 @@
 //! HTTP for an office, as a machine that reads and writes nothing: what the bytes of a connection ask
 //! for, and the bytes of the answers (RFC 9110, RFC 9112).
+//!
+//! `crates/tour/src/exchanges.rt` is a short example.
 #![tactic(auto)]
 
 pub mod answer;
-mod asked;
 mod bodies;
 mod body;
 mod exchange;
 mod fields;
 mod head;
+mod heard;
 mod judge;
 pub mod laws;
 mod order;
@@ -16,8 +18,9 @@ mod place;
 mod reading_body;
 mod routes;
 mod status;
+mod verdict;
 
-pub use asked::{Asked, Methods, Refusal};
 pub use exchange::Exchange;
+pub use heard::{Heard, Methods, Refusal};
 pub use reading_body::Shown;
 pub use status::Status;

@@ -17,7 +17,7 @@ use Rattle.office_core.specs.Leavings.{LeftAfter}
 use Rattle.office_core.specs.Messages.{arriving}
 use Rattle.office_core.specs.Standing.{is_store}
 use Rattle.office_net.specs.declared.fault.PollFault.{PollFault}
-use Rattle.office_net.specs.declared.job.Job.{Job}
+use Rattle.office_net.specs.declared.job.LineJob.{LineJob}
 use Rattle.office_net.specs.declared.machine.Poll.{Poll}
 use Rattle.office_net.specs.Faults.{ClosedBy, IsClosed, fault_by}
 use Rattle.office_net.specs.Following.{Fails, Stays, TurnFails, Follows, MayLeave}
@@ -91,8 +91,8 @@ all_at P [] x ys all = all 0 x (omega arith)
 all_at P (y ∷ xs) x ys all = all_at P xs x ys (All-tail P y (xs ++ x ∷ ys) all)
 
 -- the job at the turn stands behind those that had theirs
-later_jobs : (start : Start) (moves : List Move) (poll : Poll) (job : Job) → IsAfter start moves poll → IsNextJob poll job
-    → (later : List Job) × (jobs_in moves ++ job ∷ later ≡ start.jobs)
+later_jobs : (start : Start) (moves : List Move) (poll : Poll) (job : LineJob) → IsAfter start moves poll → IsNextJob poll job
+    → (later : List LineJob) × (jobs_in moves ++ job ∷ later ≡ start.jobs)
 later_jobs start moves poll job after next =
     let n : ℕ = poll.turned + 1 in (
       drop n start.jobs,
@@ -102,7 +102,7 @@ later_jobs start moves poll job after next =
           ∙ take-append-drop n start.jobs,
     )
 
-pub turn_breaks : {K : Type 0} {g : Ghosts K} (office office' : Office K g) (poll poll' : Poll) (job : Job) (e : OfficeError) (fault : PollFault) → IsNextJob poll job
+pub turn_breaks : {K : Type 0} {g : Ghosts K} (office office' : Office K g) (poll poll' : Poll) (job : LineJob) (e : OfficeError) (fault : PollFault) → IsNextJob poll job
     → ((start : Start) (moves : List Move) → IsAfter start moves poll → IsAfter start moves poll')
     → TurnFails (Follows office) (Follows office') (MayLeave office) (MayLeave office') poll.conn poll.slot job e
     → fault ≡ fault_by e → BreaksOff office poll office' poll' [] [] [] fault

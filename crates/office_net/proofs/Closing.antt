@@ -29,8 +29,8 @@ use Rattle.office_core.specs.Answers.{answer_of, refused_or}
 use Rattle.mb_mbap.specs.declared.frame.Frame.{Frame}
 use Rattle.office_core.specs.History.{Ask, Send, History, site_of, points, settings, readings, open_line, asked, ask_fault, ask_fault_on}
 use Rattle.office_core.proofs.KeptRequests.{AreOrders, found_in, numbered}
-use Rattle.office_net.specs.declared.job.Job.{Job}
-use Rattle.office_net.specs.declared.job.Job.TheVariants.{Order, Read}
+use Rattle.office_net.specs.declared.job.LineJob.{LineJob}
+use Rattle.office_net.specs.declared.job.LineJob.TheVariants.{Order, Read}
 use Rattle.office_net.specs.Faults.{IsClosed}
 use Rattle.office_net.specs.Jobs.{CanBeDone, IsOnLine}
 use Rattle.office_net.specs.Moves.{Start, Move, told, is_due, turn_of, number_of, next_order}
@@ -186,7 +186,7 @@ module _ (now : History) (conn slot : ℕ) (e : OfficeError) where
       by_row (Some row) is some fault = by_line row is (open_line now conn) on fault
 
   -- of a job that can be done and is due
-  turn_closed : (job : Job) → CanBeDone now conn job → is_due slot now job ≡ true → answer.Refused e ≡ answer_of now (turn_of conn slot now job) → IsClosed now conn
+  turn_closed : (job : LineJob) → CanBeDone now conn job → is_due slot now job ≡ true → answer.Refused e ≡ answer_of now (turn_of conn slot now job) → IsClosed now conn
   turn_closed (Order device) can due told = send_closed device can due told
   turn_closed (Read device read) can due told = ask_closed device read can.0 can.1 can.2 due told
 
@@ -195,10 +195,10 @@ on_later start moves device on =
     ap (λ site. option_map (λ (d : Device). d.line) (device_named site device)) (same_site start moves) ∙ on ∙ sym (same_line start.conn start moves)
 
 -- what can be done as the round begins can be done later
-can_later : (start : Start) (moves : List Move) (job : Job) → CanBeDone start.before start.conn job → CanBeDone (told start moves) start.conn job
+can_later : (start : Start) (moves : List Move) (job : LineJob) → CanBeDone start.before start.conn job → CanBeDone (told start moves) start.conn job
 can_later start moves (Order device) on = on_later start moves device on
 can_later start moves (Read device read) can = (on_later start moves device can.0, can.1, can.2)
 
-pub closed : (start : Start) (moves : List Move) (job : Job) (e : OfficeError) → CanBeDone start.before start.conn job → is_due start.slot (told start moves) job ≡ true
+pub closed : (start : Start) (moves : List Move) (job : LineJob) (e : OfficeError) → CanBeDone start.before start.conn job → is_due start.slot (told start moves) job ≡ true
     → answer.Refused e ≡ answer_of (told start moves) (turn_of start.conn start.slot (told start moves) job) → IsClosed (told start moves) start.conn
 closed start moves job e can due refused = turn_closed (told start moves) start.conn start.slot e job (can_later start moves job can) due refused

@@ -6,15 +6,15 @@ use Rattle.std.specs.Io.KnownBytes.{Appends}
 use Rattle.poll_book.specs.declared.fault.StoreFault.{StoreFault}
 use Rattle.poll_book.specs.Tables.{Tables}
 use Rattle.office_core.specs.History.{History}
-use Rattle.office_http.specs.declared.asked.Asked.{Asked}
-use Rattle.office_http.specs.Asked.{meaning_of}
+use Rattle.office_http.specs.declared.heard.Heard.{Heard}
+use Rattle.office_http.specs.Heard.{meaning_of}
 use Rattle.office_net.specs.Following.{Stays}
 use Rattle.office_net.specs.Serving.{Answers, Breaks, Hears, Serves, Unanswered, written_for}
 
 module _ (stood stands : History → Type 0) (might may : Tables → Type 0) (ended : Type 0) (unread left : Option (List ℕ)) where
   -- what was answered is what was written
-  pub serves : (wrote writes : Option (List ℕ)) (heard : Option Asked) (reply : Result (String Global) StoreFault) → Hears ended unread left heard
-      → ((asked : Asked) → heard ≡ Some asked → MatchResult reply (λ text. Answers stood stands might may (meaning_of asked) (string_bytes text)) (λ _. Unanswered stood stands might may (meaning_of asked)))
+  pub serves : (wrote writes : Option (List ℕ)) (heard : Option Heard) (reply : Result (String Global) StoreFault) → Hears ended unread left heard
+      → ((asked : Heard) → heard ≡ Some asked → MatchResult reply (λ text. Answers stood stands might may (meaning_of asked) (string_bytes text)) (λ _. Unanswered stood stands might may (meaning_of asked)))
       → (heard ≡ None → IsErr reply × Stays stood stands might may) → Appends wrote writes (written_for reply) → Serves stood stands might may ended unread left wrote writes
   serves wrote writes (Some asked) (Ok text) hears known unknown written = record {
     bytes = hears.bytes;
@@ -34,8 +34,8 @@ module _ (stood stands : History → Type 0) (might may : Tables → Type 0) (en
   }
 
   -- what was done stands, whether or not it was written
-  pub breaks : (heard : Option Asked) (reply : Result (String Global) StoreFault) → Hears ended unread left heard
-      → ((asked : Asked) → heard ≡ Some asked → MatchResult reply (λ text. Answers stood stands might may (meaning_of asked) (string_bytes text)) (λ _. Unanswered stood stands might may (meaning_of asked)))
+  pub breaks : (heard : Option Heard) (reply : Result (String Global) StoreFault) → Hears ended unread left heard
+      → ((asked : Heard) → heard ≡ Some asked → MatchResult reply (λ text. Answers stood stands might may (meaning_of asked) (string_bytes text)) (λ _. Unanswered stood stands might may (meaning_of asked)))
       → (heard ≡ None → IsErr reply × Stays stood stands might may) → Breaks stood stands might may ended unread left
   breaks (Some asked) (Ok text) hears known unknown = record {
     bytes = hears.bytes;

@@ -13,8 +13,8 @@ use Rattle.read_planner.specs.declared.Read.{Read as AskedRead}
 use Rattle.read_planner.specs.Place.{CanBeRead}
 use Rattle.poll_book.specs.declared.rows.PointRow.{PointRow}
 use Rattle.office_core.specs.History.{History, site_of, points, open_line}
-use Rattle.office_net.specs.declared.job.Job.{Job}
-use Rattle.office_net.specs.declared.job.Job.TheVariants.{Order, Read}
+use Rattle.office_net.specs.declared.job.LineJob.{LineJob}
+use Rattle.office_net.specs.declared.job.LineJob.TheVariants.{Order, Read}
 use Rattle.office_net.specs.Jobs.{AreDeviceJobs, AreJobs, ArePlanned, CanBeDone, IsOnLine, devices_on, device_jobs}
 
 -- ---- a device by its name
@@ -90,7 +90,7 @@ module _ (before : History) (conn : ℕ) where
       (on, allowed.valid, le-leb ((get_or reads k d).span.start + (get_or reads k d).span.quantity) 65536 allowed.inside)))
 
   -- of several
-  devices_can : (known : List PointRow) (devices : List Device) (jobs : List Job) → AreDeviceJobs known devices jobs → All (λ (d : Device). IsOnLine before conn d.name) devices
+  devices_can : (known : List PointRow) (devices : List Device) (jobs : List LineJob) → AreDeviceJobs known devices jobs → All (λ (d : Device). IsOnLine before conn d.name) devices
       → All (CanBeDone before conn) jobs
   devices_can known [] jobs are on = subst (All (CanBeDone before conn)) (sym are) (All-nil (CanBeDone before conn))
   devices_can known (device ∷ devices) jobs (reads, rest, planned, are, whole) on =
@@ -100,11 +100,11 @@ module _ (before : History) (conn : ℕ) where
       (devices_can known devices rest are (All-tail (λ (d : Device). IsOnLine before conn d.name) device devices on)))
 
   -- of the line
-  pub all_can : (jobs : List Job) → IsSound (site_of before) → AreJobs before conn jobs → All (CanBeDone before conn) jobs
+  pub all_can : (jobs : List LineJob) → IsSound (site_of before) → AreJobs before conn jobs → All (CanBeDone before conn) jobs
   all_can jobs sound are = devices_can (points before) (devices_on (site_of before) are.line) jobs are.each (all_on before conn are.line sound are.opened)
 
 -- what was made of an office's site and points are the jobs
-pub jobs_made : (before : History) (conn line : ℕ) (found : Option ℕ) (known : List PointRow) (site : Site) (jobs : List Job) → found ≡ open_line before conn → found ≡ Some line
+pub jobs_made : (before : History) (conn line : ℕ) (found : Option ℕ) (known : List PointRow) (site : Site) (jobs : List LineJob) → found ≡ open_line before conn → found ≡ Some line
     → known ≡ points before → site ≡ site_of before → All (λ (row : PointRow). CanBeRead row.point) (points before)
     → (All (λ (row : PointRow). CanBeRead row.point) known → AreDeviceJobs known (devices_on site line) jobs) → AreJobs before conn jobs
 jobs_made before conn line found known site jobs is some points_are site_is readable made = record {

@@ -12,8 +12,8 @@ use Rattle.office_core.specs.History.{History, points, given, is_answered, given
 use Rattle.office_core.specs.Lacking.{lacks, some_lacks}
 use Rattle.office_core.specs.Messages.{arriving}
 use Rattle.office_core.proofs.Rows.{at_with_rows, readings_more}
-use Rattle.office_net.specs.declared.job.Job.{Job}
-use Rattle.office_net.specs.declared.job.Job.TheVariants.{Order, Read}
+use Rattle.office_net.specs.declared.job.LineJob.{LineJob}
+use Rattle.office_net.specs.declared.job.LineJob.TheVariants.{Order, Read}
 use Rattle.office_net.specs.Moves.{Start, Move, Asks, Passes, Comes, told, turn_of}
 use Rattle.office_net.proofs.Sorted.{IsReply, IsOther, sorted}
 
@@ -51,7 +51,7 @@ frame_before now conn frame device slot read some = ⊎_elim
     (sorted now conn frame)
 
 -- and after a job's turn
-turn_before : (conn at : ℕ) (now : History) (job : Job) (device : List ℕ) (slot : ℕ) (read : AskedRead) → lacks (turn_of conn at now job ∷ now) device slot read ≡ lacks now device slot read
+turn_before : (conn at : ℕ) (now : History) (job : LineJob) (device : List ℕ) (slot : ℕ) (read : AskedRead) → lacks (turn_of conn at now job ∷ now) device slot read ≡ lacks now device slot read
 turn_before conn at now (Order name) device slot read = refl
 turn_before conn at now (Read name asked) device slot read = refl
 

@@ -18,8 +18,8 @@ use Rattle.office_core.specs.Orders.{send_fault, writing}
 use Rattle.office_core.specs.Queries.{Query, Reads, Writes, query_frame}
 use Rattle.office_core.proofs.Queries.{unasked}
 use Rattle.office_net.specs.declared.round.Round.{Round}
-use Rattle.office_net.specs.declared.job.Job.{Job}
-use Rattle.office_net.specs.declared.job.Job.TheVariants.{Order, Read}
+use Rattle.office_net.specs.declared.job.LineJob.{LineJob}
+use Rattle.office_net.specs.declared.job.LineJob.TheVariants.{Order, Read}
 use Rattle.office_net.specs.declared.machine.Poll.{Poll}
 use Rattle.office_net.specs.Following.{Happens, Stays, Follows, MayLeave}
 use Rattle.office_net.specs.Moves.{Start, Move, Asks, Passes, Comes, told, asks_in, jobs_in, frames_in, queries_in, query_in, is_query, unanswered, turn_of, turn_answer, is_due, next_order, number_of, HasToWait, recorded_by, excepted_by, refused_by}
@@ -71,10 +71,10 @@ came_on office office' old new frame answer waits came took start moves follows 
 -- ---- a job's turn
 
 -- the job at the turn is the next one
-abbrev pub IsNextJob : Poll → Job → Type 0
+abbrev pub IsNextJob : Poll → LineJob → Type 0
 IsNextJob old job = take (old.turned + 1) old.jobs.items ≡ take old.turned old.jobs.items ++ job ∷ []
 
-pub turned_on : (start : Start) (moves : List Move) (old new : Poll) (job : Job) → IsAfter start moves old → IsNextJob old job → new.turned ≡ old.turned + 1
+pub turned_on : (start : Start) (moves : List Move) (old new : Poll) (job : LineJob) → IsAfter start moves old → IsNextJob old job → new.turned ≡ old.turned + 1
     → jobs_in moves ++ job ∷ [] ≡ take new.turned start.jobs
 turned_on start moves old new job after next turned =
     ap (λ l. l ++ job ∷ []) after.turned ∙ sym (subst (λ l. take (old.turned + 1) l ≡ take old.turned l ++ job ∷ []) after.jobs next)
@@ -86,7 +86,7 @@ query_made None query frame e = (refl, cc)
 query_made (Some fault) query frame e = absurd (cc)
 
 -- a turn that makes a query adds one to those of the connection, and answers none; its transaction is the number of those before
-pub record MakesOne (now : History) (conn slot : ℕ) (job : Job) (query : Frame) : Type 0 where
+pub record MakesOne (now : History) (conn slot : ℕ) (job : LineJob) (query : Frame) : Type 0 where
   pub one : length (asked (turn_of conn slot now job ∷ now) conn) ≡ suc (length (asked now conn))
   pub transaction : query.transaction ≡ length (asked now conn) % 65536
   pub answers_none : (x : ℕ) → is_answered (turn_of conn slot now job ∷ now) conn x ≡ is_answered now conn x
@@ -98,7 +98,7 @@ one_more now conn q o none =
     ∙ ap (λ o. length (cond (is_none o) (asked now conn ++ q ∷ []) (asked now conn))) none
     ∙ length-append (asked now conn) (q ∷ []) ∙ omega arith
 
-makes_one : (now : History) (conn slot : ℕ) (job : Job) (query : Frame) → answer.Query query ≡ answer_of now (turn_of conn slot now job) → MakesOne now conn slot job query
+makes_one : (now : History) (conn slot : ℕ) (job : LineJob) (query : Frame) → answer.Query query ≡ answer_of now (turn_of conn slot now job) → MakesOne now conn slot job query
 makes_one now conn slot (Read device read) query is =
     let q : Query = Reads (question (site_of now) (points now) device slot read) in
     let fault : Option OfficeError = ask_fault (open_line now conn) (site_of now) (points now) (length (asked now conn)) device read in
@@ -128,7 +128,7 @@ first_made old transaction from k all named all_is count (inl none) false is = a
     off e = absurd (cc)
 
 -- the job at the turn made a query
-pub asked_on : {K : Type 0} {g : Ghosts K} (office office' : Office K g) (old new : Poll) (job : Job) (query : Frame) → IsNextJob old job → old.waiting < 16
+pub asked_on : {K : Type 0} {g : Ghosts K} (office office' : Office K g) (old new : Poll) (job : LineJob) (query : Frame) → IsNextJob old job → old.waiting < 16
     → ((now : History) → Follows office now → is_due old.slot now job ≡ true)
     → Happens (Follows office) (Follows office') (MayLeave office) (MayLeave office') (λ now. turn_of old.conn old.slot now job) (answer.Query query)
     → Asked old query.transaction new → GoesOn office old office' new [] (query ∷ [])
@@ -174,7 +174,7 @@ asked_on office office' old new job query next room due made noted start moves f
     }
 
 -- the job at the turn was passed over
-pub passed_on : {K : Type 0} {g : Ghosts K} (office office' : Office K g) (old new : Poll) (job : Job) → IsNextJob old job
+pub passed_on : {K : Type 0} {g : Ghosts K} (office office' : Office K g) (old new : Poll) (job : LineJob) → IsNextJob old job
     → ((now : History) → Follows office now → is_due old.slot now job ≡ false)
     → Stays (Follows office) (Follows office') (MayLeave office) (MayLeave office') → Passed old new → GoesOn office old office' new [] []
 passed_on office office' old new job next due stays noted start moves follows after =

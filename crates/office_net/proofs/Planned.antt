@@ -11,7 +11,7 @@ use Rattle.read_planner.specs.Allowed.{AreAllowed, AreFewest, HoldsAll}
 use Rattle.read_planner.specs.Chosen.{AreChosen}
 use Rattle.read_planner.specs.Place.{CanBeRead, places_of}
 use Rattle.poll_book.specs.declared.rows.PointRow.{PointRow}
-use Rattle.office_net.specs.declared.job.Job.{Job}
+use Rattle.office_net.specs.declared.job.LineJob.{LineJob}
 use Rattle.office_net.specs.Jobs.{AreDeviceJobs, ArePlanned, device_jobs, points_on}
 
 -- the points of a device can be read, where all can
@@ -32,7 +32,7 @@ planned_for known device points reads is allowed whole fewest chosen = record {
 }
 
 -- one device more
-jobs_more : (known : List PointRow) (devices : List Device) (device : Device) (old new : List Job) (reads : List AskedRead) → AreDeviceJobs known devices old
+jobs_more : (known : List PointRow) (devices : List Device) (device : Device) (old new : List LineJob) (reads : List AskedRead) → AreDeviceJobs known devices old
     → ArePlanned known device reads → new ≡ old ++ device_jobs device.name reads → AreDeviceJobs known (devices ++ device ∷ []) new
 jobs_more known [] device old new reads are planned is =
     (reads, [], planned, refl, is ∙ ap (λ l. l ++ device_jobs device.name reads) are ∙ sym (append-nil (device_jobs device.name reads)))
@@ -54,7 +54,7 @@ filter_more p (d ∷ devices) device = by (p d) (filter_more p devices device)
     by false e = e
 
 -- the next device of a site, which is one of the line or isn't
-pub jobs_next : (known : List PointRow) (line i : ℕ) (all : List Device) (device : Device) (old new : List Job) → take (i + 1) all ≡ take i all ++ device ∷ []
+pub jobs_next : (known : List PointRow) (line i : ℕ) (all : List Device) (device : Device) (old new : List LineJob) → take (i + 1) all ≡ take i all ++ device ∷ []
     → AreDeviceJobs known (filter (λ (d : Device). d.line == line) (take i all)) old
     → ((device.line == line) ≡ false → new ≡ old)
     → ((device.line == line) ≡ true → (reads : List AskedRead) × ArePlanned known device reads × (new ≡ old ++ device_jobs device.name reads))

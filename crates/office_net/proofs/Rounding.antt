@@ -14,7 +14,7 @@ use Rattle.office_core.specs.declared.office.Office.{Office}
 use Rattle.office_core.specs.History.{History}
 use Rattle.office_net.specs.declared.round.Round.{Round}
 use Rattle.office_net.specs.declared.fault.PollFault.{PollFault}
-use Rattle.office_net.specs.declared.job.Job.{Job}
+use Rattle.office_net.specs.declared.job.LineJob.{LineJob}
 use Rattle.office_net.specs.declared.machine.Poll.{Poll}
 use Rattle.office_net.specs.Faults.{ClosedBy, IsOfStream}
 use Rattle.office_net.specs.Following.{Follows, MayLeave}
@@ -28,7 +28,7 @@ use Rattle.office_net.proofs.Pieces.{handles_then, breaks_after}
 -- ---- the beginning
 
 -- a new round has made no move
-begins : (conn slot : ℕ) (jobs : List Job) (first : Poll) (before : History) → IsNew conn slot jobs first → IsAfter (start_of conn slot jobs before) [] first
+begins : (conn slot : ℕ) (jobs : List LineJob) (first : Poll) (before : History) → IsNew conn slot jobs first → IsAfter (start_of conn slot jobs before) [] first
 begins conn slot jobs first before new = record {
   conn = new.conn_is;
   slot = new.slot_is;
@@ -124,7 +124,7 @@ module _ (stands : History → Type 0) (might may : Tables → Type 0) (start : 
 
 -- ---- a round under way
 
-module _ {K : Type 0} {g : Ghosts K} (office between office' : Office K g) (conn slot : ℕ) (jobs : List Job) (poll new : Poll) (stream : Option (List ℕ)) (read : ℕ)
+module _ {K : Type 0} {g : Ghosts K} (office between office' : Office K g) (conn slot : ℕ) (jobs : List LineJob) (poll new : Poll) (stream : Option (List ℕ)) (read : ℕ)
     (unread left left' wrote writes writes' : Option (List ℕ)) (clean clean' : Type 0) where
   -- a piece more
   pub one_more : (stream' : Option (List ℕ)) (read' : ℕ) → (way : Underway (λ first came. clean → Handles office first between poll came wrote writes) conn slot jobs poll stream read unread left) → (clean' → clean)
@@ -155,7 +155,7 @@ module _ {K : Type 0} {g : Ghosts K} (office between office' : Office K g) (conn
       (subst (λ l. IsOfStream l cuts.rest e) (sym (append_assoc way.bytes cuts.piece cuts.unfed)) cuts.of_stream)
 
 -- the first queries couldn't be sent
-pub broke_first : {K : Type 0} {g : Ghosts K} (office office' : Office K g) (conn slot : ℕ) (jobs : List Job) (first new : Poll) (unread wrote writes : Option (List ℕ)) (calm : Type 0) (e : PollFault) (before : History)
+pub broke_first : {K : Type 0} {g : Ghosts K} (office office' : Office K g) (conn slot : ℕ) (jobs : List LineJob) (first new : Poll) (unread wrote writes : Option (List ℕ)) (calm : Type 0) (e : PollFault) (before : History)
     → IsNew conn slot jobs first → Breaks office first office' new [] [] calm wrote writes e → IsOfStream [] [] e
     → Follows office before → AreJobs before conn jobs → All (CanBeDone before conn) jobs
     → IsCut (Follows office') (MayLeave office) (MayLeave office') (start_of conn slot jobs before) unread unread calm wrote writes e
@@ -165,7 +165,7 @@ broke_first office office' conn slot jobs first new unread wrote writes calm e b
     unread unread wrote writes calm [] [] [] are (Consumes-nil unread) empty_splits breaks.2 of_stream
 
 -- it is done
-pub is_whole : {K : Type 0} {g : Ghosts K} (office office' : Office K g) (conn slot : ℕ) (jobs : List Job) (poll : Poll) (stream : Option (List ℕ)) (read : ℕ) (unread left wrote writes : Option (List ℕ)) (clean : Type 0) (before : History)
+pub is_whole : {K : Type 0} {g : Ghosts K} (office office' : Office K g) (conn slot : ℕ) (jobs : List LineJob) (poll : Poll) (stream : Option (List ℕ)) (read : ℕ) (unread left wrote writes : Option (List ℕ)) (clean : Type 0) (before : History)
     → Underway (λ first came. clean → Handles office first office' poll came wrote writes) conn slot jobs poll stream read unread left → clean → Follows office before → IsDone poll
     → IsWhole (Follows office') (MayLeave office) (MayLeave office') (start_of conn slot jobs before) unread left wrote writes (counts_of poll)
 is_whole office office' conn slot jobs poll stream read unread left wrote writes clean before way is_clean follows done =

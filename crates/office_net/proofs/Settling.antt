@@ -19,8 +19,8 @@ use Rattle.office_core.specs.Orders.{settle, settle_at, settled_by, state_by}
 use Rattle.office_core.specs.Queries.{Query, Reads, Writes, fits}
 use Rattle.office_core.specs.History.{History, points, settings, asked, is_answered}
 use Rattle.office_core.proofs.KeptRequests.{AreOrders, found_in, numbered}
-use Rattle.office_net.specs.declared.job.Job.{Job}
-use Rattle.office_net.specs.declared.job.Job.TheVariants.{Order, Read}
+use Rattle.office_net.specs.declared.job.LineJob.{LineJob}
+use Rattle.office_net.specs.declared.job.LineJob.TheVariants.{Order, Read}
 use Rattle.office_net.specs.Moves.{Start, Move, Asks, Passes, Comes, told, turn_of, next_order}
 use Rattle.office_net.specs.Turned.{IsSettled}
 use Rattle.office_net.proofs.Sorted.{IsReply, IsOther, sorted}
@@ -108,7 +108,7 @@ frame_later now conn frame = ⊎_elim
     by n unit true = later_same (settings now)
     by n unit false = later_by (slice_get (asked now conn) n) unit (settings now) (numbered now)
 
-turn_later : (conn slot : ℕ) (now : History) (job : Job) → AreLater (settings now) (settings (turn_of conn slot now job ∷ now))
+turn_later : (conn slot : ℕ) (now : History) (job : LineJob) → AreLater (settings now) (settings (turn_of conn slot now job ∷ now))
 turn_later conn slot now (Order device) = later_same (settings now)
 turn_later conn slot now (Read device read) = later_same (settings now)
 

@@ -4,8 +4,8 @@ use Rattle.std.specs.Prelude.{◌||◌, ◌==◌}
 use Rattle.mb_mbap.specs.declared.frame.Frame.{Frame}
 use Rattle.office_core.specs.History.{Happening, History, asked, is_answered}
 use Rattle.office_core.specs.Messages.{arriving}
-use Rattle.office_net.specs.declared.job.Job.{Job}
-use Rattle.office_net.specs.declared.job.Job.TheVariants.{Order, Read}
+use Rattle.office_net.specs.declared.job.LineJob.{LineJob}
+use Rattle.office_net.specs.declared.job.LineJob.TheVariants.{Order, Read}
 use Rattle.office_net.specs.Moves.{Start, Move, Asks, Passes, Comes, told, asks_in, turn_of, unanswered, waiting_in, IsRun}
 use Rattle.office_net.proofs.Sorted.{IsReply, IsOther, sorted, answered_by}
 use Rattle.office_net.proofs.Waiting.{same_unanswered}
@@ -41,7 +41,7 @@ still_answered now conn frame x before = ⊎_elim
     by false = before
 
 -- a job's turn answers none
-turn_answers : (conn slot : ℕ) (now : History) (job : Job) (x : ℕ) → is_answered (turn_of conn slot now job ∷ now) conn x ≡ is_answered now conn x
+turn_answers : (conn slot : ℕ) (now : History) (job : LineJob) (x : ℕ) → is_answered (turn_of conn slot now job ∷ now) conn x ≡ is_answered now conn x
 turn_answers conn slot now (Order device) x = refl
 turn_answers conn slot now (Read device read) x = refl
 

@@ -4,8 +4,8 @@ use Rattle.mb_mbap.specs.declared.frame.Frame.{Frame}
 use Rattle.read_planner.specs.declared.Read.{Read as AskedRead}
 use Rattle.office_core.specs.History.{Ask, Send, Reply, Noise, History, site_of, points, open_line}
 use Rattle.office_core.specs.Messages.{arriving}
-use Rattle.office_net.specs.declared.job.Job.{Job}
-use Rattle.office_net.specs.declared.job.Job.TheVariants.{Order, Read}
+use Rattle.office_net.specs.declared.job.LineJob.{LineJob}
+use Rattle.office_net.specs.declared.job.LineJob.TheVariants.{Order, Read}
 use Rattle.office_net.specs.Moves.{Start, Move, Asks, Passes, Comes, told, turn_of, next_order, number_of}
 use Rattle.office_net.proofs.Sorted.{IsReply, IsOther, sorted}
 
@@ -21,7 +21,7 @@ module _ {A : Type 0} (f : History → A)
       (λ (other : IsOther now conn frame). ap (λ h. f (h ∷ now)) other.is ∙ noises now conn frame)
       (sorted now conn frame)
 
-  pub after_turn : (conn slot : ℕ) (now : History) (job : Job) → f (turn_of conn slot now job ∷ now) ≡ f now
+  pub after_turn : (conn slot : ℕ) (now : History) (job : LineJob) → f (turn_of conn slot now job ∷ now) ≡ f now
   after_turn conn slot now (Order device) = sends now conn (number_of (next_order now device))
   after_turn conn slot now (Read device read) = asks now conn device slot read
 

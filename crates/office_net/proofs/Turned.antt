@@ -4,15 +4,15 @@ use Rattle.std.specs.Prelude.{Contains, is_some}
 use Rattle.read_planner.specs.declared.Read.{Read as AskedRead}
 use Rattle.poll_book.specs.declared.rows.Setting.{Setting}
 use Rattle.office_core.specs.Lacking.{lacks}
-use Rattle.office_net.specs.declared.job.Job.{Job}
-use Rattle.office_net.specs.declared.job.Job.TheVariants.{Order, Read}
+use Rattle.office_net.specs.declared.job.LineJob.{LineJob}
+use Rattle.office_net.specs.declared.job.LineJob.TheVariants.{Order, Read}
 use Rattle.office_net.specs.Moves.{Start, Move, Asks, Passes, Comes, told, jobs_in, is_due, next_order, number_of, IsRun}
 use Rattle.office_net.specs.Turned.{AllAsked, IsAsked, IsSent, IsSettled}
 use Rattle.office_net.proofs.Lacked.{lacked_begun, none_next}
 use Rattle.office_net.proofs.Settling.{due_begun, order_at_turn, still_settled}
 
 -- what is due at its turn was due as the round began
-job_begun : (start : Start) (moves : List Move) (job : Job) → is_due start.slot (told start moves) job ≡ true → is_due start.slot start.before job ≡ true
+job_begun : (start : Start) (moves : List Move) (job : LineJob) → is_due start.slot (told start moves) job ≡ true → is_due start.slot start.before job ≡ true
 job_begun start moves (Order device) due = due_begun start moves device due
 job_begun start moves (Read device read) due = lacked_begun start device start.slot read moves due
 
@@ -77,20 +77,20 @@ reads_asked start moves device read run all among = read_turned start device rea
 -- ---- orders
 
 -- an order that was sent was sent
-sent_more : (start : Start) (order : ℕ) (job : Job) (moves : List Move) → IsSent start order moves → IsSent start order (Asks job ∷ moves)
+sent_more : (start : Start) (order : ℕ) (job : LineJob) (moves : List Move) → IsSent start order moves → IsSent start order (Asks job ∷ moves)
 sent_more start order (Order device) moves sent = inr sent
 sent_more start order (Read device read) moves sent = sent
 
 module _ (start : Start) (device : List ℕ) (order : ℕ) (setting : Setting) (oldest : next_order start.before device ≡ Some (order, setting)) where
   -- at the turn of its device it is sent, if it waits
-  sent_now : (moves : List Move) (job : Job) → job ≡ Order device → IsSent start order (Asks job ∷ moves) ⊎ IsSettled (told start moves) order
+  sent_now : (moves : List Move) (job : LineJob) → job ≡ Order device → IsSent start order (Asks job ∷ moves) ⊎ IsSettled (told start moves) order
   sent_now moves job own = subst (λ j. IsSent start order (Asks j ∷ moves) ⊎ IsSettled (told start moves) order) (sym own) (⊎_elim
       (λ (next : (now : Setting) × (next_order (told start moves) device ≡ Some (order, now))). inl (inl (ap number_of next.1)))
       (λ (settled : IsSettled (told start moves) order). inr settled)
       (order_at_turn start moves device order setting oldest))
 
   -- and where the device is passed over, it doesn't wait
-  passed_now : (moves : List Move) (job : Job) → job ≡ Order device → is_due start.slot (told start moves) job ≡ false → IsSettled (told start moves) order
+  passed_now : (moves : List Move) (job : LineJob) → job ≡ Order device → is_due start.slot (told start moves) job ≡ false → IsSettled (told start moves) order
   passed_now moves job own idle = ⊎_elim
       (λ (next : (now : Setting) × (next_order (told start moves) device ≡ Some (order, now))).
       let on : true ≡ false = sym (ap is_some next.1) ∙ subst (λ j. is_due start.slot (told start moves) j ≡ false) own idle in absurd (cc))

@@ -14,7 +14,7 @@ use Rattle.office_core.specs.Leavings.{LeftAfter}
 use Rattle.office_core.specs.Legal.{Legal}
 use Rattle.office_core.specs.Offices.{Stands, keeper_of}
 use Rattle.office_core.specs.Standing.{is_store}
-use Rattle.office_net.specs.declared.job.Job.{Job}
+use Rattle.office_net.specs.declared.job.LineJob.{LineJob}
 use Rattle.office_net.specs.Moves.{is_due, turn_of}
 
 -- an office that stands for a history which may be, and which has begun
@@ -45,7 +45,7 @@ pub record Fails (stood stands : History → Type 0) (might may : Tables → Typ
 -- ---- a job at its turn
 
 -- where it is due it makes this query, and else nothing happens
-abbrev pub Turns : (History → Type 0) → (History → Type 0) → (Tables → Type 0) → (Tables → Type 0) → ℕ → ℕ → Job → Option Frame → Type 0
+abbrev pub Turns : (History → Type 0) → (History → Type 0) → (Tables → Type 0) → (Tables → Type 0) → ℕ → ℕ → LineJob → Option Frame → Type 0
 Turns stood stands might may conn slot job None =
     ((now : History) → stood now → is_due slot now job ≡ false) × Stays stood stands might may
 Turns stood stands might may conn slot job (Some query) =
@@ -53,7 +53,7 @@ Turns stood stands might may conn slot job (Some query) =
     × Happens stood stands might may (λ now. turn_of conn slot now job) (answer.Query query)
 
 -- the store refused to tell whether it is due, or it is and its query was refused
-abbrev pub TurnFails : (History → Type 0) → (History → Type 0) → (Tables → Type 0) → (Tables → Type 0) → ℕ → ℕ → Job → OfficeError → Type 0
+abbrev pub TurnFails : (History → Type 0) → (History → Type 0) → (Tables → Type 0) → (Tables → Type 0) → ℕ → ℕ → LineJob → OfficeError → Type 0
 TurnFails stood stands might may conn slot job e =
     (Stays stood stands might may × (is_of_store e ≡ true))
     ⊎ (((now : History) → stood now → is_due slot now job ≡ true)

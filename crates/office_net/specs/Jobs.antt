@@ -13,8 +13,8 @@ use Rattle.read_planner.specs.Chosen.{AreChosen}
 use Rattle.poll_book.specs.declared.rows.PointRow.{PointRow}
 use Rattle.office_core.specs.Cover.{ends_in_time}
 use Rattle.office_core.specs.History.{History, site_of, points, open_line}
-use Rattle.office_net.specs.declared.job.Job.{Job}
-use Rattle.office_net.specs.declared.job.Job.TheVariants.{Order, Read}
+use Rattle.office_net.specs.declared.job.LineJob.{LineJob}
+use Rattle.office_net.specs.declared.job.LineJob.TheVariants.{Order, Read}
 
 -- ---- the jobs of a line
 
@@ -30,14 +30,14 @@ pub record ArePlanned (known : List PointRow) (device : Device) (reads : List As
   pub chosen : AreChosen (places_of (points_on known device.name)) device.gap reads
 
 -- of a device its order first, and then its reads
-abbrev pub device_jobs : List ℕ → List AskedRead → List Job
+abbrev pub device_jobs : List ℕ → List AskedRead → List LineJob
 device_jobs name reads = Order name ∷ map (λ read. Read name read) reads
 
 -- the jobs of these devices, of one device after the other
-abbrev pub AreDeviceJobs : List PointRow → List Device → List Job → Type 0
+abbrev pub AreDeviceJobs : List PointRow → List Device → List LineJob → Type 0
 AreDeviceJobs known [] jobs = jobs ≡ []
 AreDeviceJobs known (device ∷ devices) jobs =
-    (reads : List AskedRead) × (rest : List Job) × ArePlanned known device reads × AreDeviceJobs known devices rest
+    (reads : List AskedRead) × (rest : List LineJob) × ArePlanned known device reads × AreDeviceJobs known devices rest
     × (jobs ≡ device_jobs device.name reads ++ rest)
 
 -- the devices of a line, in the site's order
@@ -45,7 +45,7 @@ abbrev pub devices_on : Site → ℕ → List Device
 devices_on site line = filter (λ (device : Device). device.line == line) site.devices
 
 -- the jobs of the line of a connection that is open after a history
-pub record AreJobs (before : History) (conn : ℕ) (jobs : List Job) : Type 0 where
+pub record AreJobs (before : History) (conn : ℕ) (jobs : List LineJob) : Type 0 where
   pub line : ℕ
   pub opened : open_line before conn ≡ Some line
   pub each : AreDeviceJobs (points before) (devices_on (site_of before) line) jobs
@@ -57,6 +57,6 @@ abbrev pub IsOnLine : History → ℕ → List ℕ → Type 0
 IsOnLine before conn name = option_map (λ (device : Device). device.line) (device_named (site_of before) name) ≡ open_line before conn
 
 -- the job's device is one of the connection's line, and its read is within the limits
-abbrev pub CanBeDone : History → ℕ → Job → Type 0
+abbrev pub CanBeDone : History → ℕ → LineJob → Type 0
 CanBeDone before conn (Order device) = IsOnLine before conn device
 CanBeDone before conn (Read device read) = IsOnLine before conn device × (is_valid_read read ≡ true) × (ends_in_time read ≡ true)

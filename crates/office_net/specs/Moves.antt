@@ -12,20 +12,20 @@ use Rattle.office_core.specs.Answers.{answer_of}
 use Rattle.office_core.specs.Lacking.{lacks}
 use Rattle.office_core.specs.Leavings.{LeftAfter}
 use Rattle.office_core.specs.Messages.{arriving}
-use Rattle.office_net.specs.declared.job.Job.{Job}
-use Rattle.office_net.specs.declared.job.Job.TheVariants.{Order, Read}
+use Rattle.office_net.specs.declared.job.LineJob.{LineJob}
+use Rattle.office_net.specs.declared.job.LineJob.TheVariants.{Order, Read}
 
 -- how a round starts: over which connection, for which slot, with which jobs in their order, and after which history
 pub record Start : Type 0 where
   pub conn : ℕ
   pub slot : ℕ
-  pub jobs : List Job
+  pub jobs : List LineJob
   pub before : History
 
 -- a job's turn, at which it makes a query or is passed over; or a frame that comes
 pub data Move : Type 0 where
-  Asks : (job : Job) → Move
-  Passes : (job : Job) → Move
+  Asks : (job : LineJob) → Move
+  Passes : (job : LineJob) → Move
   Comes : (frame : Frame) → Move
 
 -- ---- a job at its turn
@@ -39,12 +39,12 @@ number_of None = 0
 number_of (Some row) = row.0
 
 -- an order waits on the device, or some point of the read has no reading in the slot
-abbrev pub is_due : ℕ → History → Job → Bool
+abbrev pub is_due : ℕ → History → LineJob → Bool
 is_due slot now (Order device) = is_some (next_order now device)
 is_due slot now (Read device read) = lacks now device slot read
 
 -- the oldest order that waits is sent, or the read is asked
-abbrev pub turn_of : ℕ → ℕ → History → Job → Happening
+abbrev pub turn_of : ℕ → ℕ → History → LineJob → Happening
 turn_of conn slot now (Order device) = Send conn (number_of (next_order now device))
 turn_of conn slot now (Read device read) = Ask conn device slot read
 
@@ -58,7 +58,7 @@ told start (Passes job ∷ moves) = told start moves
 told start (Comes frame ∷ moves) = arriving (told start moves) start.conn frame ∷ told start moves
 
 -- what is answered to a job's query, and to a frame
-abbrev pub turn_answer : Start → List Move → Job → EventAnswer
+abbrev pub turn_answer : Start → List Move → LineJob → EventAnswer
 turn_answer start moves job = answer_of (told start moves) (turn_of start.conn start.slot (told start moves) job)
 
 abbrev pub frame_answer : Start → List Move → Frame → EventAnswer
@@ -67,7 +67,7 @@ frame_answer start moves frame = answer_of (told start moves) (arriving (told st
 -- ---- what the moves are made of, in order
 
 -- the jobs that had their turn
-abbrev pub jobs_in : List Move → List Job
+abbrev pub jobs_in : List Move → List LineJob
 jobs_in [] = []
 jobs_in (Asks job ∷ moves) = jobs_in moves ++ job ∷ []
 jobs_in (Passes job ∷ moves) = jobs_in moves ++ job ∷ []

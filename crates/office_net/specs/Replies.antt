@@ -25,7 +25,7 @@ use Rattle.office_core.specs.History.{Happening, Load, Order, History, points, r
 use Rattle.office_core.specs.Loads.{known_named}
 use Rattle.office_core.specs.Offices.{order_state_of}
 use Rattle.office_http.specs.Answers.{answer_text, error_text, first_status, list_refused_text, one_text, order_text, points_text, readings_text, refusal_text, total_text}
-use Rattle.office_http.specs.declared.asked.Refusal.TheVariants.{NotFound}
+use Rattle.office_http.specs.declared.heard.Refusal.TheVariants.{NotFound}
 use Rattle.office_http.specs.declared.status.Status.TheVariants.{Done, Conflict, Unprocessable}
 use Rattle.office_http.specs.Meanings.{Meaning, nothing, refused, load, order, order_under, readings_of, total_of}
 

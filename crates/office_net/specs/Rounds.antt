@@ -11,14 +11,14 @@ use Rattle.office_core.specs.declared.office.Office.{Office}
 use Rattle.office_core.specs.History.{History}
 use Rattle.office_net.specs.declared.round.Round.{Round}
 use Rattle.office_net.specs.declared.fault.PollFault.{PollFault}
-use Rattle.office_net.specs.declared.job.Job.{Job}
+use Rattle.office_net.specs.declared.job.LineJob.{LineJob}
 use Rattle.office_net.specs.declared.machine.Poll.{Poll}
 use Rattle.office_net.specs.Faults.{ClosedBy, IsOfStream}
 use Rattle.office_net.specs.Jobs.{AreJobs}
 use Rattle.office_net.specs.Moves.{Start, Move, told, jobs_in, frames_in, queries_in, waiting_in, IsRun, LeftIn, LeftTrying}
 use Rattle.office_net.specs.Stages.{BreaksOff, Counts, GoesOn, IsNew, IsNext, taken_of}
 
-abbrev pub start_of : ℕ → ℕ → List Job → History → Start
+abbrev pub start_of : ℕ → ℕ → List LineJob → History → Start
 start_of conn slot jobs before = record { conn = conn; slot = slot; jobs = jobs; before = before }
 
 -- ---- parts of a round
@@ -68,7 +68,7 @@ pub record Cuts (breaks : List Frame → List Frame → Type 0) (bytes : List �
   pub broken : breaks came coming
 
 -- a round under way: these jobs of a connection's slot began it, so much was read, every frame of it was taken, and its queries were written
-pub record Underway (handles : Poll → List Frame → Type 0) (conn slot : ℕ) (jobs : List Job) (poll : Poll) (stream : Option (List ℕ)) (read : ℕ) (unread left : Option (List ℕ)) : Type 0 where
+pub record Underway (handles : Poll → List Frame → Type 0) (conn slot : ℕ) (jobs : List LineJob) (poll : Poll) (stream : Option (List ℕ)) (read : ℕ) (unread left : Option (List ℕ)) : Type 0 where
   pub first : Poll
   pub is_new : IsNew conn slot jobs first
   pub bytes : List ℕ
@@ -102,7 +102,7 @@ pub record IsCut (stands : History → Type 0) (might may : Tables → Type 0) (
   pub begun : (moves ≡ []) ⊎ AreJobs start.before start.conn start.jobs
   pub follows : stands (told start moves)
   pub run : IsRun start moves
-  pub later : List Job
+  pub later : List LineJob
   pub turned : jobs_in moves ++ later ≡ start.jobs
   pub bytes : List ℕ
   pub unfed : List ℕ
@@ -120,9 +120,9 @@ pub record IsCut (stands : History → Type 0) (might may : Tables → Type 0) (
 -- after a history, the round of a connection's slot came to this
 abbrev pub Polls : (History → Type 0) → (Tables → Type 0) → (Tables → Type 0) → ℕ → ℕ → History → Option (List ℕ) → Option (List ℕ) → Option (List ℕ) → Option (List ℕ) → Round → Type 0
 Polls stands might may conn slot before unread left wrote writes round =
-    (jobs : List Job) × AreJobs before conn jobs × IsWhole stands might may (start_of conn slot jobs before) unread left wrote writes round
+    (jobs : List LineJob) × AreJobs before conn jobs × IsWhole stands might may (start_of conn slot jobs before) unread left wrote writes round
 
 -- or it broke off with this fault
 abbrev pub Stops : (History → Type 0) → (Tables → Type 0) → (Tables → Type 0) → ℕ → ℕ → History → Option (List ℕ) → Option (List ℕ) → Type 0 → Option (List ℕ) → Option (List ℕ) → PollFault → Type 0
 Stops stands might may conn slot before unread left calm wrote writes fault =
-    (jobs : List Job) × IsCut stands might may (start_of conn slot jobs before) unread left calm wrote writes fault
+    (jobs : List LineJob) × IsCut stands might may (start_of conn slot jobs before) unread left calm wrote writes fault

@@ -6,9 +6,9 @@ use Rattle.poll_book.specs.declared.fault.StoreFault.{StoreFault}
 use Rattle.poll_book.specs.Tables.{Tables, Within}
 use Rattle.office_core.specs.History.{Happening, History, tables}
 use Rattle.office_core.specs.Leavings.{LeftAfter}
-use Rattle.office_http.specs.declared.asked.Asked.{Asked}
+use Rattle.office_http.specs.declared.heard.Heard.{Heard}
 use Rattle.office_http.specs.Answers.{unavailable_text}
-use Rattle.office_http.specs.Asked.{meaning_of}
+use Rattle.office_http.specs.Heard.{meaning_of}
 use Rattle.office_http.specs.Deciding.{Decides, Means}
 use Rattle.office_http.specs.Meanings.{Meaning}
 use Rattle.office_net.specs.declared.serving.ServeFault.{ServeFault}
@@ -47,10 +47,10 @@ abbrev pub IsHeard : Type 0 → List ℕ → Meaning → Type 0
 IsHeard ended bytes meaning = Decides bytes meaning ⊎ (ended × Means bytes meaning)
 
 -- these bytes were read; if memory wasn't refused, that is asked for in them
-pub record Hears (ended : Type 0) (unread left : Option (List ℕ)) (heard : Option Asked) : Type 0 where
+pub record Hears (ended : Type 0) (unread left : Option (List ℕ)) (heard : Option Heard) : Type 0 where
   pub bytes : List ℕ
   pub read : Consumes unread left bytes
-  pub asked : (asked : Asked) → heard ≡ Some asked → IsHeard ended bytes (meaning_of asked)
+  pub asked : (asked : Heard) → heard ≡ Some asked → IsHeard ended bytes (meaning_of asked)
 
 -- ---- the connection
 

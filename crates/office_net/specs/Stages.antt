@@ -10,7 +10,7 @@ use Rattle.office_core.specs.History.{History, asked, tables}
 use Rattle.office_core.specs.Leavings.{LeftAfter}
 use Rattle.office_net.specs.declared.round.Round.{Round}
 use Rattle.office_net.specs.declared.fault.PollFault.{PollFault}
-use Rattle.office_net.specs.declared.job.Job.{Job}
+use Rattle.office_net.specs.declared.job.LineJob.{LineJob}
 use Rattle.office_net.specs.declared.machine.Poll.{Poll}
 use Rattle.office_net.specs.Jobs.{CanBeDone}
 use Rattle.office_net.specs.Moves.{Start, Move, Asks, Passes, Comes, told, jobs_in, frames_in, asks_in, queries_in, waiting_in, IsRun, LeftTrying, sum_in, recorded_by, excepted_by, refused_by}
@@ -36,7 +36,7 @@ pub record HasTurn (poll : Poll) : Type 0 where
   pub room : poll.waiting < 16
 
 -- a round that begins
-pub record IsNew (conn slot : ℕ) (jobs : List Job) (poll : Poll) : Type 0 where
+pub record IsNew (conn slot : ℕ) (jobs : List LineJob) (poll : Poll) : Type 0 where
   pub conn_is : poll.conn ≡ conn
   pub slot_is : poll.slot ≡ slot
   pub jobs_are : poll.jobs.items ≡ jobs
@@ -148,7 +148,7 @@ GoesOn office old office' new came sent =
 -- the move that was refused is the turn of the next job, or brings the next of these frames
 abbrev pub IsNext : Start → List Move → List Frame → Option Move → Type 0
 IsNext start moves coming None = ⊤
-IsNext start moves coming (Some (Asks job)) = (later : List Job) × (jobs_in moves ++ job ∷ later ≡ start.jobs)
+IsNext start moves coming (Some (Asks job)) = (later : List LineJob) × (jobs_in moves ++ job ∷ later ≡ start.jobs)
 IsNext start moves coming (Some (Passes job)) = ⊥
 IsNext start moves coming (Some (Comes frame)) = (later : List Frame) × (coming ≡ frame ∷ later)
 

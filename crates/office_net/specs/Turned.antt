@@ -3,19 +3,19 @@ use Rattle.std.specs.Prelude.{◌≡◌, ◌⊎◌, ℕ, false, List, [], ◌∷
 use Rattle.poll_book.specs.declared.rows.Setting.{Setting}
 use Rattle.poll_book.specs.Orders.{is_waiting, setting_at}
 use Rattle.office_core.specs.History.{History, settings}
-use Rattle.office_net.specs.declared.job.Job.{Job}
-use Rattle.office_net.specs.declared.job.Job.TheVariants.{Order, Read}
+use Rattle.office_net.specs.declared.job.LineJob.{LineJob}
+use Rattle.office_net.specs.declared.job.LineJob.TheVariants.{Order, Read}
 use Rattle.office_net.specs.Moves.{Start, Move, Asks, Passes, Comes, told, next_order, number_of}
 
 -- so is each job that made a query
-abbrev pub AllAsked : (Job → Type 0) → List Move → Type 0
+abbrev pub AllAsked : (LineJob → Type 0) → List Move → Type 0
 AllAsked P [] = ⊤
 AllAsked P (Asks job ∷ moves) = P job × AllAsked P moves
 AllAsked P (Passes job ∷ moves) = AllAsked P moves
 AllAsked P (Comes frame ∷ moves) = AllAsked P moves
 
 -- the job made a query
-abbrev pub IsAsked : Job → List Move → Type 0
+abbrev pub IsAsked : LineJob → List Move → Type 0
 IsAsked job [] = ⊥
 IsAsked job (Asks other ∷ moves) = (other ≡ job) ⊎ IsAsked job moves
 IsAsked job (Passes other ∷ moves) = IsAsked job moves

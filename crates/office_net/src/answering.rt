@@ -4,7 +4,7 @@ ghost use Rattle.poll_book.specs.Requests.{request_at};
 ghost use Rattle.office_core.specs.History.{History, points, requests};
 ghost use Rattle.office_core.specs.Loads.{known_named};
 ghost use Rattle.office_core.specs.Offices.{CauseFrom, keeper_of, order_state_of};
-ghost use Rattle.office_http.specs.Asked.{meaning_of};
+ghost use Rattle.office_http.specs.Heard.{meaning_of};
 ghost use Rattle.office_http.specs.Meanings as meanings;
 ghost use Rattle.office_net.specs.Following.{Follows, MayLeave, Stays};
 ghost use Rattle.office_net.specs.Replies.{order_reply, readings_reply, state_reply, total_reply, under_reply};
@@ -14,7 +14,7 @@ use crate::replies::{list_reply, not_found, order_refused, order_reply, readings
 use crate::requests::{fault_of, load, order, order_state, readings, request_of, total};
 use office_core::Office;
 use office_core::laws::fitting_tables;
-use office_http::{Asked, answer};
+use office_http::{Heard, answer};
 use office_report::total_text;
 use poll_book::{Body, Caller, Keeper, Key, Outcome, StoreFault};
 use std::alloc::Global;
@@ -202,7 +202,7 @@ fn get_total<K: Keeper>(
 pub fn respond<K: Keeper>(
     alloc: Global,
     office: &mut Office<K>,
-    asked: &Asked,
+    asked: &Heard,
 ) -> Result<String, StoreFault>
     ensures goes { K.is_clean (keeper_of office.new) → MatchResult result
         (λ text. Answers (Follows office.old) (Follows office.new) (MayLeave office.old) (MayLeave office.new) (meaning_of asked.now) (string_bytes text))
@@ -212,23 +212,23 @@ pub fn respond<K: Keeper>(
     ensures clean { K.is_clean (keeper_of office.new) → K.is_clean (keeper_of office.old) }
 {
     match asked {
-        Asked::Nothing => Ok(String::new(alloc)),
-        Asked::Refused(refusal) => Ok(answer::refusal(alloc, *refusal)?),
-        Asked::Load { caller, key, list } => put_list(alloc, office, caller, key, list),
-        Asked::Order {
+        Heard::Nothing => Ok(String::new(alloc)),
+        Heard::Refused(refusal) => Ok(answer::refusal(alloc, *refusal)?),
+        Heard::Load { caller, key, list } => put_list(alloc, office, caller, key, list),
+        Heard::Order {
             caller,
             key,
             point,
             value,
         } => put_order(alloc, office, caller, key, point.as_str(), *value),
-        Asked::OrderUnder { caller, key } => get_order(alloc, office, caller, key),
-        Asked::Readings { point, from, to } => get_readings(
+        Heard::OrderUnder { caller, key } => get_order(alloc, office, caller, key),
+        Heard::Readings { point, from, to } => get_readings(
             alloc,
             office,
             point.as_str(),
             *from,
             *to,
         ),
-        Asked::Total { point } => get_total(alloc, office, point.as_str()),
+        Heard::Total { point } => get_total(alloc, office, point.as_str()),
     }
 }

@@ -4,21 +4,28 @@ use mb_mbap::FrameFault;
 use office_core::OfficeError;
 use poll_book::StoreFault;
 use std::alloc::AllocError;
+use thiserror::Error;
 
 /// Why a round broke off. What was recorded before stays.
-#[derive(Clone, Copy, Debug, PartialEq, Eq)]
+#[derive(Clone, Copy, Debug, PartialEq, Eq, Error)]
 pub enum PollFault {
     /// The reader or the writer failed, or the reader ended.
+    #[error("the line failed")]
     Line,
     /// 16,777,216 bytes were read.
+    #[error("too much was read")]
     Noise,
     /// No frame can follow in the stream that was read.
+    #[error("no frame can follow: {0}")]
     Frames(FrameFault),
     /// The store refused.
+    #[error("the store refused: {0}")]
     Store(StoreFault),
     /// Memory was refused.
+    #[error("memory was refused")]
     Memory,
     /// The connection isn't open, or has no query number left.
+    #[error("the connection is closed")]
     Closed,
 }
 

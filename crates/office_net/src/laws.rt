@@ -3,7 +3,7 @@ ghost use Rattle.std.specs.Prelude.{◌≡◌, ◌⊎◌, ◌≤◌, ℕ, Contai
 ghost use Rattle.read_planner.specs.declared.Read.{Read as AskedRead};
 ghost use Rattle.poll_book.specs.declared.rows.Setting.{Setting};
 ghost use Rattle.office_core.specs.Lacking.{lacks};
-ghost use Rattle.office_net.specs.declared.job.Job.TheVariants.{Order, Read};
+ghost use Rattle.office_net.specs.declared.job.LineJob.TheVariants.{Order, Read};
 ghost use Rattle.office_net.specs.Moves.{IsRun, Move, Start, is_due, jobs_in, next_order, told, waiting_in};
 ghost use Rattle.office_net.specs.Turned.{AllAsked, IsAsked, IsSent, IsSettled};
 

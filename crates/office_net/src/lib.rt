@@ -1,5 +1,7 @@
 //! The office at its lines and its callers: poll rounds, which ask what lacks a reading and send the
 //! orders that wait, and requests over HTTP.
+//!
+//! `crates/tour/src/rounds.rt` and `exchanges.rt` there are short examples.
 #![tactic(auto)]
 
 mod answering;
@@ -18,9 +20,9 @@ mod turns;
 
 pub use answering::respond;
 pub use fault::PollFault;
-pub use job::Job;
+pub use job::LineJob;
 pub use machine::Poll;
-pub use planning::jobs_of;
+pub use planning::{jobs_of, reads_of};
 pub use polling::poll_round;
 pub use round::Round;
 pub use serving::{ServeFault, Served, serve_one};

@@ -7,7 +7,7 @@ ghost use Rattle.office_net.specs.Faults.{IsCaused};
 
 use crate::calls::{arrive, is_store};
 use crate::fault::PollFault;
-use crate::job::Job;
+use crate::job::LineJob;
 use crate::round::Round;
 use crate::turns::turn;
 use mb_mbap::Frame;
@@ -23,7 +23,7 @@ const MOST_WAITING: u8 = 16;
 pub struct Poll {
     conn: Conn,
     slot: u32,
-    jobs: Vec<Job>,
+    jobs: Vec<LineJob>,
     // So many jobs had their turn.
     turned: usize,
     // The transaction of the round's first query, once there is one.
@@ -46,7 +46,7 @@ impl Poll {
     ghost use Rattle.office_net.specs.Stages.{Asked, BreaksOff, GoesOn, HasTurn, IsDone, IsNew, IsWaiting, Passed, Took, as_list, counts_of, left_of, own, taken_of};
 
     /// A round of these jobs, in this order, over a connection.
-    pub fn new(conn: Conn, slot: u32, jobs: Vec<Job>) -> Poll
+    pub fn new(conn: Conn, slot: u32, jobs: Vec<LineJob>) -> Poll
         ensures { IsNew conn slot jobs.items result }
     {
         let _few = jobs.len();

@@ -3,10 +3,10 @@ ghost use Rattle.std.specs.Prelude.{◌≡◌, ◌++◌, ◌↔◌, ◌==◌, Al
 ghost use Rattle.std.specs.Str.{bytes_eq};
 ghost use Rattle.read_planner.specs.declared.Read.{Read};
 ghost use Rattle.read_planner.specs.Place.{CanBeRead};
-ghost use Rattle.office_net.specs.declared.job.Job.TheVariants as jobs;
+ghost use Rattle.office_net.specs.declared.job.LineJob.TheVariants as jobs;
 ghost use Rattle.office_net.specs.Jobs.{AreDeviceJobs, ArePlanned, device_jobs, devices_on, points_on};
 
-use crate::job::Job;
+use crate::job::LineJob;
 use point_list::{Device, Point, Site, Text};
 use poll_book::PointRow;
 use read_planner::{Read, can_be_read, plan};
@@ -38,7 +38,7 @@ fn are_readable(points: &[Point]) -> bool
 }
 
 /// The reads of a device. Points that were accepted can be read; of others there are none.
-fn reads_of(alloc: Global, known: &[PointRow], device: &Device) -> Result<Vec<Read>, AllocError>
+pub fn reads_of(alloc: Global, known: &[PointRow], device: &Device) -> Result<Vec<Read>, AllocError>
     ensures { All (λ row. CanBeRead row.point) known.now → IfOk result (λ reads. ArePlanned known.now device.now reads.items) }
 {
     let points = points_of(alloc, known, device.name.as_str())?;
@@ -50,19 +50,19 @@ fn reads_of(alloc: Global, known: &[PointRow], device: &Device) -> Result<Vec<Re
 }
 
 /// The job of a read.
-fn read_job(device: &Text, read: Read) -> Result<Job, AllocError>
+fn read_job(device: &Text, read: Read) -> Result<LineJob, AllocError>
     ensures { IfOk result (λ job. job ≡ jobs.Read device.now read) }
 {
     let device = device.clone()?;
-    Ok(Job::Read { device, read })
+    Ok(LineJob::Read { device, read })
 }
 
 /// Adds the jobs of a device: its order, and then its reads.
-fn add_jobs(all: &mut Vec<Job>, device: &Text, reads: &[Read]) -> Result<(), AllocError>
+fn add_jobs(all: &mut Vec<LineJob>, device: &Text, reads: &[Read]) -> Result<(), AllocError>
     ensures { IfOk result (λ _. all.new.items ≡ all.old.items ++ device_jobs device.now reads.now) }
 {
     let order = device.clone()?;
-    all.push(Job::Order { device: order })?;
+    all.push(LineJob::Order { device: order })?;
     for read in reads {
         all.push(read_job(device, *read)?)?;
     }
@@ -72,7 +72,7 @@ fn add_jobs(all: &mut Vec<Job>, device: &Text, reads: &[Read]) -> Result<(), All
 /// Adds the jobs of a device, if it is one of the line.
 fn add_device(
     alloc: Global,
-    all: &mut Vec<Job>,
+    all: &mut Vec<LineJob>,
     device: &Device,
     known: &[PointRow],
     line: u16,
@@ -96,7 +96,7 @@ pub fn jobs_of(
     site: &Site,
     known: &[PointRow],
     line: u16,
-) -> Result<Vec<Job>, AllocError>
+) -> Result<Vec<LineJob>, AllocError>
     ensures { All (λ row. CanBeRead row.point) known.now
         → IfOk result (λ all. AreDeviceJobs known.now (devices_on site.now line) all.items) }
 {

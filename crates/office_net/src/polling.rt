@@ -14,10 +14,11 @@ ghost use Rattle.office_net.specs.Rounds.{Breaks, BreaksIn, Cuts, Fed, Handles, 
 ghost use Rattle.office_net.specs.Stages.{IsDone, IsWaiting, taken_of};
 
 use crate::fault::PollFault;
-use crate::job::Job;
+use crate::job::LineJob;
 use crate::machine::Poll;
 use crate::planning::jobs_of;
 use crate::round::Round;
+use line_io::{read_some, write_frame};
 use mb_mbap::{Counted, Frame, FrameFault, FrameReader};
 use office_core::Office;
 use office_core::laws::readable_points;
@@ -31,19 +32,6 @@ const MOST_READ: usize = 16_777_216;
 
 /// So many bytes are read at once at most.
 const PIECE: usize = 4096;
-
-/// Writes a query.
-fn write_query<W: Write>(writer: &mut Counted<W>, query: &Frame) -> Result<(), PollFault>
-    ensures written { OnOk result (Appends (W.contents (inner_of writer.old)) (W.contents (inner_of writer.new)) (spelled query.now)) }
-    ensures calm { OnOk result (failures_of writer.new ≡ failures_of writer.old) }
-    ensures failed { IfErr result (λ fault. (fault ≡ PollFault.Line) × HasRisen (failures_of writer.old) (failures_of writer.new)) }
-{
-    let bytes = query.encode();
-    match writer.write_all(bytes.as_bytes()) {
-        Ok(()) => Ok(()),
-        Err(_) => Err(PollFault::Line),
-    }
-}
 
 /// Writes each query that may be sent.
 fn send<K: Keeper, W: Write>(
@@ -62,7 +50,7 @@ fn send<K: Keeper, W: Write>(
     ensures taken { taken_of poll.new ≡ taken_of poll.old }
 {
     while let Some(query) = poll.next(office)? {
-        write_query(writer, &query)?;
+        write_frame(writer, &query, PollFault::Line)?;
     }
     Ok(())
 }
@@ -92,29 +80,6 @@ fn bring<K: Keeper, W: Write>(
         send(poll, office, writer)?;
     }
     Ok(())
-}
-
-/// Reads the next piece, of at most so many bytes.
-fn read_piece<R: Read>(
-    reader: &mut Counted<R>,
-    piece: &mut [u8],
-    most: usize,
-) -> Result<usize, PollFault>
-    requires some { 0 < most }
-    requires room { most ≤ length piece.old }
-    ensures some { IfOk result (λ count. (0 < count) × (count ≤ most)) }
-    ensures bytes { MatchResult result
-        (λ count. Consumes (R.remaining (inner_of reader.old)) (R.remaining (inner_of reader.new)) (take count piece.new))
-        (λ _. Consumes (R.remaining (inner_of reader.old)) (R.remaining (inner_of reader.new)) []) }
-    ensures calm { OnOk result ((failures_of reader.new ≡ failures_of reader.old) × (ends_of reader.new ≡ ends_of reader.old)) }
-    ensures failed { IfErr result (λ fault. (fault ≡ PollFault.Line)
-        × (HasRisen (failures_of reader.old) (failures_of reader.new) ⊎ HasRisen (ends_of reader.old) (ends_of reader.new))) }
-{
-    match reader.read(&mut piece[..most]) {
-        Ok(0) => Err(PollFault::Line),
-        Ok(count) => Ok(count),
-        Err(_) => Err(PollFault::Line),
-    }
 }
 
 /// A stream that can't be read on is a fault, unless the round is done.
@@ -162,7 +127,7 @@ fn read_on<K: Keeper, R: Read, W: Write>(
     }
     let mut piece = [0u8; PIECE];
     let most = PIECE.min(MOST_READ - read);
-    let count = read_piece(reader, &mut piece, most)?;
+    let count = read_some(reader, &mut piece, most, PollFault::Line)?;
     let fed = stream.feed(&piece[..count])?;
     bring(poll, office, &fed.frames, writer)?;
     judge_stream(fed.fault, poll)?;
@@ -175,7 +140,7 @@ fn poll_jobs<K: Keeper, R: Read, W: Write>(
     office: &mut Office<K>,
     conn: Conn,
     slot: u32,
-    jobs: Vec<Job>,
+    jobs: Vec<LineJob>,
     reader: &mut Counted<R>,
     writer: &mut Counted<W>,
 ) -> Result<Round, PollFault>

@@ -3,18 +3,20 @@ ghost use Rattle.std.specs.Prelude.{◌≡◌, ◌≤◌, ◌<◌, [], IfErr, If
 ghost use Rattle.std.specs.Io.KnownBytes.{Appends, Consumes};
 ghost use Rattle.mb_mbap.specs.Counted.{HasRisen, ends_of, failures_of, inner_of};
 ghost use Rattle.office_core.specs.Offices.{CauseFrom, keeper_of};
-ghost use Rattle.office_http.specs.declared.asked.Asked.{Asked};
-ghost use Rattle.office_http.specs.Asked.{meaning_of};
+ghost use Rattle.office_http.specs.declared.heard.Heard.{Heard};
+ghost use Rattle.office_http.specs.Heard.{meaning_of};
 ghost use Rattle.office_net.specs.Following.{Follows, MayLeave, Stays};
 ghost use Rattle.office_net.specs.Serving.{Answers, Breaks, Hears, IsCausedBy, Serves, Unanswered, written_for};
 
 use crate::answering::respond;
+use line_io::{read_piece, write};
 use mb_mbap::Counted;
 use office_core::Office;
-use office_http::{Asked, Exchange, answer};
+use office_http::{Exchange, Heard, answer};
 use poll_book::{Keeper, StoreFault};
 use std::alloc::Global;
 use std::io::{Read, Write};
+use thiserror::Error;
 
 /// So many bytes are read at once at most.
 const PIECE: usize = 4096;
@@ -24,41 +26,25 @@ const PIECE: usize = 4096;
 pub struct Served;
 
 /// Why a connection wasn't answered.
-#[derive(Clone, Copy, Debug, PartialEq, Eq)]
+#[derive(Clone, Copy, Debug, PartialEq, Eq, Error)]
 pub enum ServeFault {
     /// The reader failed. Nothing was written, and nothing happened.
+    #[error("a request couldn't be read")]
     Read,
     /// The writer failed. What was asked for is done.
+    #[error("an answer couldn't be written")]
     Write,
 }
 
-/// Reads the next piece, which is empty at the end.
-fn read_piece<R: Read>(reader: &mut Counted<R>, piece: &mut [u8]) -> Result<usize, ServeFault>
-    ensures within { IfOk result (λ count. count ≤ length piece.new) }
-    ensures room { length piece.new ≡ length piece.old }
-    ensures bytes { MatchResult result
-        (λ count. Consumes (R.remaining (inner_of reader.old)) (R.remaining (inner_of reader.new)) (take count piece.new))
-        (λ _. Consumes (R.remaining (inner_of reader.old)) (R.remaining (inner_of reader.new)) []) }
-    ensures ended { IfOk result (λ count. count ≡ 0 → 0 < length piece.old → HasRisen (ends_of reader.old) (ends_of reader.new)) }
-    ensures calm { IfOk result (λ count. 0 < count → ends_of reader.new ≡ ends_of reader.old) }
-    ensures failed { IfErr result (λ fault. (fault ≡ ServeFault.Read) × HasRisen (failures_of reader.old) (failures_of reader.new)) }
-    ensures quiet { OnOk result (failures_of reader.new ≡ failures_of reader.old) }
-{
-    match reader.read(piece) {
-        Ok(count) => Ok(count),
-        Err(_) => Err(ServeFault::Read),
-    }
-}
-
 /// Reads until it is known what is asked for. `None` where memory was refused.
-fn hear<R: Read>(alloc: Global, reader: &mut Counted<R>) -> Result<Option<Asked>, ServeFault>
+fn hear<R: Read>(alloc: Global, reader: &mut Counted<R>) -> Result<Option<Heard>, ServeFault>
     ensures hears { IfOk result (Hears (HasRisen (ends_of reader.old) (ends_of reader.new)) (R.remaining (inner_of reader.old)) (R.remaining (inner_of reader.new))) }
     ensures failed { IfErr result (λ fault. (fault ≡ ServeFault.Read) × HasRisen (failures_of reader.old) (failures_of reader.new)) }
 {
     let mut exchange = Exchange::new(alloc);
     let mut piece = [0u8; PIECE];
     'pieces: loop {
-        let count = read_piece(reader, &mut piece)?;
+        let count = read_piece(reader, &mut piece, ServeFault::Read)?;
         if count == 0 {
             return Ok(Some(exchange.end()));
         }
@@ -74,9 +60,9 @@ fn hear<R: Read>(alloc: Global, reader: &mut Counted<R>) -> Result<Option<Asked>
 fn reply<K: Keeper>(
     alloc: Global,
     office: &mut Office<K>,
-    heard: &Option<Asked>,
+    heard: &Option<Heard>,
 ) -> Result<String, StoreFault>
-    ensures known { K.is_clean (keeper_of office.new) → (asked : Asked) → heard.now ≡ Some asked → MatchResult result
+    ensures known { K.is_clean (keeper_of office.new) → (asked : Heard) → heard.now ≡ Some asked → MatchResult result
         (λ text. Answers (Follows office.old) (Follows office.new) (MayLeave office.old) (MayLeave office.new) (meaning_of asked) (string_bytes text))
         (λ _. Unanswered (Follows office.old) (Follows office.new) (MayLeave office.old) (MayLeave office.new) (meaning_of asked)) }
     ensures cause { IfErr result (CauseFrom office.old office.new) }
@@ -90,16 +76,6 @@ fn reply<K: Keeper>(
     }
 }
 
-fn write<W: Write>(writer: &mut Counted<W>, bytes: &[u8]) -> Result<(), ServeFault>
-    ensures written { OnOk result (Appends (W.contents (inner_of writer.old)) (W.contents (inner_of writer.new)) bytes.now) }
-    ensures failed { IfErr result (λ fault. (fault ≡ ServeFault.Write) × HasRisen (failures_of writer.old) (failures_of writer.new)) }
-{
-    match writer.write_all(bytes) {
-        Ok(()) => Ok(()),
-        Err(_) => Err(ServeFault::Write),
-    }
-}
-
 /// Writes an answer, or that there is none.
 fn write_reply<W: Write>(
     writer: &mut Counted<W>,
@@ -109,8 +85,8 @@ fn write_reply<W: Write>(
     ensures failed { IfErr result (λ fault. (fault ≡ ServeFault.Write) × HasRisen (failures_of writer.old) (failures_of writer.new)) }
 {
     match reply {
-        Ok(text) => write(writer, text.as_bytes()),
-        Err(_) => write(writer, answer::unavailable()),
+        Ok(text) => write(writer, text.as_bytes(), ServeFault::Write),
+        Err(_) => write(writer, answer::unavailable(), ServeFault::Write),
     }
 }
 

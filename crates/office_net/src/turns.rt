@@ -3,10 +3,10 @@ ghost use Rattle.std.specs.Prelude.{◌≤◌, ℕ, IfErr, MatchResult};
 ghost use Rattle.office_core.specs.Errors.{IsCaused};
 ghost use Rattle.office_core.specs.Offices.{CauseFrom, keeper_of};
 ghost use Rattle.office_net.specs.Following.{Follows, MayLeave, TurnFails, Turns};
-ghost use Rattle.office_net.specs.declared.job.Job.TheVariants as jobs;
+ghost use Rattle.office_net.specs.declared.job.LineJob.TheVariants as jobs;
 
 use crate::calls::{ask, lacks, send_order, waiting};
-use crate::job::Job;
+use crate::job::LineJob;
 use mb_mbap::Frame;
 use office_core::{Office, OfficeError};
 use poll_book::Keeper;
@@ -58,7 +58,7 @@ pub(crate) fn turn<K: Keeper>(
     office: &mut Office<K>,
     conn: Conn,
     slot: u32,
-    job: &Job,
+    job: &LineJob,
 ) -> Result<Option<Frame>, OfficeError>
     ensures turned { K.is_clean (keeper_of office.new) → MatchResult result
         (λ query. Turns (Follows office.old) (Follows office.new) (MayLeave office.old) (MayLeave office.new) conn slot job.now query)
@@ -68,7 +68,7 @@ pub(crate) fn turn<K: Keeper>(
     ensures clean { K.is_clean (keeper_of office.new) → K.is_clean (keeper_of office.old) }
 {
     match job {
-        Job::Order { device } => send_next(office, conn, device.as_str()),
-        Job::Read { device, read } => ask_lacking(office, conn, slot, device.as_str(), read),
+        LineJob::Order { device } => send_next(office, conn, device.as_str()),
+        LineJob::Read { device, read } => ask_lacking(office, conn, slot, device.as_str(), read),
     }
 }

@@ -1,15 +1,19 @@
 use office_core::OfficeError;
 use poll_book::StoreFault;
 use std::alloc::AllocError;
+use thiserror::Error;
 
 /// Why a report wasn't written.
-#[derive(Clone, Copy, Debug, PartialEq, Eq)]
+#[derive(Clone, Copy, Debug, PartialEq, Eq, Error)]
 pub enum ReportFault {
     /// The writer failed. A beginning of the report may have been written.
+    #[error("the report couldn't be written")]
     Write,
     /// The store refused. Nothing was written.
+    #[error("the store refused: {0}")]
     Store(StoreFault),
     /// Memory was refused to the report. Nothing was written.
+    #[error("memory was refused")]
     Memory,
 }
 

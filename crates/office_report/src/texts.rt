@@ -21,10 +21,7 @@ pub fn reading_text(
     if !point.kind.is_sized() || !point.kind.has_registers(words) {
         return Ok(None);
     }
-    match shown_text(alloc, &point.kind, words, i32::from(point.scale)) {
-        Ok(text) => Ok(text),
-        Err(_) => Err(AllocError),
-    }
+    shown_text(alloc, &point.kind, words, i32::from(point.scale)).map_err(|_| AllocError)
 }
 
 /// How far a counter went, with its scale.
@@ -35,8 +32,5 @@ pub fn total_text(alloc: Global, point: &Point, total: u128) -> Result<String, A
     let Ok(number) = i128::try_from(total) else {
         return Err(AllocError);
     };
-    match scaled_text(alloc, number, i32::from(point.scale)) {
-        Ok(text) => Ok(text),
-        Err(_) => Err(AllocError),
-    }
+    scaled_text(alloc, number, i32::from(point.scale)).map_err(|_| AllocError)
 }

@@ -7,9 +7,9 @@ use Rattle.std.specs.Str.Parse.{digits_value}
 use Rattle.std.proofs.lemmas.Bool.{and_parts}
 use Rattle.std.proofs.lemmas.Bool.Decides.{nat_tests}
 use Rattle.std.proofs.Common.{subst}
-use Rattle.sunspec.specs.Digits.{number_within, is_number_within}
+use Rattle.sunspec.specs.Digits.{greatest_signed, is_number_within, least_signed, number_within}
 use Rattle.office_core.specs.Legal.{IsNumber}
-use Rattle.office_script.specs.Words.{value_of, least_value, greatest_value}
+use Rattle.office_script.specs.Words.{value_of}
 
 pub same : {A : Type 0} (x y : A) → Some x ≡ Some y → y ≡ x
 same x y e = cc
@@ -26,7 +26,7 @@ within_limit limit n word is = by (is_number_within limit word) refl is
         let small : digits_value 10 word ≤ limit = grind (arith, nat_tests, parts) in
         omega (arith, value, small)
 
-negative_number : (n : ℕ) → n ≤ least_value → IsNumber (neg_ℤ (pos n))
+negative_number : (n : ℕ) → n ≤ least_signed → IsNumber (neg_ℤ (pos n))
 negative_number zero h = omega arith
 negative_number (suc n) h = omega (arith, h)
 
@@ -35,14 +35,14 @@ pub value_number : (word : List ℕ) (z : ℤ) → Some z ≡ value_of word → 
 value_number [] z e = absurd (cc)
 value_number (byte ∷ rest) z e = by (byte == 45) e
   where
-    below : (o : Option ℕ) → ((n : ℕ) → Some n ≡ o → n ≤ least_value) → Some z ≡ option_map (λ n. neg_ℤ (pos n)) o → IsNumber z
+    below : (o : Option ℕ) → ((n : ℕ) → Some n ≡ o → n ≤ least_signed) → Some z ≡ option_map (λ n. neg_ℤ (pos n)) o → IsNumber z
     below None h e = absurd (cc)
     below (Some n) h e = subst IsNumber (same z (neg_ℤ (pos n)) e) (negative_number n (h n refl))
 
-    above : (o : Option ℕ) → ((n : ℕ) → Some n ≡ o → n ≤ greatest_value) → Some z ≡ option_map pos o → IsNumber z
+    above : (o : Option ℕ) → ((n : ℕ) → Some n ≡ o → n ≤ greatest_signed) → Some z ≡ option_map pos o → IsNumber z
     above None h e = absurd (cc)
     above (Some n) h e = subst IsNumber (same z (pos n) e) (h n refl)
 
-    by : (b : Bool) → Some z ≡ cond b (option_map (λ n. neg_ℤ (pos n)) (number_within least_value rest)) (option_map pos (number_within greatest_value (byte ∷ rest))) → IsNumber z
-    by true e = below (number_within least_value rest) (λ n h. within_limit least_value n rest h) e
-    by false e = above (number_within greatest_value (byte ∷ rest)) (λ n h. within_limit greatest_value n (byte ∷ rest) h) e
+    by : (b : Bool) → Some z ≡ cond b (option_map (λ n. neg_ℤ (pos n)) (number_within least_signed rest)) (option_map pos (number_within greatest_signed (byte ∷ rest))) → IsNumber z
+    by true e = below (number_within least_signed rest) (λ n h. within_limit least_signed n rest h) e
+    by false e = above (number_within greatest_signed (byte ∷ rest)) (λ n h. within_limit greatest_signed n (byte ∷ rest) h) e

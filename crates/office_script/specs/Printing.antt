@@ -12,13 +12,10 @@ use Rattle.poll_book.specs.declared.rows.OrderState.{OrderState}
 use Rattle.poll_book.specs.declared.rows.OrderState.TheVariants.{Waiting, Done, Refused}
 use Rattle.poll_book.specs.declared.rows.Setting.{Setting}
 use Rattle.poll_book.specs.Orders.{Settings, last_order, setting_at}
-use Rattle.poll_book.specs.RequestTexts.{request_fault_text}
-use Rattle.poll_book.specs.declared.requests.Outcome.{Outcome}
-use Rattle.poll_book.specs.declared.requests.Outcome.TheVariants.{Loaded, Ordered, RefusedFor}
+use Rattle.office_report.specs.Outcomes.{request_text}
 use Rattle.office_core.specs.declared.error.OfficeError.{OfficeError}
 use Rattle.office_core.specs.declared.error.OfficeError.TheVariants as error
 use Rattle.office_core.specs.declared.event.RequestAnswer.{RequestAnswer}
-use Rattle.office_core.specs.declared.event.RequestAnswer.TheVariants.{Kept, KeyReused}
 use Rattle.office_core.specs.declared.event.Arrival.{Arrival}
 use Rattle.office_core.specs.declared.event.Arrival.TheVariants.{Recorded, Settled, Excepted}
 use Rattle.office_core.specs.declared.event.EventAnswer.{EventAnswer}
@@ -58,15 +55,9 @@ refusal_name (error.Store fault) = codes "Store"
 abbrev pub refusal_line : List ℕ → List ℕ
 refusal_line why = codes "refused " ++ why ++ line_end
 
-abbrev pub outcome_line : Outcome → List ℕ
-outcome_line (Loaded count) = numbered_line (codes "loaded ") count
-outcome_line (Ordered number) = numbered_line (codes "order ") number
-outcome_line (RefusedFor reason) = refusal_line (request_fault_text reason.fault)
-
--- what became of the first request under a key, or that it was another
+-- what a request is answered
 abbrev pub request_line : RequestAnswer → List ℕ
-request_line (Kept first outcome) = outcome_line outcome
-request_line KeyReused = codes "key reused" ++ line_end
+request_line told = request_text told ++ line_end
 
 abbrev pub arrival_line : Arrival → List ℕ
 arrival_line (Recorded count) = numbered_line (codes "recorded ") count

@@ -1,10 +1,10 @@
 -- The words of a line, and what a word spells.
-use Rattle.std.specs.Prelude.{ℕ, ℤ, pos, neg_ℤ, ◌+◌, ◌*◌, List, [], ◌∷◌, Bool, ◌&&◌, Option, Some, None, option_map, if◌then◌else◌, nat_lt, length, map, ◌==◌, get_or}
+use Rattle.std.specs.Prelude.{ℕ, ℤ, ◌+◌, ◌*◌, List, [], ◌∷◌, Bool, ◌&&◌, Option, Some, None, option_map, if◌then◌else◌, nat_lt, length, map, ◌==◌, get_or}
 use Rattle.std.specs.Char.{is_ascii}
 use Rattle.std.specs.List.{list_all, slice_split}
 use Rattle.std.specs.Borrow.{Bor}
 use Rattle.hex.specs.Hex.{hex_digit_value}
-use Rattle.sunspec.specs.Digits.{number_within}
+use Rattle.sunspec.specs.Digits.{signed_of}
 use Rattle.poll_book.specs.Callers.{is_key}
 
 -- the words between single spaces; two spaces together have an empty word between them
@@ -29,19 +29,9 @@ key_of word = if is_key word then Some word else None
 
 -- ---- numbers with sign
 
-abbrev pub greatest_value : ℕ
-greatest_value = 170141183460469231731687303715884105727
-
--- how far below 0 a value can be
-abbrev pub least_value : ℕ
-least_value = 170141183460469231731687303715884105728
-
 -- digits, with or without a minus before them, that spell a number of 128 bits with sign
 abbrev pub value_of : List ℕ → Option ℤ
-value_of [] = None
-value_of (byte ∷ rest) =
-    if byte == 45 then option_map (λ n. neg_ℤ (pos n)) (number_within least_value rest)
-    else option_map pos (number_within greatest_value (byte ∷ rest))
+value_of word = signed_of word
 
 -- ---- bytes
 

@@ -6,7 +6,8 @@ ghost use Rattle.office_script.specs.Commands as commands;
 ghost use Rattle.office_script.specs.Commands.{ask_of, byte_limit, caller_name, event_for, event_of, event_of_words, frame_in, line_key, list_with, open_of, order_of, point_of, read_of, reply_of, restart_of, send_of, verb_of, word_limit};
 
 use crate::cutting::words;
-use crate::word::{bytes, is_text, key, number, text, value};
+use crate::hexadecimal::bytes;
+use crate::word::{is_text, key, number, text, value};
 use mb_mbap::Frame;
 use mb_pdu::Span;
 use office_core::Event;

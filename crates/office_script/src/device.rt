@@ -7,7 +7,7 @@ ghost use Rattle.office_script.specs.Devices.{device_of, device_of_words, lines_
 
 use crate::cutting::words;
 use crate::word::{is_text, number, text};
-use point_list::{Device, Items, Line, Site, Text};
+use point_list::{Device, Line, Site, Text};
 use std::alloc::{AllocError, Global};
 
 /// A device that a line declares: its name, its line's name, and its unit identifier.
@@ -76,7 +76,7 @@ fn place_in(alloc: Global, lines: &mut Vec<Line>, name: Text) -> Result<usize, A
     }
     let place = lines.len();
     let address = Text::from_string(String::new(alloc));
-    lines.push(Line { name, address })?;
+    lines.push(Line::new(name, address))?;
     Ok(place)
 }
 
@@ -88,15 +88,6 @@ pub(crate) fn with_device(alloc: Global, site: Site, said: Declared) -> Result<S
     let mut lines = site.lines.into_vec();
     let mut devices = site.devices.into_vec();
     let line = place_in(alloc, &mut lines, said.line)? as u16;
-    devices.push(Device {
-        name: said.name,
-        line,
-        unit: said.unit,
-        gap: 0,
-        models: Items::from_vec(Vec::new(alloc)),
-    })?;
-    Ok(Site {
-        lines: Items::from_vec(lines),
-        devices: Items::from_vec(devices),
-    })
+    devices.push(Device::new(alloc, said.name, line, said.unit))?;
+    Ok(Site::new(lines, devices))
 }

@@ -7,7 +7,7 @@ use crate::command::event;
 use crate::cutting::first_line;
 use crate::device::{Declared, device, with_device};
 use crate::input::SCRIPT_LIMIT;
-use point_list::{Items, Site};
+use point_list::Site;
 use std::alloc::{AllocError, Global};
 
 /// What the lines that declare devices leave.
@@ -47,10 +47,7 @@ pub(crate) fn open_script<'a>(alloc: Global, script: &'a [u8]) -> Result<Opening
     requires { length script.now ≤ SCRIPT_LIMIT }
     ensures { IfOk result (Opens script.now) }
 {
-    let mut site = Site {
-        lines: Items::from_vec(Vec::new(alloc)),
-        devices: Items::from_vec(Vec::new(alloc)),
-    };
+    let mut site = Site::new(Vec::new(alloc), Vec::new(alloc));
     let mut rest = script;
     let mut number: u32 = 1;
     while !rest.is_empty() {

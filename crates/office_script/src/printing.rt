@@ -1,13 +1,13 @@
 //! Answers as lines of text.
 ghost use Rattle.std.specs.Prelude.{◌≡◌, ◌++◌, OnOk, codes, decimal, flat_map};
 ghost use Rattle.mb_mbap.specs.Stream.{spelled};
-ghost use Rattle.poll_book.specs.RequestTexts.{request_fault_text};
-ghost use Rattle.office_script.specs.Printing.{answer_line, arrival_line, fault_line, line_end, numbered_line, outcome_line, refusal_line, refusal_name, request_line, spaced_byte};
+ghost use Rattle.office_script.specs.Printing.{answer_line, arrival_line, fault_line, line_end, numbered_line, refusal_line, refusal_name, request_line, spaced_byte};
 
+use crate::hexadecimal::push_byte;
 use itoa::Buffer;
 use mb_mbap::Frame;
 use office_core::{Arrival, EventAnswer, OfficeError, RequestAnswer};
-use poll_book::{Outcome, RequestFault};
+use office_report::request_text;
 use std::alloc::{AllocError, Global};
 
 pub(crate) fn push_number(out: &mut Vec<u8>, number: u32) -> Result<(), AllocError>
@@ -30,9 +30,8 @@ fn push_bytes(alloc: Global, out: &mut Vec<u8>, bytes: &[u8]) -> Result<(), Allo
     ensures { OnOk result (out.new.items ≡ out.old.items ++ flat_map spaced_byte bytes.now) }
 {
     for byte in bytes {
-        let digits = hex::encode_upper(alloc, [*byte])?;
         out.push(b' ')?;
-        out.extend_from_slice(digits.as_bytes())?;
+        push_byte(alloc, out, *byte)?;
     }
     Ok(())
 }
@@ -73,34 +72,12 @@ fn refusal_name(error: OfficeError) -> &'static [u8]
     }
 }
 
-fn push_request_fault(
-    alloc: Global,
-    out: &mut Vec<u8>,
-    fault: RequestFault,
-) -> Result<(), AllocError>
-    ensures { OnOk result (out.new.items ≡ out.old.items ++ refusal_line (request_fault_text fault)) }
-{
-    let text = fault.to_string(alloc)?;
-    push_refusal(out, text.as_bytes())
-}
-
-fn push_outcome(alloc: Global, out: &mut Vec<u8>, outcome: Outcome) -> Result<(), AllocError>
-    ensures { OnOk result (out.new.items ≡ out.old.items ++ outcome_line outcome) }
-{
-    match outcome {
-        Outcome::Loaded(count) => push_numbered(out, b"loaded ", count),
-        Outcome::Ordered(number) => push_numbered(out, b"order ", number),
-        Outcome::RefusedFor(reason) => push_request_fault(alloc, out, reason.fault),
-    }
-}
-
 fn push_request(alloc: Global, out: &mut Vec<u8>, told: RequestAnswer) -> Result<(), AllocError>
     ensures { OnOk result (out.new.items ≡ out.old.items ++ request_line told) }
 {
-    match told {
-        RequestAnswer::Kept { outcome, .. } => push_outcome(alloc, out, outcome),
-        RequestAnswer::KeyReused => out.extend_from_slice(b"key reused\n"),
-    }
+    let text = request_text(alloc, &told)?;
+    out.extend_from_slice(text.as_bytes())?;
+    Ok(out.push(b'\n')?)
 }
 
 fn push_arrival(out: &mut Vec<u8>, arrival: Arrival) -> Result<(), AllocError>

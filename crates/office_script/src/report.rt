@@ -1,6 +1,5 @@
 //! The report at a script's end: all readings, the totals of counters, and the orders.
 ghost use Rattle.std.specs.Prelude.{All, ◌≡◌, ◌++◌, ◌∷◌, [], OnOk, codes, flat_map, pos, unwrap_or};
-ghost use Rattle.sunspec.specs.PointType.{IsSized};
 ghost use Rattle.sunspec.specs.Value.{AreRegistersOf};
 ghost use Rattle.sunspec.specs.Text.{scaled, shown};
 ghost use Rattle.poll_book.specs.Orders.{setting_at};
@@ -10,10 +9,10 @@ ghost use Rattle.office_core.specs.Fitting.{AreOf, HasForm, IsFitting};
 ghost use Rattle.office_script.specs.Printing.{line_end, order_line, order_line_of, order_lines, reading_line, reading_lines, report_of, state_text, total_line};
 
 use crate::printing::push_number;
+use office_report::{reading_text, total_text};
 use point_list::{Point, Role};
 use poll_book::{Keeper, MemKeeper, Neighbours, OrderState, PointRow, ReadingRow};
 use std::alloc::{AllocError, Global};
-use sunspec::{scaled_text, shown_text};
 
 /// Writes what registers of a point show, or a dash where it is not implemented.
 fn push_text(
@@ -22,14 +21,13 @@ fn push_text(
     point: &Point,
     words: &[u16],
 ) -> Result<(), AllocError>
-    requires sized { IsSized point.now.kind }
+    requires form { HasForm point.now }
     requires registers { AreRegistersOf point.now.kind words.now }
     ensures { OnOk result (out.new.items ≡ out.old.items ++ unwrap_or (shown point.now.kind point.now.scale words.now) (45 ∷ [])) }
 {
-    match shown_text(alloc, &point.kind, words, i32::from(point.scale)) {
-        Ok(Some(text)) => out.extend_from_slice(text.as_bytes()),
-        Ok(None) => Ok(out.push(b'-')?),
-        Err(_) => Err(AllocError),
+    match reading_text(alloc, point, words)? {
+        Some(text) => out.extend_from_slice(text.as_bytes()),
+        None => Ok(out.push(b'-')?),
     }
 }
 
@@ -39,7 +37,7 @@ fn push_reading(
     known: &PointRow,
     row: &ReadingRow,
 ) -> Result<(), AllocError>
-    requires sized { IsSized known.now.point.kind }
+    requires form { HasForm known.now.point }
     requires registers { AreRegistersOf known.now.point.kind row.now.words }
     ensures { OnOk result (out.new.items ≡ out.old.items ++ reading_line known.now (as_row row.now)) }
 {
@@ -58,7 +56,7 @@ fn push_rows(
     known: &PointRow,
     rows: &[ReadingRow],
 ) -> Result<(), AllocError>
-    requires sized { IsSized known.now.point.kind }
+    requires form { HasForm known.now.point }
     requires registers { AreOf known.now.point (as_rows rows.now) }
     ensures { OnOk result (out.new.items ≡ out.old.items ++ flat_map (reading_line known.now) (as_rows rows.now)) }
 {
@@ -90,13 +88,7 @@ fn push_sum(alloc: Global, out: &mut Vec<u8>, point: &Point, total: u128) -> Res
     ensures { OnOk result (out.new.items ≡ out.old.items
         ++ (codes "total " ++ point.now.name ++ 32 ∷ scaled (pos total) point.now.scale ++ line_end)) }
 {
-    // A total of 2^127 takes 2^63 readings, more than memory has room for.
-    let Ok(number) = i128::try_from(total) else {
-        return Err(AllocError);
-    };
-    let Ok(text) = scaled_text(alloc, number, i32::from(point.scale)) else {
-        return Err(AllocError);
-    };
+    let text = total_text(alloc, point, total)?;
     out.extend_from_slice(b"total ")?;
     out.extend_from_slice(point.name.as_bytes())?;
     out.push(b' ')?;

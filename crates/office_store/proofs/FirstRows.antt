@@ -15,7 +15,7 @@ use Rattle.sqlite_rules.specs.declared.error.Rowids.TheVariants.{Chosen}
 use Rattle.sqlite_rules.specs.Edit.{Edit, edit_of, edited, put_all}
 use Rattle.sqlite_rules.specs.Cast.{cast}
 use Rattle.sqlite_rules.specs.Action.{Writes}
-use Rattle.sqlite.specs.declared.error.Error.{Error}
+use Rattle.poll_book.specs.declared.fault.StoreFault.{StoreFault}
 use Rattle.sqlite.specs.Listing.{understood}
 use Rattle.sqlite.specs.Effect.{Database}
 use Rattle.sqlite.specs.Rows.{Written}
@@ -60,7 +60,7 @@ both_put = rw (value_cmp-Int (pos 1) (pos 2)) refl
 filled : (db : Trees) → db 0 ≡ [] → edited db (edit db source) ≡ first_rows
 filled db empty = ap (λ rs. put_all rs (edit (λ t. rs) source).news) empty ∙ ap (put_all []) news ∙ both_put
 
-pub puts_numbers : (old new : State) (r : Result ℕ Error) → AreBlank old.now → IfOk r (λ n. Executes numbers_text [] old new (Ok n) × Shows old new new.now old.committed true)
+pub puts_numbers : (old new : State) (r : Result ℕ StoreFault) → AreBlank old.now → IfOk r (λ n. Executes numbers_text [] old new (Ok n) × Shows old new new.now old.committed true)
     → OnOk r ((new.now.schema ≡ office_schema) × StandFor new.now.trees no_tables)
 puts_numbers old new (Err e) blank h = tt
 puts_numbers old new (Ok count) blank h =

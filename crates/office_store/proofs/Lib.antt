@@ -32,5 +32,5 @@ mod PutPoint
 mod NewPoints
 mod Deciding
 mod Keeping
-mod Searching
-mod Marking
+mod AllWaiting
+mod Noting

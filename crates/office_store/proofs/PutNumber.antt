@@ -16,7 +16,7 @@ use Rattle.sqlite_rules.specs.declared.error.Rowids.TheVariants.{Given}
 use Rattle.sqlite_rules.specs.Edit.{Edit, edit_of, edited, put_all}
 use Rattle.sqlite_rules.specs.Calls.{ids_of}
 use Rattle.sqlite_rules.specs.Action.{Writes}
-use Rattle.sqlite.specs.declared.error.Error.{Error}
+use Rattle.poll_book.specs.declared.fault.StoreFault.{StoreFault}
 use Rattle.sqlite.specs.Listing.{understood}
 use Rattle.sqlite.specs.Effect.{Database}
 use Rattle.sqlite.specs.Rows.{Written}
@@ -73,7 +73,7 @@ module _ (number : ℕ) where
     filled : edited db (edit db (asked_row ∷ [])) ≡ number_rows number
     filled = ap (put_all (without_rowid (pos 2) (db 0))) news ∙ ap (λ rs. put_row (number_row number) (without_rowid (pos 2) rs)) is ∙ ap (put_row (number_row number)) (first_left last) ∙ put_second number
 
-  pub changes : (old new : State) (base : Database) (kept : Tables) (r : Result ℕ Error) → Within old base kept
+  pub changes : (old new : State) (base : Database) (kept : Tables) (r : Result ℕ StoreFault) → Within old base kept
       → IfOk r (λ n. Executes put_connection_text given old new (Ok n) × Shows old new new.now old.committed true) → OnOk r (Within new base (record kept { connections = number }))
   changes old new base kept (Err e) within h = tt
   changes old new base kept (Ok count) within h =

@@ -19,7 +19,7 @@ use Rattle.sqlite_schema.specs.declared.command.Command.TheVariants.{Insert}
 use Rattle.sqlite_rules.specs.declared.error.Rowids.TheVariants.{Chosen}
 use Rattle.sqlite_rules.specs.Edit.{edit_of, put_all}
 use Rattle.sqlite_rules.specs.Action.{Writes}
-use Rattle.sqlite.specs.declared.error.Error.{Error}
+use Rattle.poll_book.specs.declared.fault.StoreFault.{StoreFault}
 use Rattle.sqlite.specs.Listing.{understood}
 use Rattle.sqlite.specs.Effect.{Database}
 use Rattle.sqlite.specs.Rows.{Written}
@@ -136,7 +136,7 @@ module _ (n : ℕ) (point : Point) where
       let last = stands_last stored_entry entry_key added n point refl (ap (option_map numbered) is) all (map numbered points) (as_entries stored_point all points stored) (low_entries n points low) in
       as_points stored_point (put_row added all) (points ++ known ∷ []) (last ∙ ap (map Some) (in_order points low))
 
-  pub adds : (old new : State) (base : Database) (kept : Tables) (r : Result ℕ Error) → n < 2 ^ 32 → IsPoint point → Within old base kept → AllByRecursion (λ p. p.number < n) kept.points
+  pub adds : (old new : State) (base : Database) (kept : Tables) (r : Result ℕ StoreFault) → n < 2 ^ 32 → IsPoint point → Within old base kept → AllByRecursion (λ p. p.number < n) kept.points
       → IfOk r (λ k. Executes put_point_text values old new (Ok k) × Shows old new new.now old.committed true) → OnOk r (Within new base (record kept { points = kept.points ++ known ∷ [] }))
   adds old new base kept (Err e) low is within below h = tt
   adds old new base kept (Ok count) low is within below h =

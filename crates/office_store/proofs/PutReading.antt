@@ -13,7 +13,7 @@ use Rattle.sqlite_schema.specs.declared.command.Command.TheVariants.{Insert}
 use Rattle.sqlite_rules.specs.declared.error.Rowids.TheVariants.{Chosen}
 use Rattle.sqlite_rules.specs.Edit.{edit_of, next_rowid, is_taken, are_fresh, put_all}
 use Rattle.sqlite_rules.specs.Action.{Writes}
-use Rattle.sqlite.specs.declared.error.Error.{Error}
+use Rattle.poll_book.specs.declared.fault.StoreFault.{StoreFault}
 use Rattle.sqlite.specs.Listing.{understood}
 use Rattle.sqlite.specs.Effect.{Database}
 use Rattle.sqlite.specs.Rows.{Written}
@@ -104,7 +104,7 @@ module _ (p s : ℕ) (words : List ℕ) (flag : Bool) where
         };
       }
 
-  pub adds_if : (old new : State) (base : Database) (kept : Tables) (r : Result ℕ Error) → p < 2 ^ 32 → s < 2 ^ 32 → 0 < length words → length words ≤ 125 → Within old base kept → reading_at kept.readings (p, s) ≡ None
+  pub adds_if : (old new : State) (base : Database) (kept : Tables) (r : Result ℕ StoreFault) → p < 2 ^ 32 → s < 2 ^ 32 → 0 < length words → length words ≤ 125 → Within old base kept → reading_at kept.readings (p, s) ≡ None
       → IfOk r (λ n. Executes put_reading_text values old new (Ok n) × Shows old new new.now old.committed true) → OnOk r (Within new base (record kept { readings = with_row (p, s) entry.1 kept.readings }))
   adds_if old new base kept (Ok n) a b some few within none h = adds old new base kept n a b some few within none h.0 h.1
   adds_if old new base kept (Err e) a b some few within none h = tt

@@ -12,7 +12,7 @@ use Rattle.sqlite_schema.specs.declared.command.Command.TheVariants.{Insert}
 use Rattle.sqlite_rules.specs.declared.error.Rowids.TheVariants.{Chosen}
 use Rattle.sqlite_rules.specs.Edit.{edit_of, next_rowid, is_taken, are_fresh, put_all}
 use Rattle.sqlite_rules.specs.Action.{Writes}
-use Rattle.sqlite.specs.declared.error.Error.{Error}
+use Rattle.poll_book.specs.declared.fault.StoreFault.{StoreFault}
 use Rattle.sqlite.specs.Listing.{understood}
 use Rattle.sqlite.specs.Effect.{Database}
 use Rattle.sqlite.specs.Rows.{Written}
@@ -65,7 +65,7 @@ module _ (kind : ℕ) (bytes : List ℕ) (answer a b c : ℕ) (e : RequestKey ×
       joined e (text_that is_caller (Text e.0.0)) (text_that is_key (Text e.0.1)) (body_of (Int (pos kind)) (Blob bytes)) (outcome_of (Int (pos answer)) (Int (pos a)) (Int (pos b)) (Int (pos c)))
       (text_back is_caller e.0.0 coded.caller) (text_back is_key e.0.1 coded.key) coded.body coded.outcome
 
-  pub adds : (old new : State) (base : Database) (kept : Tables) (r : Result ℕ Error) → IsCoded → Within old base kept → request_at kept.requests e.0 ≡ None
+  pub adds : (old new : State) (base : Database) (kept : Tables) (r : Result ℕ StoreFault) → IsCoded → Within old base kept → request_at kept.requests e.0 ≡ None
       → IfOk r (λ n. Executes put_request_text values old new (Ok n) × Shows old new new.now old.committed true) → OnOk r (Within new base (record kept { requests = with_request e.0 e.1 kept.requests }))
   adds old new base kept (Err error) coded within none h = tt
   adds old new base kept (Ok count) coded within none h =

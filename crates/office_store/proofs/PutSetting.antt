@@ -14,7 +14,7 @@ use Rattle.sqlite_schema.specs.declared.command.Command.TheVariants.{Insert}
 use Rattle.sqlite_rules.specs.declared.error.Rowids.TheVariants.{Chosen}
 use Rattle.sqlite_rules.specs.Edit.{edit_of, put_all}
 use Rattle.sqlite_rules.specs.Action.{Writes}
-use Rattle.sqlite.specs.declared.error.Error.{Error}
+use Rattle.poll_book.specs.declared.fault.StoreFault.{StoreFault}
 use Rattle.sqlite.specs.Listing.{understood}
 use Rattle.sqlite.specs.Effect.{Database}
 use Rattle.sqlite.specs.Rows.{Written}
@@ -61,7 +61,7 @@ module _ (n p : ℕ) (words : List ℕ) (standing : OrderState) where
   pub setting_added : n < 2 ^ 32 → p < 2 ^ 32 → code_number standing < 256 → 0 < length words → length words ≤ 125 → stored_setting added ≡ Some (n, value)
   setting_added a b low some few = rw (lt-ltb n 4294967296 a, lt-ltb p 4294967296 b, words_back words some few, state_back standing low) refl
 
-  pub adds : (old new : State) (base : Database) (kept : Tables) (r : Result ℕ Error) → n < 2 ^ 32 → p < 2 ^ 32 → code_number standing < 256 → 0 < length words → length words ≤ 125 → Within old base kept → n ≡ last_order kept.settings + 1
+  pub adds : (old new : State) (base : Database) (kept : Tables) (r : Result ℕ StoreFault) → n < 2 ^ 32 → p < 2 ^ 32 → code_number standing < 256 → 0 < length words → length words ≤ 125 → Within old base kept → n ≡ last_order kept.settings + 1
       → IfOk r (λ k. Executes put_setting_text values old new (Ok k) × Shows old new new.now old.committed true) → OnOk r (Within new base (record kept { settings = with_setting n value kept.settings }))
   adds old new base kept (Err e) a b low some few within next h = tt
   adds old new base kept (Ok count) a b low some few within next h =

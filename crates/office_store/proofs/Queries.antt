@@ -9,7 +9,7 @@ use Rattle.sqlite_resolve.specs.Lowering.{and_then}
 use Rattle.sqlite_resolve.specs.Compile.{compiled, first, planned, meaning, returning, command, timed, with_command, small}
 use Rattle.sqlite_resolve.specs.declared.error.CompileError.TheVariants.{NoSuchTable}
 use Rattle.sqlite_tied.specs.Compute.{everything}
-use Rattle.office_store.specs.Texts.{version_text, readings_text, points_text, point_text, setting_text, connections_text, request_text, last_text}
+use Rattle.office_store.specs.Texts.{version_text, readings_text, points_text, point_text, setting_text, connections_text, request_text, last_text, waiting_text}
 use Rattle.sqlite.specs.Listing.{understood, reads_listing, if_select, listing_schema, is_select}
 use Rattle.office_store.specs.Kept.{IsQuery}
 
@@ -83,3 +83,7 @@ request_is_query = is_query request_text (λ schema base. refl)
 pub last_is_query : IsQuery last_text
 unfolding everything
 last_is_query = is_query last_text (λ schema base. refl)
+
+pub waiting_is_query : IsQuery waiting_text
+unfolding everything
+waiting_is_query = is_query waiting_text (λ schema base. refl)

@@ -15,7 +15,7 @@ use Rattle.sqlite_rules.specs.declared.error.Rowids.TheVariants.{Given}
 use Rattle.sqlite_rules.specs.Edit.{Edit, edit_of, put_all}
 use Rattle.sqlite_rules.specs.Calls.{ids_of}
 use Rattle.sqlite_rules.specs.Action.{Writes}
-use Rattle.sqlite.specs.declared.error.Error.{Error}
+use Rattle.poll_book.specs.declared.fault.StoreFault.{StoreFault}
 use Rattle.sqlite.specs.Listing.{understood}
 use Rattle.sqlite.specs.Effect.{Database}
 use Rattle.sqlite.specs.Rows.{Written}
@@ -113,7 +113,7 @@ module _ (n : ℕ) (standing : OrderState) where
       news : (edit db (asked_row row ∷ [])).news ≡ changed row ∷ []
       news = rw (cast_int (pos n), cast_null, cast_int (pos before.point), cast_int (pos (state_number standing)), cast_int (pos (code_number standing))) refl
 
-    pub settles : (old new : State) (base : Database) (kept : Tables) (r : Result ℕ Error) → code_number standing < 256 → Within old base kept → setting_at kept.settings n ≡ Some before
+    pub settles : (old new : State) (base : Database) (kept : Tables) (r : Result ℕ StoreFault) → code_number standing < 256 → Within old base kept → setting_at kept.settings n ≡ Some before
         → IfOk r (λ k. Executes settle_text given old new (Ok k) × Shows old new new.now old.committed true) → OnOk r (Within new base (record kept { settings = with_setting n after kept.settings }))
     settles old new base kept (Err e) low within found h = tt
     settles old new base kept (Ok count) low within found h =

@@ -5,7 +5,7 @@ use Rattle.sqlite_schema.specs.declared.schema.Table.{Table}
 use Rattle.sqlite_schema.specs.declared.command.Command.TheVariants.{CreateTable}
 use Rattle.sqlite_catalog.specs.Change.{created, next_tree, KeepsRows}
 use Rattle.sqlite.specs.Compile.{table_defined_by}
-use Rattle.sqlite.specs.declared.error.Error.{Error}
+use Rattle.poll_book.specs.declared.fault.StoreFault.{StoreFault}
 use Rattle.sqlite.specs.Effect.{Database}
 use Rattle.sqlite.specs.Does.{Tally, lacks_sequence}
 use Rattle.sqlite.specs.State.{State, Writes, Executes, Shows}
@@ -45,7 +45,7 @@ module _ (schema : Schema) (table : Table) (text : List ℕ) (defined : table_de
         others = subst (λ (d : Database). KeepsRows schema.tables old.now.trees d.trees) (sym now) (subst (λ s. KeepsRows s.tables old.now.trees first.0.trees) has made.others);
       }
 
-pub makes_first : (a b c d : State) (k l : ℕ) (r : Result ℕ Error) → a.now.schema ≡ no_schema → Executes meta_text [] a b (Ok k) → Executes point_text [] b c (Ok l)
+pub makes_first : (a b c d : State) (k l : ℕ) (r : Result ℕ StoreFault) → a.now.schema ≡ no_schema → Executes meta_text [] a b (Ok k) → Executes point_text [] b c (Ok l)
     → IfOk r (λ n. Executes reading_text [] c d (Ok n) × Shows c d d.now c.committed true) → OnOk r (AreFirst d.now)
 makes_first a b c d k l (Ok n) none h1 h2 h3 =
     let m1 = makes no_schema meta meta_text tables_are.0 meta_made refl a b k none h1 in
@@ -54,7 +54,7 @@ makes_first a b c d k l (Ok n) none h1 h2 h3 =
     record { schema = m3.schema_is; meta = m3.others.0 ∙ m2.others.0 ∙ m1.empty; point = m3.others.1.0 ∙ m2.empty; reading = m3.empty }
 makes_first a b c d k l (Err e) none h1 h2 h3 = tt
 
-pub makes_others : (a b c : State) (k : ℕ) (r : Result ℕ Error) → AreFirst a.now → Executes setting_text [] a b (Ok k)
+pub makes_others : (a b c : State) (k : ℕ) (r : Result ℕ StoreFault) → AreFirst a.now → Executes setting_text [] a b (Ok k)
     → IfOk r (λ n. Executes request_text [] b c (Ok n) × Shows b c c.now b.committed true) → OnOk r (AreBlank c.now)
 makes_others a b c k (Ok n) first h1 h2 =
     let m1 = makes first_schema setting setting_text tables_are.3 setting_made refl a b k first.schema h1 in

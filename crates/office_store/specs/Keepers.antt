@@ -14,4 +14,4 @@ refused_by keeper = keeper.refusals
 
 -- as far as its database can still be read, it holds these tables
 abbrev pub IsKeptBy : {S : Type 0} {g : Ghosts S} → SqlKeeper S g → Tables → Type 0
-IsKeptBy {g = g} keeper kept = HoldsBy (state g keeper.connection) keeper.marks.items kept
+IsKeptBy {g = g} keeper kept = HoldsBy (state g keeper.connection) keeper.waiting kept

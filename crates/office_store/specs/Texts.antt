@@ -24,3 +24,6 @@ request_text = codes "SELECT caller, rkey, kind, body, answer, a, b, c FROM requ
 
 abbrev pub last_text : List ℕ
 last_text = codes "SELECT number, point, words, state, code FROM setting ORDER BY number DESC LIMIT 1"
+
+abbrev pub waiting_text : List ℕ
+waiting_text = codes "SELECT number, point, words, state, code FROM setting WHERE state = 0 ORDER BY number"

@@ -1,26 +1,41 @@
--- How far the orders were searched for those that wait on a device.
-use Rattle.std.specs.Prelude.{◌≡◌, ℕ, ◌+◌, ◌<◌, ◌≤◌, false, List, Option, Some, None, option_and_then, if◌then◌else◌, IsTrue}
-use Rattle.std.specs.List.{AllByRecursion}
+-- The orders that wait, as they are known beside the tables.
+use Rattle.std.specs.Global.{Global}
+use Rattle.std.specs.Prelude.{◌≡◌, ◌==◌, ℕ, Bool, not, List, map, Option, Some, None, T, Vec, IsTrue, ⊤}
+use Rattle.std.specs.FinMap.Entries.{is_sorted}
+use Rattle.std.specs.Ordering.{nat_cmp}
+use Rattle.std.specs.List.{filter}
 use Rattle.sqlite.specs.State.{State, HasCleanDisk}
 use Rattle.poll_book.specs.Tables.{Tables}
 use Rattle.poll_book.specs.declared.rows.Setting.{Setting}
-use Rattle.poll_book.specs.Orders.{last_order, setting_at, waits_on}
-use Rattle.office_store.specs.declared.waiting.Mark.{Mark}
+use Rattle.poll_book.specs.declared.rows.SettingRow.{SettingRow}
+use Rattle.poll_book.specs.Orders.{Settings, as_setting, is_waiting}
 use Rattle.office_store.specs.Kept.{IsHeld}
 
--- the order of this number, if it waits on the device
-abbrev pub waiting_at : Tables → List ℕ → ℕ → Option (ℕ × Setting)
-waiting_at kept device number = option_and_then (λ order. if waits_on kept.points device (number, order) then Some (number, order) else None) (setting_at kept.settings number)
+-- settings by their numbers, each once
+abbrev pub AreByNumber : Settings → Type 0
+AreByNumber table = T (is_sorted nat_cmp table)
 
--- none of the orders before this number waits on the device
-pub record IsPast (kept : Tables) (device : List ℕ) (from : ℕ) : Type 0 where
-  pub low : from ≤ last_order kept.settings + 1
-  pub none : AllByRecursion (λ row. row.0 < from → waits_on kept.points device row ≡ false) kept.settings
+-- an entry of the settings whose order waits
+abbrev pub waits : ℕ × Setting → Bool
+waits row = is_waiting row.1.state
 
--- each mark says so of its device
-abbrev pub AreRight : Tables → List Mark → Type 0
-AreRight kept marks = AllByRecursion (λ (mark : Mark). IsPast kept mark.device mark.from) marks
+-- those of the orders that wait, by their numbers
+abbrev pub waiting_of : Settings → Settings
+waiting_of table = filter waits table
 
--- As far as it can still be read, it holds these tables, and the marks are right of them.
-abbrev pub HoldsBy : State → List Mark → Tables → Type 0
-HoldsBy s marks kept = HasCleanDisk s → IsTrue s.is_open → IsHeld s kept × AreRight kept marks
+-- an order of another number
+abbrev pub is_other : ℕ → SettingRow → Bool
+is_other number row = not (row.number == number)
+
+-- the rows of those that wait
+abbrev pub AreThose : Settings → List SettingRow → Type 0
+AreThose table orders = AreByNumber table × (map as_setting orders ≡ waiting_of table)
+
+-- what was read of them, if it was, is so still
+abbrev pub AreRead : Settings → Option (Vec SettingRow Global) → Type 0
+AreRead table None = ⊤
+AreRead table (Some rows) = AreThose table rows.items
+
+-- As far as it can still be read, it holds these tables, and what was read of the orders that wait is so.
+abbrev pub HoldsBy : State → Option (Vec SettingRow Global) → Tables → Type 0
+HoldsBy s read kept = HasCleanDisk s → (IsTrue s.is_open → IsHeld s kept) × AreRead kept.settings read

@@ -18,7 +18,7 @@ use crate::write_readings::put_readings;
 use crate::write_requests::put_asked;
 use crate::write_settings::put_order;
 use poll_book::{Change, StoreFault};
-use sqlite::{Alter, Connection, Error, Transaction};
+use sqlite::{Alter, Connection, Transaction};
 use std::alloc::Global;
 
 /// Whether a change has no row and no number.
@@ -36,7 +36,7 @@ fn put_change<S: Alter>(
     alloc: Global,
     tx: &mut Transaction<'_, S>,
     change: &Change,
-) -> Result<(), Error>
+) -> Result<(), StoreFault>
     ensures same_reference { tx.new.conn.ghost_name ≡ tx.old.conn.ghost_name }
     ensures put { HasCleanDisk (state S.Store tx.new.conn.now) → (base : Database) → (kept : Tables) → Within (state S.Store tx.old.conn.now) base kept
         → IsNew change.now kept
@@ -72,9 +72,7 @@ fn write<S: Alter>(
     ensures idle { connection.new.in_transaction ≡ false }
 {
     let mut tx = connection.transaction();
-    if let Err(error) = put_change(alloc, &mut tx, change) {
-        return Err(fault_of(error));
-    }
+    put_change(alloc, &mut tx, change)?;
     match tx.commit() {
         Ok(()) => Ok(()),
         Err(error) => Err(fault_of(error)),

@@ -16,7 +16,6 @@ use crate::apply::apply;
 use crate::ask::ask;
 use crate::error::{StoreError, fault_of};
 use crate::values::{number_of, value_at};
-use crate::waiting::Mark;
 use crate::{numbers, points, readings, requests, settings, waiting};
 use poll_book::{
     Caller, Change, Keeper, Key, Neighbours, PointRow, Reading, ReadingRow, Request, Setting,
@@ -28,8 +27,10 @@ use std::alloc::Global;
 /// A keeper over the tables of a database, which no transaction changes but its own.
 #[derive(Drop)]
 pub struct SqlKeeper<S: Alter> {
+    alloc: Global,
     connection: Connection<S>,
-    marks: Vec<Mark>,
+    // The orders that wait, once they were read.
+    waiting: Option<Vec<SettingRow>>,
     // How many calls were refused, up to the greatest count.
     refusals: u64,
     ghost idle: { connection.in_transaction ≡ false },
@@ -80,8 +81,9 @@ impl<S: Alter> SqlKeeper<S> {
             [row] => {
                 if number_of(value_at(row, 0)) == Some(1) {
                     Ok(SqlKeeper {
+                        alloc,
                         connection,
-                        marks: Vec::new(alloc),
+                        waiting: None,
                         refusals: 0,
                     })
                 } else {
@@ -128,14 +130,12 @@ impl<S: Alter> Neighbours for SqlKeeper<S> {
     ghost refused = { refused_by };
 
     fn reading(&mut self, point: &PointRow, slot: u32) -> Result<Option<Reading>, StoreFault> {
-        let alloc = *self.marks.allocator();
-        let found = readings::reading_at(alloc, &mut self.connection, point.number, slot);
+        let found = readings::reading_at(self.alloc, &mut self.connection, point.number, slot);
         counted(&mut self.refusals, found)
     }
 
     fn total(&mut self, point: &PointRow) -> Result<u128, StoreFault> {
-        let alloc = *self.marks.allocator();
-        let sum = readings::total(alloc, &mut self.connection, point);
+        let sum = readings::total(self.alloc, &mut self.connection, point);
         counted(&mut self.refusals, sum)
     }
 
@@ -177,7 +177,12 @@ impl<S: Alter> Keeper for SqlKeeper<S> {
     }
 
     fn oldest_waiting(&mut self, device: &str) -> Result<Option<SettingRow>, StoreFault> {
-        let found = waiting::oldest_waiting(&mut self.connection, &mut self.marks, device);
+        let found = waiting::oldest_waiting(
+            self.alloc,
+            &mut self.connection,
+            &mut self.waiting,
+            device,
+        );
         counted(&mut self.refusals, found)
     }
 
@@ -192,9 +197,9 @@ impl<S: Alter> Keeper for SqlKeeper<S> {
     }
 
     fn apply(&mut self, change: &Change) -> Result<(), StoreFault> {
-        waiting::forget_for(&mut self.marks, change.points.as_slice());
-        let alloc = *self.marks.allocator();
-        let written = apply(alloc, &mut self.connection, change);
+        let written = apply(self.alloc, &mut self.connection, change);
+        let is_written = written.is_ok();
+        self.waiting = waiting::followed(self.waiting.take(), &change.setting, is_written);
         counted(&mut self.refusals, written)
     }
 }

@@ -12,9 +12,10 @@ ghost use Rattle.office_store.specs.Blank.{AreFirst, AreBlank};
 
 use crate::error::{StoreError, fault_of};
 use crate::run::run;
-use sqlite::{Alter, Connection, Error, Transaction};
+use poll_book::StoreFault;
+use sqlite::{Alter, Connection, Transaction};
 
-fn make_first<S: Alter>(tx: &mut Transaction<'_, S>) -> Result<usize, Error>
+fn make_first<S: Alter>(tx: &mut Transaction<'_, S>) -> Result<usize, StoreFault>
     ensures same_reference { tx.new.conn.ghost_name ≡ tx.old.conn.ghost_name }
     ensures made { HasCleanDisk (state S.Store tx.new.conn.now) → IsTrue (state S.Store tx.old.conn.now).in_transaction → (state S.Store tx.old.conn.now).now.schema ≡ no_schema
         → OnOk result (AreFirst (state S.Store tx.new.conn.now).now) }
@@ -40,7 +41,7 @@ fn make_first<S: Alter>(tx: &mut Transaction<'_, S>) -> Result<usize, Error>
     )
 }
 
-fn make_others<S: Alter>(tx: &mut Transaction<'_, S>) -> Result<usize, Error>
+fn make_others<S: Alter>(tx: &mut Transaction<'_, S>) -> Result<usize, StoreFault>
     ensures same_reference { tx.new.conn.ghost_name ≡ tx.old.conn.ghost_name }
     ensures made { HasCleanDisk (state S.Store tx.new.conn.now) → IsTrue (state S.Store tx.old.conn.now).in_transaction → AreFirst (state S.Store tx.old.conn.now).now
         → OnOk result (AreBlank (state S.Store tx.new.conn.now).now) }
@@ -61,7 +62,7 @@ fn make_others<S: Alter>(tx: &mut Transaction<'_, S>) -> Result<usize, Error>
     )
 }
 
-fn put_numbers<S: Alter>(tx: &mut Transaction<'_, S>) -> Result<usize, Error>
+fn put_numbers<S: Alter>(tx: &mut Transaction<'_, S>) -> Result<usize, StoreFault>
     ensures same_reference { tx.new.conn.ghost_name ≡ tx.old.conn.ghost_name }
     ensures made { HasCleanDisk (state S.Store tx.new.conn.now) → IsTrue (state S.Store tx.old.conn.now).in_transaction → AreBlank (state S.Store tx.old.conn.now).now
         → OnOk result (((state S.Store tx.new.conn.now).now.schema ≡ office_schema) × StandFor (state S.Store tx.new.conn.now).now.trees no_tables) }
@@ -77,7 +78,7 @@ fn put_numbers<S: Alter>(tx: &mut Transaction<'_, S>) -> Result<usize, Error>
     )
 }
 
-fn make_all<S: Alter>(tx: &mut Transaction<'_, S>) -> Result<usize, Error>
+fn make_all<S: Alter>(tx: &mut Transaction<'_, S>) -> Result<usize, StoreFault>
     ensures same_reference { tx.new.conn.ghost_name ≡ tx.old.conn.ghost_name }
     ensures made { HasCleanDisk (state S.Store tx.new.conn.now) → IsTrue (state S.Store tx.old.conn.now).in_transaction → (state S.Store tx.old.conn.now).now.schema ≡ no_schema
         → OnOk result (((state S.Store tx.new.conn.now).now.schema ≡ office_schema) × StandFor (state S.Store tx.new.conn.now).now.trees no_tables) }
@@ -105,8 +106,8 @@ pub fn create<S: Alter>(connection: &mut Connection<S>) -> Result<(), StoreError
     ensures idle { connection.new.in_transaction ≡ false }
 {
     let mut tx = connection.transaction();
-    if let Err(error) = make_all(&mut tx) {
-        return Err(StoreError::Store(fault_of(error)));
+    if let Err(fault) = make_all(&mut tx) {
+        return Err(StoreError::Store(fault));
     }
     match tx.commit() {
         Ok(()) => Ok(()),

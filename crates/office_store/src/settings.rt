@@ -1,6 +1,6 @@
 //! The table of settings.
 
-ghost use Rattle.std.specs.Prelude.{◌≡◌, false, IfOk, IsTrue, OnOk, Some};
+ghost use Rattle.std.specs.Prelude.{◌≡◌, false, IfOk, IsTrue, OnOk, Some, map};
 ghost use Rattle.sqlite.specs.Held.{state};
 ghost use Rattle.sqlite.specs.State.{HasCleanDisk};
 ghost use Rattle.sqlite_value.specs.Value.{owned};
@@ -8,6 +8,7 @@ ghost use Rattle.poll_book.specs.Tables.{Tables};
 ghost use Rattle.poll_book.specs.Orders.{as_setting, last_order, setting_at};
 ghost use Rattle.office_store.specs.Kept.{Holds, Keeps};
 ghost use Rattle.office_store.specs.Rows.{shown_setting, state_of};
+ghost use Rattle.office_store.specs.Waiting.{AreThose};
 
 use crate::ask::ask;
 use crate::error::fault_of;
@@ -44,6 +45,37 @@ fn setting_of(alloc: Global, row: &Row) -> Result<SettingRow, StoreFault>
         words,
         state,
     })
+}
+
+fn all_of(alloc: Global, rows: &Vec<Row>) -> Result<Vec<SettingRow>, StoreFault>
+    ensures { IfOk result (λ settings. map shown_setting rows.now.items ≡ map Some (map as_setting settings.items)) }
+{
+    let mut settings = Vec::new(alloc);
+    for row in rows {
+        settings.push(setting_of(alloc, row)?)?;
+    }
+    Ok(settings)
+}
+
+/// The orders that wait, by their numbers.
+pub(crate) fn all_waiting<S: Alter>(
+    alloc: Global,
+    connection: &mut Connection<S>,
+) -> Result<Vec<SettingRow>, StoreFault>
+    requires { connection.old.in_transaction ≡ false }
+    ensures value { HasCleanDisk (state S.Store connection.new) → (kept : Tables) → Holds (state S.Store connection.old) kept
+        → IfOk result (λ orders. AreThose kept.settings orders.items) }
+    ensures keeps { Keeps (state S.Store connection.old) (state S.Store connection.new) }
+    ensures idle { connection.new.in_transaction ≡ false }
+{
+    match ask(
+        connection,
+        "SELECT number, point, words, state, code FROM setting WHERE state = 0 ORDER BY number",
+        &[],
+    ) {
+        Ok(rows) => all_of(alloc, &rows),
+        Err(error) => Err(fault_of(error)),
+    }
 }
 
 /// What the order of a number sets, if there is one.

@@ -1,63 +1,20 @@
-//! The oldest order that waits on a device.
+//! The orders that wait: they are read once, and followed as they come and are settled.
 
-ghost use Rattle.std.specs.Prelude.{◌≡◌, ◌<◌, ℕ, List, T, false, IfOk, IfSome, length, option_map, slice_index_or};
-ghost use Rattle.std.specs.Ordering.{nat_cmp};
-ghost use Rattle.std.specs.FinMap.Entries as rows;
+ghost use Rattle.std.specs.Prelude.{◌≡◌, ◌++◌, ◌∷◌, [], false, true, find, IfOk, IfSome, map, option_map};
+ghost use Rattle.std.specs.List.{filter};
 ghost use Rattle.sqlite.specs.Held.{state};
 ghost use Rattle.sqlite.specs.State.{HasCleanDisk};
-ghost use Rattle.poll_book.specs.declared.rows.Change.{Change};
-ghost use Rattle.poll_book.specs.Changes.{IsNew, applied};
-ghost use Rattle.poll_book.specs.Orders.{as_setting, is_of, is_waiting, last_order, oldest_waiting, point_at};
+ghost use Rattle.poll_book.specs.Changes.{IsNextOrSettled, IsNextOrSettledAs, with_order};
+ghost use Rattle.poll_book.specs.Orders.{Settings, as_setting, is_of, is_waiting, oldest_waiting, point_at, with_setting};
 ghost use Rattle.poll_book.specs.Tables.{Tables};
-ghost use Rattle.office_store.specs.declared.waiting.Mark.{Mark as Marked};
 ghost use Rattle.office_store.specs.Kept.{Holds, Keeps};
-ghost use Rattle.office_store.specs.Waiting.{AreRight, HoldsBy, IsPast, waiting_at};
+ghost use Rattle.office_store.specs.Waiting.{AreRead, AreThose, HoldsBy, is_other};
 
 use crate::points::point_at;
-use crate::settings::{last_order, setting_at};
-use point_list::Label;
-use poll_book::{OrderState, PointRow, SettingRow, StoreFault};
+use crate::settings::all_waiting;
+use poll_book::{OrderState, SettingRow, StoreFault};
 use sqlite::{Alter, Connection};
-
-/// How far the orders were searched for a device: none before this number waits on it. So each order
-/// is passed once for each device.
-#[derive(Clone, Copy)]
-pub(crate) struct Mark {
-    pub device: Label,
-    pub from: u32,
-}
-
-/// The place of the device's mark.
-fn mark_place(marks: &[Mark], device: &str) -> Option<usize>
-    ensures place { IfSome result (λ place. place < length marks.now) }
-    ensures found { IfSome result (λ place. (d : Marked) → (slice_index_or marks.now place d).device ≡ device.now) }
-{
-    marks.iter().position(|mark| mark.device.as_str() == device)
-}
-
-/// The number that the device's mark has come to.
-fn from_of(marks: &[Mark], device: &str) -> u32
-    ensures { (kept : Tables) → AreRight kept marks.now → IsPast kept device.now result }
-{
-    match mark_place(marks, device) {
-        Some(place) => marks[place].from,
-        None => 0,
-    }
-}
-
-/// Sets the device's mark. A new mark is left out where memory is refused, or where the device's name
-/// is no label: a mark only saves work.
-fn set_mark(marks: &mut Vec<Mark>, device: &str, from: u32)
-    ensures { (kept : Tables) → AreRight kept marks.old.items → IsPast kept device.now from → AreRight kept marks.new.items }
-{
-    if let Some(place) = mark_place(marks, device) {
-        marks[place].from = from;
-        return;
-    }
-    if let Some(device) = Label::new(device.as_bytes()) {
-        let _ = marks.push(Mark { device, from });
-    }
-}
+use std::alloc::Global;
 
 fn is_waiting(state: OrderState) -> bool
     ensures { result ≡ is_waiting state }
@@ -87,93 +44,120 @@ fn is_of<S: Alter>(
     }
 }
 
-/// The order of a number, if it waits on the device.
-fn waiting_at<S: Alter>(
-    connection: &mut Connection<S>,
-    device: &str,
-    number: u32,
-) -> Result<Option<SettingRow>, StoreFault>
-    requires { connection.old.in_transaction ≡ false }
-    ensures value { HasCleanDisk (state S.Store connection.new) → (kept : Tables) → Holds (state S.Store connection.old) kept
-        → IfOk result (λ found. option_map as_setting found ≡ waiting_at kept device.now number) }
-    ensures keeps { Keeps (state S.Store connection.old) (state S.Store connection.new) }
-    ensures idle { connection.new.in_transaction ≡ false }
+fn copy_of(order: &SettingRow) -> Result<SettingRow, StoreFault>
+    ensures { IfOk result (λ copy. copy ≡ order.now) }
 {
-    let Some(order) = setting_at(connection, number)? else {
-        return Ok(None);
-    };
-    if !is_waiting(order.state) || !is_of(connection, order.point, device)? {
-        return Ok(None);
-    }
-    Ok(Some(SettingRow {
-        number,
+    Ok(SettingRow {
+        number: order.number,
         point: order.point,
-        words: order.words,
+        words: order.words.clone()?,
         state: order.state,
-    }))
+    })
 }
 
-/// The first order from a number on up to the last that waits on the device.
-fn next_waiting<S: Alter>(
+/// The first of these orders whose point is of the device.
+fn first_of<S: Alter>(
     connection: &mut Connection<S>,
+    orders: &[SettingRow],
     device: &str,
-    from: u32,
-    last: u32,
 ) -> Result<Option<SettingRow>, StoreFault>
     requires { connection.old.in_transaction ≡ false }
     ensures value { HasCleanDisk (state S.Store connection.new) → (kept : Tables) → Holds (state S.Store connection.old) kept
-        → T (rows.is_sorted nat_cmp kept.settings) → last ≡ last_order kept.settings → IsPast kept device.now from
-        → IfOk result (λ found. option_map as_setting found ≡ oldest_waiting kept.points device.now kept.settings) }
+        → IfOk result (λ found. option_map as_setting found ≡ find (λ row. is_of device.now (point_at kept.points row.1.point)) (map as_setting orders.now)) }
     ensures keeps { Keeps (state S.Store connection.old) (state S.Store connection.new) }
     ensures idle { connection.new.in_transaction ≡ false }
 {
-    for number in from..=last {
-        if let Some(order) = waiting_at(connection, device, number)? {
-            return Ok(Some(order));
+    for order in orders {
+        if is_of(connection, order.point, device)? {
+            return Ok(Some(copy_of(order)?));
         }
     }
     Ok(None)
 }
 
-/// How far a search up to the last order came.
-fn reached(found: &Option<SettingRow>, last: u32) -> u32
-    ensures { (kept : Tables) (device : List ℕ) → T (rows.is_sorted nat_cmp kept.settings) → last ≡ last_order kept.settings
-        → option_map as_setting found.now ≡ oldest_waiting kept.points device kept.settings → IsPast kept device result }
-{
-    match found {
-        Some(order) => order.number,
-        None => last.saturating_add(1),
-    }
-}
-
-/// The oldest order that waits on the device, if one does. It begins at the device's mark, and sets it
-/// to where it stopped.
-pub(crate) fn oldest_waiting<S: Alter>(
+/// The orders that wait: those that were read, or else all that the tables have.
+fn those_of<S: Alter>(
+    alloc: Global,
     connection: &mut Connection<S>,
-    marks: &mut Vec<Mark>,
-    device: &str,
-) -> Result<Option<SettingRow>, StoreFault>
+    waiting: Option<Vec<SettingRow>>,
+) -> Result<Vec<SettingRow>, StoreFault>
     requires { connection.old.in_transaction ≡ false }
-    ensures value { HasCleanDisk (state S.Store connection.new) → (kept : Tables) → HoldsBy (state S.Store connection.old) marks.old.items kept
-        → IfOk result (λ found. option_map as_setting found ≡ oldest_waiting kept.points device.now kept.settings) }
-    ensures same { (kept : Tables) → HoldsBy (state S.Store connection.old) marks.old.items kept → HoldsBy (state S.Store connection.new) marks.new.items kept }
+    ensures value { HasCleanDisk (state S.Store connection.new) → (kept : Tables) → HoldsBy (state S.Store connection.old) waiting kept
+        → IfOk result (λ orders. AreThose kept.settings orders.items) }
     ensures keeps { Keeps (state S.Store connection.old) (state S.Store connection.new) }
     ensures idle { connection.new.in_transaction ≡ false }
 {
-    let last = last_order(connection)?;
-    let from = from_of(marks, device);
-    let found = next_waiting(connection, device, from, last)?;
-    set_mark(marks, device, reached(&found, last));
-    Ok(found)
+    match waiting {
+        Some(orders) => Ok(orders),
+        None => all_waiting(alloc, connection),
+    }
 }
 
-/// Forgets the marks where points come: an order may wait on a device that had none.
-pub(crate) fn forget_for(marks: &mut Vec<Mark>, added: &[PointRow])
-    ensures still { (kept : Tables) → AreRight kept marks.old.items → AreRight kept marks.new.items }
-    ensures after { (change : Change) → (kept : Tables) → change.points ≡ added.now → IsNew change kept → T (rows.is_sorted nat_cmp kept.settings)
-        → AreRight kept marks.old.items → AreRight (applied change kept) marks.new.items }
+/// The oldest order that waits on the device, if one does.
+pub(crate) fn oldest_waiting<S: Alter>(
+    alloc: Global,
+    connection: &mut Connection<S>,
+    waiting: &mut Option<Vec<SettingRow>>,
+    device: &str,
+) -> Result<Option<SettingRow>, StoreFault>
+    requires { connection.old.in_transaction ≡ false }
+    ensures value { HasCleanDisk (state S.Store connection.new) → (kept : Tables) → HoldsBy (state S.Store connection.old) waiting.old kept
+        → IfOk result (λ found. option_map as_setting found ≡ oldest_waiting kept.points device.now kept.settings) }
+    ensures same { (kept : Tables) → HoldsBy (state S.Store connection.old) waiting.old kept → HoldsBy (state S.Store connection.new) waiting.new kept }
+    ensures keeps { Keeps (state S.Store connection.old) (state S.Store connection.new) }
+    ensures idle { connection.new.in_transaction ≡ false }
 {
-    if !added.is_empty() {
-        marks.clear();
+    let orders = those_of(alloc, connection, waiting.take())?;
+    let found = first_of(connection, &orders, device);
+    *waiting = Some(orders);
+    found
+}
+
+/// These orders and one more; none where memory is refused to it.
+fn with_one(mut orders: Vec<SettingRow>, order: &SettingRow) -> Option<Vec<SettingRow>>
+    ensures { IfSome result (λ more. more.items ≡ orders.items ++ order.now ∷ []) }
+{
+    let Ok(order) = copy_of(order) else {
+        return None;
+    };
+    match orders.push(order) {
+        Ok(()) => Some(orders),
+        Err(_) => None,
+    }
+}
+
+/// These orders but that of a number.
+fn without(mut orders: Vec<SettingRow>, number: u32) -> Vec<SettingRow>
+    ensures { result.items ≡ filter (is_other number) orders.items }
+{
+    orders.retain(|order| order.number != number);
+    orders
+}
+
+/// The orders that wait once an order came or was settled; none, so that they are read again, where memory is refused
+/// to a new one.
+fn with_change(orders: Vec<SettingRow>, order: &SettingRow) -> Option<Vec<SettingRow>>
+    ensures { (table : Settings) → IsNextOrSettledAs (is_waiting order.now.state) table order.now
+        → AreThose table orders.items → AreRead (with_setting order.now.number (as_setting order.now).1 table) result }
+{
+    if is_waiting(order.state) {
+        with_one(orders, order)
+    } else {
+        Some(without(orders, order.number))
+    }
+}
+
+/// The same after a change, if it was written.
+pub(crate) fn followed(
+    waiting: Option<Vec<SettingRow>>,
+    order: &Option<SettingRow>,
+    is_written: bool,
+) -> Option<Vec<SettingRow>>
+    ensures written { is_written ≡ true → (table : Settings) → IsNextOrSettled table order.now → AreRead table waiting → AreRead (with_order order.now table) result }
+    ensures same { is_written ≡ false → result ≡ waiting }
+{
+    match (waiting, order) {
+        (Some(orders), Some(order)) if is_written => with_change(orders, order),
+        (waiting, _) => waiting,
     }
 }

@@ -8,13 +8,14 @@ ghost use Rattle.poll_book.specs.Tables.{Tables};
 ghost use Rattle.office_store.specs.Writing.{Within};
 
 use crate::run::run;
-use sqlite::{Alter, Error, Transaction, params};
+use poll_book::StoreFault;
+use sqlite::{Alter, Transaction, params};
 
 /// Writes the number of the last connection.
 pub(crate) fn put_connection<S: Alter>(
     tx: &mut Transaction<'_, S>,
     number: u32,
-) -> Result<usize, Error>
+) -> Result<usize, StoreFault>
     ensures same_reference { tx.new.conn.ghost_name ≡ tx.old.conn.ghost_name }
     ensures put { HasCleanDisk (state S.Store tx.new.conn.now) → (base : Database) → (kept : Tables) → Within (state S.Store tx.old.conn.now) base kept
         → OnOk result (Within (state S.Store tx.new.conn.now) base (record kept { connections = number })) }
@@ -33,7 +34,7 @@ pub(crate) fn put_connection<S: Alter>(
 pub(crate) fn put_connections<S: Alter>(
     tx: &mut Transaction<'_, S>,
     connections: Option<u32>,
-) -> Result<(), Error>
+) -> Result<(), StoreFault>
     ensures same_reference { tx.new.conn.ghost_name ≡ tx.old.conn.ghost_name }
     ensures put { HasCleanDisk (state S.Store tx.new.conn.now) → (base : Database) → (kept : Tables) → Within (state S.Store tx.old.conn.now) base kept
         → OnOk result (Within (state S.Store tx.new.conn.now) base (record kept { connections = unwrap_or connections kept.connections })) }

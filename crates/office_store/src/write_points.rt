@@ -14,9 +14,9 @@ ghost use Rattle.office_store.specs.Writing.{Within};
 use crate::run::run;
 use mb_pdu::Table;
 use point_list::{Point, Role};
-use poll_book::PointRow;
+use poll_book::{PointRow, StoreFault};
 use sqlite::types::{ToSql, ValueRef};
-use sqlite::{Alter, Error, Transaction};
+use sqlite::{Alter, Transaction};
 use sunspec::PointType;
 
 fn table_number(table: Table) -> u32
@@ -56,7 +56,7 @@ pub(crate) fn put_point<S: Alter>(
     tx: &mut Transaction<'_, S>,
     number: u32,
     point: &Point,
-) -> Result<usize, Error>
+) -> Result<usize, StoreFault>
     ensures same_reference { tx.new.conn.ghost_name ≡ tx.old.conn.ghost_name }
     ensures put { HasCleanDisk (state S.Store tx.new.conn.now) → (base : Database) → (kept : Tables) → Within (state S.Store tx.old.conn.now) base kept
         → AllByRecursion (λ p. p.number < number) kept.points
@@ -88,7 +88,7 @@ pub(crate) fn put_point<S: Alter>(
 pub(crate) fn put_points<S: Alter>(
     tx: &mut Transaction<'_, S>,
     points: &[PointRow],
-) -> Result<(), Error>
+) -> Result<(), StoreFault>
     ensures same_reference { tx.new.conn.ghost_name ≡ tx.old.conn.ghost_name }
     ensures put { HasCleanDisk (state S.Store tx.new.conn.now) → (base : Database) → (kept : Tables) → Within (state S.Store tx.old.conn.now) base kept
         → AreNumbered 0 (kept.points ++ points.now)

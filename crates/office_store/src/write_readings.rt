@@ -10,8 +10,8 @@ ghost use Rattle.office_store.specs.Rows.{register_bytes};
 ghost use Rattle.office_store.specs.Writing.{Within};
 
 use crate::run::run;
-use poll_book::{ReadingRow, Words};
-use sqlite::{Alter, Error, Transaction, params};
+use poll_book::{ReadingRow, StoreFault, Words};
+use sqlite::{Alter, Transaction, params};
 
 /// Writes the bytes of registers, two a register and most significant first, and says how many
 /// they are.
@@ -36,7 +36,7 @@ pub(crate) fn put_reading<S: Alter>(
     slot: u32,
     words: &Words,
     counted: bool,
-) -> Result<usize, Error>
+) -> Result<usize, StoreFault>
     ensures same_reference { tx.new.conn.ghost_name ≡ tx.old.conn.ghost_name }
     ensures put { HasCleanDisk (state S.Store tx.new.conn.now) → (base : Database) → (kept : Tables) → Within (state S.Store tx.old.conn.now) base kept
         → reading_at kept.readings (point, slot) ≡ None
@@ -58,7 +58,7 @@ pub(crate) fn put_reading<S: Alter>(
 pub(crate) fn put_readings<S: Alter>(
     tx: &mut Transaction<'_, S>,
     rows: &[ReadingRow],
-) -> Result<(), Error>
+) -> Result<(), StoreFault>
     ensures same_reference { tx.new.conn.ghost_name ≡ tx.old.conn.ghost_name }
     ensures put { HasCleanDisk (state S.Store tx.new.conn.now) → (base : Database) → (kept : Tables) → Within (state S.Store tx.old.conn.now) base kept
         → AreNew kept.readings (as_rows rows.now)

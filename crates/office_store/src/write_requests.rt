@@ -20,9 +20,9 @@ use point_list::ListFault::{
 use poll_book::RequestFault::{
     List, NotASetting, OutOfRange, PointDiffers, TooManyOrders, UnknownPoint,
 };
-use poll_book::{Body, Outcome, RequestFault, RequestRow};
+use poll_book::{Body, Outcome, RequestFault, RequestRow, StoreFault};
 use sqlite::types::{ToSql, ValueRef};
-use sqlite::{Alter, Error, ErrorCode, Transaction};
+use sqlite::{Alter, Transaction};
 use std::alloc::{AllocError, Global};
 
 /// The numbers that an outcome is kept as.
@@ -106,7 +106,7 @@ fn put_coded<S: Alter>(
     kind: u32,
     body: &[u8],
     outcome: OutcomeNumbers,
-) -> Result<usize, Error>
+) -> Result<usize, StoreFault>
     requires body { body_of (Int (pos kind)) (Blob body.now) ≡ Some row.now.body }
     requires outcome { outcome_of (Int (pos outcome.answer)) (Int (pos outcome.a)) (Int (pos outcome.b)) (Int (pos outcome.c)) ≡ Some row.now.outcome }
     ensures same_reference { tx.new.conn.ghost_name ≡ tx.old.conn.ghost_name }
@@ -138,7 +138,7 @@ pub(crate) fn put_request<S: Alter>(
     alloc: Global,
     tx: &mut Transaction<'_, S>,
     row: &RequestRow,
-) -> Result<usize, Error>
+) -> Result<usize, StoreFault>
     ensures same_reference { tx.new.conn.ghost_name ≡ tx.old.conn.ghost_name }
     ensures put { HasCleanDisk (state S.Store tx.new.conn.now) → (base : Database) → (kept : Tables) → Within (state S.Store tx.old.conn.now) base kept
         → request_at kept.requests (row.now.caller, row.now.key) ≡ None
@@ -148,7 +148,7 @@ pub(crate) fn put_request<S: Alter>(
     ensures survives { Survives (state S.Store tx.old.conn.now) (state S.Store tx.new.conn.now) (λ _. ⊥) }
 {
     let Some(outcome) = outcome_numbers(row.outcome) else {
-        return Err(Error::SqliteFailure(ErrorCode::TypeMismatch));
+        return Err(StoreFault::Other);
     };
     match &row.body {
         Body::List(bytes) => put_coded(tx, row, 1, bytes.as_slice(), outcome),
@@ -164,7 +164,7 @@ pub(crate) fn put_asked<S: Alter>(
     alloc: Global,
     tx: &mut Transaction<'_, S>,
     request: &Option<RequestRow>,
-) -> Result<usize, Error>
+) -> Result<usize, StoreFault>
     ensures same_reference { tx.new.conn.ghost_name ≡ tx.old.conn.ghost_name }
     ensures put { HasCleanDisk (state S.Store tx.new.conn.now) → (base : Database) → (kept : Tables) → Within (state S.Store tx.old.conn.now) base kept
         → IsUnused kept.requests request.now

@@ -13,8 +13,8 @@ ghost use Rattle.office_store.specs.Writing.{Within};
 
 use crate::run::run;
 use crate::write_readings::put_words;
-use poll_book::{OrderState, SettingRow, Words};
-use sqlite::{Alter, Error, Transaction, params};
+use poll_book::{OrderState, SettingRow, StoreFault, Words};
+use sqlite::{Alter, Transaction, params};
 
 fn state_number(state: OrderState) -> u8
     ensures { result ≡ state_number state }
@@ -42,7 +42,7 @@ pub(crate) fn put_setting<S: Alter>(
     point: u32,
     words: &Words,
     standing: OrderState,
-) -> Result<usize, Error>
+) -> Result<usize, StoreFault>
     ensures same_reference { tx.new.conn.ghost_name ≡ tx.old.conn.ghost_name }
     ensures put { HasCleanDisk (state S.Store tx.new.conn.now) → (base : Database) → (kept : Tables) → Within (state S.Store tx.old.conn.now) base kept
         → number ≡ last_order kept.settings + 1
@@ -71,7 +71,7 @@ pub(crate) fn settle<S: Alter>(
     tx: &mut Transaction<'_, S>,
     number: u32,
     standing: OrderState,
-) -> Result<usize, Error>
+) -> Result<usize, StoreFault>
     ensures same_reference { tx.new.conn.ghost_name ≡ tx.old.conn.ghost_name }
     ensures put { HasCleanDisk (state S.Store tx.new.conn.now) → (base : Database) → (kept : Tables) → (before : Setting) → Within (state S.Store tx.old.conn.now) base kept
         → setting_at kept.settings number ≡ Some before
@@ -95,7 +95,7 @@ pub(crate) fn settle<S: Alter>(
 pub(crate) fn put_order<S: Alter>(
     tx: &mut Transaction<'_, S>,
     setting: &Option<SettingRow>,
-) -> Result<(), Error>
+) -> Result<(), StoreFault>
     ensures same_reference { tx.new.conn.ghost_name ≡ tx.old.conn.ghost_name }
     ensures put { HasCleanDisk (state S.Store tx.new.conn.now) → (base : Database) → (kept : Tables) → Within (state S.Store tx.old.conn.now) base kept
         → IsNextOrSettled kept.settings setting.now

@@ -1,6 +1,6 @@
 -- The values of a command line, each in its form.
-use Rattle.std.specs.Prelude.{◌≡◌, ℕ, ℤ, pos, neg_ℤ, List, [], ◌∷◌, ◌==◌, Option, Some, None, Result, Ok, Err, ⊤, if◌then◌else◌, option_and_then, option_map}
-use Rattle.sunspec.specs.Digits.{number_within}
+use Rattle.std.specs.Prelude.{◌≡◌, ℕ, ℤ, List, ◌==◌, Option, Some, None, Result, Ok, Err, ⊤, if◌then◌else◌, option_and_then, option_map}
+use Rattle.sunspec.specs.Digits.{number_within, signed_of}
 use Rattle.poll_book.specs.Callers.{is_caller, is_key}
 use Rattle.office_words.specs.declared.job.WordFault.{WordFault}
 use Rattle.office_words.specs.declared.job.WordFault.TheVariants.{Words, Memory}
@@ -26,19 +26,9 @@ port_of = number_within 65535
 abbrev pub seconds_of : List ℕ → Option ℕ
 seconds_of text = number_within 3600 text >>= λ n. if n == 0 then None else Some n
 
-abbrev pub greatest_value : ℕ
-greatest_value = 170141183460469231731687303715884105727
-
--- how far below 0 a value can be
-abbrev pub least_value : ℕ
-least_value = 170141183460469231731687303715884105728
-
 -- digits, with or without a minus before them, that spell a number of 128 bits with sign
 abbrev pub value_of : List ℕ → Option ℤ
-value_of [] = None
-value_of (byte ∷ rest) =
-    if byte == 45 then option_map (λ n. neg_ℤ (pos n)) (number_within least_value rest)
-    else option_map pos (number_within greatest_value (byte ∷ rest))
+value_of text = signed_of text
 
 -- ---- who asks, and under which key
 

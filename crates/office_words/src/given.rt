@@ -27,10 +27,7 @@ pub(crate) fn text(alloc: Global, matches: &ArgMatches, id: &str) -> Result<Stri
     ensures { Gives string_bytes result (first_of id.now (rows_of (found_of matches.now))) }
 {
     let word = word(matches, id)?;
-    match String::from_str(alloc, word) {
-        Ok(text) => Ok(text),
-        Err(_) => Err(WordFault::Memory),
-    }
+    Ok(String::from_str(alloc, word)?)
 }
 
 pub(crate) fn number(matches: &ArgMatches, id: &str) -> Result<u32, WordFault>

@@ -272,25 +272,16 @@ fn sim<'a>(alloc: Global) -> Result<Command<'a>, AllocError>
 fn with_commands<'a>(alloc: Global, command: Command<'a>) -> Result<Command<'a>, AllocError>
     ensures { IfOk result (λ c. line_of c ≡ with_commands (line_of command.entry)) }
 {
-    let replay = replay(alloc)?;
-    let load = load(alloc)?;
-    let plan = plan(alloc)?;
-    let discover = discover(alloc)?;
-    let poll = poll(alloc)?;
-    let order = order(alloc)?;
-    let report = report(alloc)?;
-    let serve = serve(alloc)?;
-    let sim = sim(alloc)?;
-    let replayed = with_subcommand(command, replay)?;
-    let loaded = with_subcommand(replayed, load)?;
-    let planned = with_subcommand(loaded, plan)?;
-    let discovered = with_subcommand(planned, discover)?;
-    let polled = with_subcommand(discovered, poll)?;
-    let ordered = with_subcommand(polled, order)?;
-    let reported = with_subcommand(ordered, report)?;
-    let served = with_subcommand(reported, serve)?;
-    let simulated = with_subcommand(served, sim)?;
-    Ok(simulated)
+    let command = with_subcommand(command, replay(alloc)?)?;
+    let command = with_subcommand(command, load(alloc)?)?;
+    let command = with_subcommand(command, plan(alloc)?)?;
+    let command = with_subcommand(command, discover(alloc)?)?;
+    let command = with_subcommand(command, poll(alloc)?)?;
+    let command = with_subcommand(command, order(alloc)?)?;
+    let command = with_subcommand(command, report(alloc)?)?;
+    let command = with_subcommand(command, serve(alloc)?)?;
+    let command = with_subcommand(command, sim(alloc)?)?;
+    Ok(command)
 }
 
 #[tactic(auto, unfolding(crate::specs::Line::line_of, crate::specs::Line::bare_line))]

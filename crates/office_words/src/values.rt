@@ -1,10 +1,9 @@
 //! Values of a command line, each in its form.
-ghost use Rattle.std.specs.Prelude.{◌≡◌, ◌≤◌, neg_ℤ, pos};
-ghost use Rattle.office_words.specs.Values.{Gives, caller_of, key_of, least_value, number_of, port_of, seconds_of, value_of};
+ghost use Rattle.office_words.specs.Values.{Gives, caller_of, key_of, number_of, port_of, seconds_of, value_of};
 
 use crate::WordFault;
 use poll_book::{Caller, Key};
-use sunspec::digits::within;
+use sunspec::digits::{signed, within};
 
 pub(crate) fn number(text: &str) -> Result<u32, WordFault>
     ensures { Gives (λ n. n) result (number_of text.now) }
@@ -33,25 +32,10 @@ pub(crate) fn seconds(text: &str) -> Result<u16, WordFault>
     }
 }
 
-/// A number below 0, by how far it is.
-fn below(size: u128) -> i128
-    requires { size ≤ least_value }
-    ensures { result ≡ neg_ℤ (pos size) }
-{
-    if size == 0 {
-        return 0;
-    }
-    -((size - 1) as i128) - 1
-}
-
 pub(crate) fn value(text: &str) -> Result<i128, WordFault>
     ensures { Gives (λ z. z) result (value_of text.now) }
 {
-    let value = match text.as_bytes() {
-        [b'-', rest @ ..] => within(rest, 1 << 127).map(|n| below(n)),
-        digits => within(digits, i128::MAX as u128).map(|n| n as i128),
-    };
-    match value {
+    match signed(text.as_bytes()) {
         Some(value) => Ok(value),
         None => Err(WordFault::Words),
     }

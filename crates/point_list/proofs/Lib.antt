@@ -15,3 +15,4 @@ pub mod Header
 pub mod OneMeaning
 pub mod OnLiterals
 pub mod ExampleList
+pub mod PointsRead

@@ -6,7 +6,7 @@ use Rattle.csv.specs.Records.{field_at}
 use Rattle.mb_pdu.specs.declared.table.Table.{Table}
 use Rattle.mb_pdu.specs.declared.table.Table.TheVariants.{Coil, Discrete, Input, Holding}
 use Rattle.sunspec.specs.declared.point_type.PointType.{PointType}
-use Rattle.sunspec.specs.declared.point_type.PointType.TheVariants.{Int16, Uint16, Acc16, Enum16, Bitfield16, Sunssf, Int32, Uint32, Acc32, Enum32, Bitfield32, Int64, Uint64, Acc64, Ipaddr, Str, Bit}
+use Rattle.sunspec.specs.declared.point_type.PointType.TheVariants.{Str, Bit}
 use Rattle.sunspec.specs.PointType.{row, types, resized, bits_of}
 use Rattle.sunspec.specs.Digits.{number_of, number_within, scale_of}
 use Rattle.point_list.specs.declared.point.Role.{Role}
@@ -117,15 +117,7 @@ sized kind text = number_within 125 text then resized kind
 
 -- the types whose numbers may be scaled
 abbrev pub is_scaled : PointType → Bool
-is_scaled Enum16 = false
-is_scaled Bitfield16 = false
-is_scaled Sunssf = false
-is_scaled Enum32 = false
-is_scaled Bitfield32 = false
-is_scaled Ipaddr = false
-is_scaled (Str _) = false
-is_scaled Bit = false
-is_scaled _ = true
+is_scaled kind = (row kind).scaled
 
 -- an empty scale is 0
 abbrev pub scale_in : List ℕ → Option ℤ
@@ -143,13 +135,7 @@ scaled_by kind text = scale_in text then (λ scale. if is_scaled kind || is_zero
 
 -- the types that count
 abbrev pub can_count : PointType → Bool
-can_count Uint16 = true
-can_count Uint32 = true
-can_count Uint64 = true
-can_count Acc16 = true
-can_count Acc32 = true
-can_count Acc64 = true
-can_count _ = false
+can_count kind = (row kind).counts
 
 -- the types and tables that orders set
 abbrev pub can_be_written : Table → Bool
@@ -158,18 +144,7 @@ can_be_written Holding = true
 can_be_written _ = false
 
 abbrev pub can_be_set : PointType → Bool
-can_be_set Bit = true
-can_be_set Int16 = true
-can_be_set Uint16 = true
-can_be_set Enum16 = true
-can_be_set Bitfield16 = true
-can_be_set Int32 = true
-can_be_set Uint32 = true
-can_be_set Enum32 = true
-can_be_set Bitfield32 = true
-can_be_set Int64 = true
-can_be_set Uint64 = true
-can_be_set _ = false
+can_be_set kind = (row kind).can_be_set
 
 abbrev pub role_name : Role → List ℕ
 role_name Gauge = codes "gauge"

@@ -77,3 +77,15 @@ resolved_list site (Err e) = Err e
 -- what a list of these records means at a site
 abbrev pub list_at : Site → List Record → Result (List ListRow) ListError
 list_at site list = resolved_list site (list_meaning (is_device site) list)
+
+-- the points of rows
+abbrev pub points_of : List ListRow → List Point
+points_of rows = map (λ (said : ListRow). said.point) rows
+
+abbrev pub points_in : Result (List ListRow) ListError → Result (List Point) ListError
+points_in (Ok rows) = Ok (points_of rows)
+points_in (Err e) = Err e
+
+-- the points of a list of these records at a site, or its fault there
+abbrev pub points_at : Site → List Record → Result (List Point) ListError
+points_at site list = points_in (list_at site list)

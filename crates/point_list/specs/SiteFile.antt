@@ -8,8 +8,10 @@ use Rattle.point_list.specs.declared.site.Line.{Line}
 use Rattle.point_list.specs.declared.site.Device.{Device}
 use Rattle.point_list.specs.declared.error.ListFault.TheVariants.{BadSite, Memory}
 use Rattle.point_list.specs.declared.error.ListError.{ListError}
-use Rattle.point_list.specs.declared.site_file.Refusal.{Refusal}
-use Rattle.point_list.specs.declared.site_file.Refusal.TheVariants.{BadSite as NoSite, Memory as OutOfMemory}
+use Rattle.point_list.specs.declared.site_error.SiteError.{SiteError}
+use Rattle.point_list.specs.declared.site_error.SiteFault.{SiteFault}
+use Rattle.point_list.specs.declared.site_error.SitePlace.{SitePlace}
+use Rattle.point_list.specs.declared.site_error.SiteFault.TheVariants.{Memory as OutOfMemory}
 use Rattle.point_list.specs.Name.{is_name}
 use Rattle.point_list.specs.Sites.{is_sound, line_of}
 
@@ -21,13 +23,23 @@ abbrev pub no_memory : ListError
 no_memory = record { fault = Memory; row = 0; column = 0 }
 
 -- what a function returned is what reading gives, unless memory was refused
-abbrev pub Fails : {Y : Type 0} → Refusal → Option Y → Type 0
+abbrev pub Fails : {Y : Type 0} → SiteFault → Option Y → Type 0
 Fails OutOfMemory read = ⊤
-Fails NoSite read = read ≡ None
+Fails fault read = read ≡ None
 
-abbrev pub Gives : {X Y : Type 0} → (X → Y) → Result X Refusal → Option Y → Type 0
+abbrev pub Gives : {X Y : Type 0} → (X → Y) → Result X SiteFault → Option Y → Type 0
 Gives view (Ok x) read = read ≡ Some (view x)
-Gives view (Err e) read = Fails e read
+Gives view (Err fault) read = Fails fault read
+
+-- a fault with its place
+abbrev pub placed : {X : Type 0} → SitePlace → Result X SiteFault → Result X SiteError
+placed place (Ok x) = Ok x
+placed place (Err fault) = Err (record { place = place; fault = fault })
+
+-- the same where an error tells the place, too
+abbrev pub GivesAt : {X Y : Type 0} → (X → Y) → Result X SiteError → Option Y → Type 0
+GivesAt view (Ok x) read = read ≡ Some (view x)
+GivesAt view (Err e) read = Fails e.fault read
 
 -- the name at a key
 unfoldable pub name_at : List ℕ → Members → Option (List ℕ)

@@ -4,7 +4,7 @@ ghost use Rattle.std.specs.List.{list_any, position};
 ghost use Rattle.std.specs.Str.{bytes_eq};
 ghost use Rattle.csv.specs.Records.{fields_of};
 ghost use Rattle.sunspec.specs.PointType.{IsSized, named};
-ghost use Rattle.point_list.specs.Columns.{field, table_of, address_of, address_unless, by_model, model_id_of, model_of, parts_of, is_left_out, in_table, named_in, sized, is_scaled, scaled_by, can_count, can_be_set, can_be_written, role_of, roll_of, roll_given, scale_in, greatest_of};
+ghost use Rattle.point_list.specs.Columns.{field, table_of, address_of, address_unless, by_model, model_id_of, model_of, parts_of, is_left_out, in_table, named_in, sized, scaled_by, can_be_written, role_of, roll_of, roll_given, scale_in, greatest_of};
 
 use crate::point::Role;
 use csv::ByteRecord;
@@ -170,22 +170,6 @@ pub(crate) fn type_sized(kind: PointType, text: &[u8]) -> Option<PointType>
     }
 }
 
-fn is_scaled(kind: PointType) -> bool
-    ensures { result ≡ is_scaled kind }
-{
-    !matches!(
-        kind,
-        PointType::Enum16
-            | PointType::Bitfield16
-            | PointType::Sunssf
-            | PointType::Enum32
-            | PointType::Bitfield32
-            | PointType::Ipaddr
-            | PointType::Str(_)
-            | PointType::Bit
-    )
-}
-
 fn scale_text(text: &[u8]) -> Option<i8>
     ensures { result ≡ scale_in text.now }
 {
@@ -203,7 +187,7 @@ pub(crate) fn scale_in(kind: PointType, text: &[u8]) -> Option<i8>
 {
     match scale_text(text) {
         Some(scale) => {
-            if is_scaled(kind) || scale == 0 {
+            if kind.is_scaled() || scale == 0 {
                 Some(scale)
             } else {
                 None
@@ -213,43 +197,10 @@ pub(crate) fn scale_in(kind: PointType, text: &[u8]) -> Option<i8>
     }
 }
 
-fn can_count(kind: PointType) -> bool
-    ensures { result ≡ can_count kind }
-{
-    matches!(
-        kind,
-        PointType::Uint16
-            | PointType::Uint32
-            | PointType::Uint64
-            | PointType::Acc16
-            | PointType::Acc32
-            | PointType::Acc64
-    )
-}
-
 fn can_be_written(table: Table) -> bool
     ensures { result ≡ can_be_written table }
 {
     matches!(table, Table::Coil | Table::Holding)
-}
-
-fn can_be_set(kind: PointType) -> bool
-    ensures { result ≡ can_be_set kind }
-{
-    matches!(
-        kind,
-        PointType::Bit
-            | PointType::Int16
-            | PointType::Uint16
-            | PointType::Enum16
-            | PointType::Bitfield16
-            | PointType::Int32
-            | PointType::Uint32
-            | PointType::Enum32
-            | PointType::Bitfield32
-            | PointType::Int64
-            | PointType::Uint64
-    )
 }
 
 /// The role of a text, as far as the table and the type can have it.
@@ -260,13 +211,13 @@ pub(crate) fn role_in(table: Table, kind: PointType, text: &[u8]) -> Option<Role
     if text == b"gauge".as_slice() {
         Some(Role::Gauge)
     } else if text == b"counter".as_slice() {
-        if can_count(kind) {
+        if kind.counts() {
             Some(Role::Counter)
         } else {
             None
         }
     } else if text == b"setting".as_slice() {
-        if can_be_written(table) && can_be_set(kind) {
+        if can_be_written(table) && kind.can_be_set() {
             Some(Role::Setting)
         } else {
             None

@@ -63,6 +63,14 @@ impl<T> Items<T> {
     }
 }
 
+impl<T> From<Vec<T>> for Items<T> {
+    ghost from_gives = { λ vec items. items ≡ vec.items };
+
+    fn from(vec: Vec<T>) -> Items<T> {
+        Items::from_vec(vec)
+    }
+}
+
 impl<'a, T> IntoIterator for &'a Items<T> {
     type Item = &'a T;
 

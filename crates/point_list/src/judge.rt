@@ -14,6 +14,7 @@ use crate::columns::{
 };
 use crate::error::ListFault;
 use crate::label::Label;
+use crate::list::MOST_POINTS;
 use crate::name::Name;
 use crate::point::{ListRow, Point, Role};
 use crate::texts::Texts;
@@ -68,7 +69,7 @@ fn place_in(
     if record.len() != 9 {
         return Err((ListFault::BadCsv, 0));
     }
-    if before >= 10000 {
+    if before >= MOST_POINTS {
         return Err((ListFault::TooManyPoints, 0));
     }
     let Some(name) = Name::new(field_of(record, 0)) else {

@@ -1,14 +1,16 @@
-ghost use Rattle.std.specs.Prelude.{◌≡◌, ◌≤◌, length, if◌then◌else◌, Some, None, IsTrue, true};
+ghost use Rattle.std.specs.Prelude.{◌≡◌, ◌≤◌, length, if◌then◌else◌, Some, None, IsTrue, MatchResult, false, true};
 ghost use Rattle.std.specs.Char.{is_ascii};
 ghost use Rattle.std.specs.List.{list_all};
 ghost use Rattle.point_list.specs.Label.{is_label};
 
 use std::marker::Model;
+use std::str::FromStr;
 use std::{fmt, str};
 use sunspec::FixedText;
+use thiserror::Error;
 
 /// A text of 1 to 64 ASCII characters, in the value itself. Contracts see its bytes.
-#[derive(Clone, Copy, PartialEq, Eq, PartialOrd, Ord)]
+#[derive(Clone, Copy, PartialEq, Eq, PartialOrd, Ord, Hash)]
 pub struct Label {
     text: FixedText<64>,
 }
@@ -84,5 +86,22 @@ impl fmt::Display for Label {
 
     fn fmt<W: fmt::Write>(&self, f: &mut fmt::Formatter<W>) -> fmt::Result {
         f.pad(self.as_str())
+    }
+}
+
+/// A text is no label.
+#[derive(Clone, Copy, Debug, PartialEq, Eq, Error)]
+#[error("not 1 to 64 ASCII characters")]
+pub struct NoLabel;
+
+impl FromStr for Label {
+    type Err = NoLabel;
+
+    ghost from_str_gives = { λ text result. MatchResult result
+        (λ label. (is_label text ≡ true) × (label ≡ text))
+        (λ _. is_label text ≡ false) };
+
+    fn from_str(text: &str) -> Result<Label, NoLabel> {
+        Label::new(text.as_bytes()).ok_or(NoLabel)
     }
 }

@@ -1,6 +1,9 @@
 //! Point lists and site files.
+//!
+//! `crates/tour/src/lists.rt` is a short example.
 #![tactic(auto)]
 
+mod agreeing;
 mod columns;
 mod error;
 mod items;
@@ -12,17 +15,20 @@ mod name;
 mod point;
 mod resolving;
 mod site;
+mod site_error;
 mod site_file;
 mod text;
 mod texts;
 
 pub use error::{ListError, ListFault};
 pub use items::Items;
-pub use label::{Label, is_ascii};
-pub use list::read_list;
-pub use name::Name;
-pub use point::{ListRow, Point, Role};
-pub use resolving::resolve;
-pub use site::{Device, Line, Site};
+pub use label::{Label, NoLabel, is_ascii};
+pub use list::{MOST_POINTS, read_list};
+pub use name::{Name, NoName};
+pub use point::{ListRow, NoRole, Point, Role};
+pub use resolving::{read_points, resolve};
+pub use site::{Device, Line, MOST_DEVICES, MOST_LINES, Site};
+pub use site_error::{Quoted, SiteError, SiteFault, SitePlace};
 pub use site_file::read_site;
 pub use text::Text;
+pub use toml_members::{MemberError, MemberFault};

@@ -20,6 +20,9 @@ use crate::texts::Texts;
 use csv::{ByteRecord, ErrorKind, ReaderBuilder};
 use std::alloc::{AllocError, Global};
 
+/// The most points of a list.
+pub const MOST_POINTS: usize = 10_000;
+
 /// Whether a record is the header.
 fn is_header(record: &ByteRecord) -> bool
     ensures { result ≡ is_header (fields_of record.now) }
@@ -142,7 +145,7 @@ fn rows_in(alloc: Global, site: &Site, list: &[ByteRecord]) -> Result<Vec<ListRo
 /// dropped; its first record is
 /// `name,device,table,address,type,length,scale,role,roll`. A record is checked for its number of
 /// fields, then for how many points stand before it, then column by column, then for its range of
-/// addresses, then for a name that stands earlier. At most 10,000 points. `docs/FORMATS.md` has
+/// addresses, then for a name that stands earlier. At most `MOST_POINTS` points. `docs/FORMATS.md` has
 /// the columns, the point types and each fault with an example.
 pub fn read_list(alloc: Global, bytes: &[u8], site: &Site) -> Result<Vec<ListRow>, ListError>
     ensures rows { IfOk result (λ v. AreRows (is_device site.now) (records_of bytes.now) v.items) }

@@ -1,13 +1,15 @@
-ghost use Rattle.std.specs.Prelude.{◌≡◌, if◌then◌else◌, Some, None, true};
+ghost use Rattle.std.specs.Prelude.{◌≡◌, if◌then◌else◌, MatchResult, Some, None, false, true};
 ghost use Rattle.std.specs.List.{list_all};
 ghost use Rattle.point_list.specs.Name.{is_name, is_name_byte};
 
 use crate::label::Label;
 use std::fmt;
 use std::marker::Model;
+use std::str::FromStr;
+use thiserror::Error;
 
 /// A name: 1 to 64 of `A-Z a-z 0-9 _ - .`, in the value itself. Contracts see its bytes.
-#[derive(Clone, Copy, PartialEq, Eq, PartialOrd, Ord)]
+#[derive(Clone, Copy, PartialEq, Eq, PartialOrd, Ord, Hash)]
 pub struct Name {
     label: Label,
 }
@@ -85,5 +87,22 @@ impl fmt::Display for Name {
 
     fn fmt<W: fmt::Write>(&self, f: &mut fmt::Formatter<W>) -> fmt::Result {
         fmt::Display::fmt(&self.label, f)
+    }
+}
+
+/// A text is no name.
+#[derive(Clone, Copy, Debug, PartialEq, Eq, Error)]
+#[error("not 1 to 64 of A-Z a-z 0-9 _ - .")]
+pub struct NoName;
+
+impl FromStr for Name {
+    type Err = NoName;
+
+    ghost from_str_gives = { λ text result. MatchResult result
+        (λ name. (is_name text ≡ true) × (name ≡ text))
+        (λ _. is_name text ≡ false) };
+
+    fn from_str(text: &str) -> Result<Name, NoName> {
+        Name::new(text.as_bytes()).ok_or(NoName)
     }
 }

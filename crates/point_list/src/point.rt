@@ -1,14 +1,17 @@
-ghost use Rattle.std.specs.Prelude.{Some};
+ghost use Rattle.std.specs.Prelude.{◌≡◌, ◌≢◌, MatchResult, Some};
 ghost use Rattle.point_list.specs.Columns.{role_name};
+ghost use Rattle.point_list.specs.declared.point.Role.{Role};
 
 use crate::label::Label;
 use crate::name::Name;
 use mb_pdu::Table;
 use std::fmt;
+use std::str::FromStr;
 use sunspec::PointType;
+use thiserror::Error;
 
 /// What a point is for. It prints as `gauge`, `counter` or `setting`, the words of a list.
-#[derive(Clone, Copy, Debug, PartialEq, Eq)]
+#[derive(Clone, Copy, Debug, PartialEq, Eq, Hash)]
 pub enum Role {
     /// A value that goes up and down.
     Gauge,
@@ -27,6 +30,28 @@ impl fmt::Display for Role {
             Role::Counter => "counter",
             Role::Setting => "setting",
         })
+    }
+}
+
+/// A text is no role.
+#[derive(Clone, Copy, Debug, PartialEq, Eq, Error)]
+#[error("none of gauge, counter, setting")]
+pub struct NoRole;
+
+impl FromStr for Role {
+    type Err = NoRole;
+
+    ghost from_str_gives = { λ text result. MatchResult result
+        (λ role. text ≡ role_name role)
+        (λ _. (role : Role) → text ≢ role_name role) };
+
+    fn from_str(text: &str) -> Result<Role, NoRole> {
+        match text {
+            "gauge" => Ok(Role::Gauge),
+            "counter" => Ok(Role::Counter),
+            "setting" => Ok(Role::Setting),
+            _ => Err(NoRole),
+        }
     }
 }
 

@@ -1,12 +1,19 @@
-ghost use Rattle.std.specs.Prelude.{◌≡◌, option_map};
+ghost use Rattle.std.specs.Prelude.{[], ◌≡◌, option_map};
 ghost use Rattle.std.specs.List.{list_any};
 ghost use Rattle.std.specs.Str.{bytes_eq};
 ghost use Rattle.point_list.specs.Sites.{device_of, line_of};
 
+use crate::agreeing::disagreement;
 use crate::items::Items;
-use crate::site_file::is_sound;
 use crate::text::Text;
+use std::alloc::Global;
 use sunspec::Model;
+
+/// The most lines of a site.
+pub const MOST_LINES: usize = 64;
+
+/// The most devices of a site.
+pub const MOST_DEVICES: usize = 256;
 
 /// A line: a TCP connection behind which devices answer.
 #[derive(Debug, Drop)]
@@ -17,6 +24,12 @@ pub struct Line {
 }
 
 impl Line {
+    pub fn new(name: Text, address: Text) -> Line
+        ensures { result ≡ record { name = name; address = address } }
+    {
+        Line { name, address }
+    }
+
     /// The place of the line of this name.
     pub fn place(lines: &[Line], name: &str) -> Option<usize>
         ensures { result ≡ line_of lines.now name.now }
@@ -40,6 +53,35 @@ pub struct Device {
 }
 
 impl Device {
+    /// A device with no gap, of whose models nothing is known.
+    pub fn new(alloc: Global, name: Text, line: u16, unit: u8) -> Device
+        ensures { result ≡ record { name = name; line = line; unit = unit; gap = 0; models = [] } }
+    {
+        Device {
+            name,
+            line,
+            unit,
+            gap: 0,
+            models: Items::from_vec(Vec::new(alloc)),
+        }
+    }
+
+    /// The same device with this gap.
+    pub fn with_gap(mut self, gap: u16) -> Device
+        ensures { result ≡ record self { gap = gap } }
+    {
+        self.gap = gap;
+        self
+    }
+
+    /// The same device with these models.
+    pub fn with_models(mut self, models: Items<Model>) -> Device
+        ensures { result ≡ record self { models = models } }
+    {
+        self.models = models;
+        self
+    }
+
     /// The place of the device of this name.
     pub fn place(devices: &[Device], name: &str) -> Option<usize>
         ensures { result ≡ device_of devices.now name.now }
@@ -60,13 +102,22 @@ pub struct Site {
 impl Site {
     ghost use Rattle.point_list.specs.Sites as sites;
 
-    /// Whether its parts agree: at most 64 lines and 256 devices, names that differ, a line for each
-    /// device, no two devices that share line and unit identifier, and models that end before the
-    /// last address. A site that `read_site` gives is so.
+    pub fn new(lines: Vec<Line>, devices: Vec<Device>) -> Site
+        ensures { result ≡ record { lines = lines.items; devices = devices.items } }
+    {
+        Site {
+            lines: Items::from_vec(lines),
+            devices: Items::from_vec(devices),
+        }
+    }
+
+    /// Whether its parts agree: at most `MOST_LINES` lines and `MOST_DEVICES` devices, names that
+    /// differ, a line for each device, no two devices that share line and unit identifier, and models
+    /// that end before the last address. A site that `from_toml` gives is so.
     pub fn is_sound(&self) -> bool
         ensures { result ≡ sites.is_sound self.now.lines self.now.devices }
     {
-        is_sound(self.lines.as_slice(), self.devices.as_slice())
+        disagreement(self.lines.as_slice(), self.devices.as_slice()).is_none()
     }
 
     /// The line of this name.

@@ -1,6 +1,8 @@
 //! The book of a polling office: its points, their readings, the settings that were ordered, the
 //! requests of callers and its connection number, the trait of what keeps them, what a reply adds
 //! to them, and a keeper in memory.
+//!
+//! `crates/tour/src/keepers.rt` is a short example.
 #![tactic(auto)]
 
 mod asked;

@@ -1,5 +1,7 @@
 //! The queries of open connections, and which of them a frame answers (Modbus Messaging on TCP/IP
 //! V1.0b, section 4.2: matching by transaction identifier).
+//!
+//! `crates/tour/src/queries.rt` is a short example.
 #![tactic(auto)]
 
 mod asked;

@@ -1,4 +1,6 @@
 //! Reads of a device's points: what one query asks for, and the fewest reads that hold given points.
+//!
+//! `crates/tour/src/plans.rt` is a short example.
 #![tactic(auto)]
 
 ghost use Rattle.std.specs.Prelude.{◌≡◌};

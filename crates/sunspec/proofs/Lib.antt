@@ -6,7 +6,7 @@ pub mod Encodings
 pub mod ScaledTexts
 pub mod Numbers
 pub mod RoundTrips
-pub mod Printable
+pub mod PrintableBytes
 pub mod Walked
 pub mod OneWalk
 pub mod CommonModel

@@ -20,3 +20,17 @@ number_of most limit text = if nat_le (length text) most then number_within limi
 abbrev pub scale_of : List ℕ → Option ℤ
 scale_of [] = None
 scale_of (byte ∷ rest) = if byte == 45 then option_map (λ n. neg_ℤ (pos n)) (number_of 2 10 rest) else option_map pos (number_of 2 10 (byte ∷ rest))
+
+-- the greatest number with sign of 128 bits, and how far the least one is below 0
+abbrev pub greatest_signed : ℕ
+greatest_signed = 170141183460469231731687303715884105727
+
+abbrev pub least_signed : ℕ
+least_signed = 170141183460469231731687303715884105728
+
+-- digits, with or without a minus before them, that spell such a number
+abbrev pub signed_of : List ℕ → Option ℤ
+signed_of [] = None
+signed_of (byte ∷ rest) =
+    if byte == 45 then option_map (λ n. neg_ℤ (pos n)) (number_within least_signed rest)
+    else option_map pos (number_within greatest_signed (byte ∷ rest))

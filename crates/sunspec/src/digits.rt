@@ -3,9 +3,9 @@
 //! here since this is the lowest crate below both. std's `parse` isn't the same: it takes a `+`, and
 //! any number of digits where a field has room for five.
 
-ghost use Rattle.std.specs.Prelude.{◌≡◌, ◌+◌, ◌-◌, ◌*◌, ◌&&◌, None, Some, if◌then◌else◌, nat_le};
+ghost use Rattle.std.specs.Prelude.{◌≡◌, ◌≤◌, ◌+◌, ◌-◌, ◌*◌, ◌&&◌, None, Some, if◌then◌else◌, nat_le, neg_ℤ, pos};
 ghost use Rattle.std.specs.Char.{is_ascii_digit};
-ghost use Rattle.sunspec.specs.Digits.{number_of, number_within, scale_of};
+ghost use Rattle.sunspec.specs.Digits.{least_signed, number_of, number_within, scale_of, signed_of};
 
 /// The number that one or more digits spell, with any number of zeros in front, if it is at most
 /// `limit`.
@@ -58,4 +58,25 @@ pub fn scale(text: &[u8]) -> Option<i8>
         [b'-', rest @ ..] => number(rest, 2, 10).map(|n| -(n as i8)),
         _ => number(text, 2, 10).map(|n| n as i8),
     }
+}
+
+/// The number that digits with or without a minus before them spell, if 128 bits hold it.
+pub fn signed(text: &[u8]) -> Option<i128>
+    ensures { result ≡ signed_of text.now }
+{
+    match text {
+        [b'-', rest @ ..] => within(rest, i128::MIN.unsigned_abs()).map(|size| negative(size)),
+        _ => within(text, i128::MAX as u128).map(|number| number as i128),
+    }
+}
+
+// The number that is so far below 0.
+fn negative(size: u128) -> i128
+    requires { size ≤ least_signed }
+    ensures { result ≡ neg_ℤ (pos size) }
+{
+    if size == 0 {
+        return 0;
+    }
+    -((size - 1) as i128) - 1
 }

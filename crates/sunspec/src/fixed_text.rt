@@ -1,10 +1,12 @@
 ghost use Rattle.std.specs.Prelude.{◌≡◌, ◌↔◌, ◌≤◌, length, IsSome, IfSome, Some, nat_eq, refl};
-ghost use Rattle.std.specs.Cmp.{partial_equiv_from_equiv};
+ghost use Rattle.std.specs.Cmp.{partial_equiv_from_equiv, unsigned_Decides};
+ghost use Rattle.std.specs.Hash as fed;
 ghost use Rattle.std.specs.Cmp.Lexicographic.{pointwise, nat_list_eq_equiv, slice_cmp, nat_list_cmp_total, texts_po, texts_ties};
 ghost use Rattle.std.specs.Ordering.{nat_cmp};
 
 use std::cmp::Ordering;
 use std::fmt;
+use std::hash::{Hash, Hasher};
 use std::marker::Model;
 
 /// At most `CAP` bytes, in the value itself. Contracts see the bytes.
@@ -77,6 +79,16 @@ impl<const CAP: usize> PartialEq for FixedText<CAP> {
 
 impl<const CAP: usize> Eq for FixedText<CAP> {
     ghost laws = { nat_list_eq_equiv };
+}
+
+impl<const CAP: usize> Hash for FixedText<CAP> {
+    ghost hash_input = { λ text. fed.slice fed.u8 text };
+
+    ghost respects_eq = { (fed.items_Alike (fed.same_Alike fed.u8 unsigned_Decides)).fed };
+
+    fn hash<H: Hasher>(&self, state: &mut H) {
+        self.as_bytes().hash(state);
+    }
 }
 
 /// Texts are ordered by their bytes.

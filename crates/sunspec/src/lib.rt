@@ -1,5 +1,7 @@
 //! Values of SunSpec points: what registers mean, the registers of a number, and exact texts; and the
 //! chain of models that a device says.
+//!
+//! `crates/tour/src/values.rt` and `chains.rt` there are short examples.
 #![tactic(auto)]
 
 mod chain;
@@ -22,8 +24,8 @@ pub use discovery::discover;
 pub use encode::to_registers;
 pub use error::SunError;
 pub use fixed_text::{FixedText, ShortText};
-pub use point_type::{Content, PointType, Row};
+pub use point_type::{Content, PointType, Row, UnknownType};
 pub use scaled::scaled_text;
-pub use shown::{shown_text, value_text};
+pub use shown::{printable, shown_text, value_text};
 pub use source::{RegisterSource, SourceFault};
 pub use value::{Value, read_value};

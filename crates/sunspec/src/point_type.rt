@@ -1,9 +1,14 @@
-ghost use Rattle.std.specs.Prelude.{◌≡◌, ◌↔◌, ◌^◌, ◌-◌, ◌≤◌, IfSome, IsTrue};
+ghost use Rattle.std.specs.Prelude.{◌≡◌, ◌↔◌, ◌^◌, ◌-◌, ◌≤◌, IfSome, IsTrue, MatchResult, None, Some};
 ghost use Rattle.sunspec.specs.Value.{AreRegistersOf};
 ghost use Rattle.sunspec.specs.PointType.{IsSized, bits, bits_of, coded, is_unimplemented, named, resized, row, row_shown};
 
-/// The type of a point. `Str` carries its number of registers, 1 to 125.
-#[derive(Clone, Copy, Debug, PartialEq, Eq)]
+use std::fmt;
+use std::str::FromStr;
+use thiserror::Error;
+
+/// The type of a point. `Str` carries its number of registers, 1 to 125. It prints as its name, without
+/// the length of a string.
+#[derive(Clone, Copy, Debug, PartialEq, Eq, Hash)]
 pub enum PointType {
     Int16,
     Uint16,
@@ -48,7 +53,51 @@ pub struct Row {
     pub content: Content,
     /// The sum of the registers that means that the point is not implemented.
     pub unimplemented: Option<u64>,
+    /// Whether a counter may have the type.
+    pub counts: bool,
+    /// Whether numbers of the type are scaled.
+    pub scaled: bool,
+    /// Whether an order may set a point of the type.
+    pub can_be_set: bool,
 }
+
+// What points of a type are for.
+#[derive(Clone, Copy)]
+struct Uses {
+    counts: bool,
+    scaled: bool,
+    can_be_set: bool,
+}
+
+const COUNTER: Uses = Uses {
+    counts: true,
+    scaled: true,
+    can_be_set: true,
+};
+
+const TOTAL: Uses = Uses {
+    counts: true,
+    scaled: true,
+    can_be_set: false,
+};
+
+const NUMBER: Uses = Uses {
+    counts: false,
+    scaled: true,
+    can_be_set: true,
+};
+
+const CHOICE: Uses = Uses {
+    counts: false,
+    scaled: false,
+    can_be_set: true,
+};
+
+const NEITHER: Uses = Uses {
+    counts: false,
+    scaled: false,
+    can_be_set: false,
+};
 
 impl Row {
     const fn new(
@@ -57,6 +106,7 @@ impl Row {
         registers: u16,
         content: Content,
         unimplemented: Option<u64>,
+        uses: Uses,
     ) -> Row
         ensures { row_shown result ≡ record {
           code = code;
@@ -64,6 +114,9 @@ impl Row {
           registers = registers;
           content = content;
           unimplemented = unimplemented;
+          counts = uses.counts;
+          scaled = uses.scaled;
+          can_be_set = uses.can_be_set;
         } }
     {
         Row {
@@ -72,6 +125,9 @@ impl Row {
             registers,
             content,
             unimplemented,
+            counts: uses.counts,
+            scaled: uses.scaled,
+            can_be_set: uses.can_be_set,
         }
     }
 }
@@ -134,23 +190,30 @@ impl PointType {
     {
         use Content::{Address, Signed, Text, Unsigned};
         match self {
-            PointType::Int16 => Row::new(1, "int16", 1, Signed, Some(0x8000)),
-            PointType::Uint16 => Row::new(2, "uint16", 1, Unsigned, Some(0xFFFF)),
-            PointType::Acc16 => Row::new(3, "acc16", 1, Unsigned, Some(0)),
-            PointType::Enum16 => Row::new(4, "enum16", 1, Unsigned, Some(0xFFFF)),
-            PointType::Bitfield16 => Row::new(5, "bitfield16", 1, Unsigned, Some(0xFFFF)),
-            PointType::Sunssf => Row::new(6, "sunssf", 1, Signed, Some(0x8000)),
-            PointType::Int32 => Row::new(7, "int32", 2, Signed, Some(0x8000_0000)),
-            PointType::Uint32 => Row::new(8, "uint32", 2, Unsigned, Some(0xFFFF_FFFF)),
-            PointType::Acc32 => Row::new(9, "acc32", 2, Unsigned, Some(0)),
-            PointType::Enum32 => Row::new(10, "enum32", 2, Unsigned, Some(0xFFFF_FFFF)),
-            PointType::Bitfield32 => Row::new(11, "bitfield32", 2, Unsigned, Some(0xFFFF_FFFF)),
-            PointType::Int64 => Row::new(12, "int64", 4, Signed, Some(0x8000_0000_0000_0000)),
-            PointType::Uint64 => Row::new(13, "uint64", 4, Unsigned, Some(u64::MAX)),
-            PointType::Acc64 => Row::new(14, "acc64", 4, Unsigned, Some(0)),
-            PointType::Ipaddr => Row::new(15, "ipaddr", 2, Address, Some(0)),
-            PointType::Str(registers) => Row::new(16, "string", *registers as u16, Text, Some(0)),
-            PointType::Bit => Row::new(17, "bit", 1, Content::Bit, None),
+            Self::Int16 => Row::new(1, "int16", 1, Signed, Some(0x8000), NUMBER),
+            Self::Uint16 => Row::new(2, "uint16", 1, Unsigned, Some(0xFFFF), COUNTER),
+            Self::Acc16 => Row::new(3, "acc16", 1, Unsigned, Some(0), TOTAL),
+            Self::Enum16 => Row::new(4, "enum16", 1, Unsigned, Some(0xFFFF), CHOICE),
+            Self::Bitfield16 => Row::new(5, "bitfield16", 1, Unsigned, Some(0xFFFF), CHOICE),
+            Self::Sunssf => Row::new(6, "sunssf", 1, Signed, Some(0x8000), NEITHER),
+            Self::Int32 => Row::new(7, "int32", 2, Signed, Some(0x8000_0000), NUMBER),
+            Self::Uint32 => Row::new(8, "uint32", 2, Unsigned, Some(0xFFFF_FFFF), COUNTER),
+            Self::Acc32 => Row::new(9, "acc32", 2, Unsigned, Some(0), TOTAL),
+            Self::Enum32 => Row::new(10, "enum32", 2, Unsigned, Some(0xFFFF_FFFF), CHOICE),
+            Self::Bitfield32 => Row::new(11, "bitfield32", 2, Unsigned, Some(0xFFFF_FFFF), CHOICE),
+            Self::Int64 => Row::new(12, "int64", 4, Signed, Some(0x8000_0000_0000_0000), NUMBER),
+            Self::Uint64 => Row::new(13, "uint64", 4, Unsigned, Some(u64::MAX), COUNTER),
+            Self::Acc64 => Row::new(14, "acc64", 4, Unsigned, Some(0), TOTAL),
+            Self::Ipaddr => Row::new(15, "ipaddr", 2, Address, Some(0), NEITHER),
+            Self::Str(registers) => Row::new(
+                16,
+                "string",
+                *registers as u16,
+                Text,
+                Some(0),
+                NEITHER,
+            ),
+            Self::Bit => Row::new(17, "bit", 1, Content::Bit, None, CHOICE),
         }
     }
 
@@ -173,6 +236,27 @@ impl PointType {
         ensures { result ≡ (row self.now).code }
     {
         self.row().code
+    }
+
+    /// Whether a counter may have the type.
+    pub fn counts(&self) -> bool
+        ensures { result ≡ (row self.now).counts }
+    {
+        self.row().counts
+    }
+
+    /// Whether numbers of the type are scaled.
+    pub fn is_scaled(&self) -> bool
+        ensures { result ≡ (row self.now).scaled }
+    {
+        self.row().scaled
+    }
+
+    /// Whether an order may set a point of the type.
+    pub fn can_be_set(&self) -> bool
+        ensures { result ≡ (row self.now).can_be_set }
+    {
+        self.row().can_be_set
     }
 
     /// The greatest number of the type's bits: 2^16 - 1, 2^32 - 1 or 2^64 - 1, 1 for a bit and 0
@@ -246,5 +330,31 @@ impl PointType {
                 }
             }
         }
+    }
+}
+
+impl fmt::Display for PointType {
+    ghost output = { λ kind. Some (row kind).name };
+
+    fn fmt<W: fmt::Write>(&self, f: &mut fmt::Formatter<W>) -> fmt::Result {
+        f.pad(self.name())
+    }
+}
+
+/// No type has this name.
+#[derive(Clone, Copy, Debug, PartialEq, Eq, Error)]
+#[error("unknown type")]
+pub struct UnknownType;
+
+/// As `from_name`.
+impl FromStr for PointType {
+    type Err = UnknownType;
+
+    ghost from_str_gives = { λ name result. MatchResult result
+        (λ kind. named name ≡ Some kind)
+        (λ _. named name ≡ None) };
+
+    fn from_str(name: &str) -> Result<PointType, UnknownType> {
+        PointType::from_name(name).ok_or(UnknownType)
     }
 }

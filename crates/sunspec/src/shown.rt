@@ -97,7 +97,8 @@ fn printable_text(alloc: Global, bytes: &[u8]) -> Result<String, AllocError>
     Ok(text)
 }
 
-fn printable(byte: u8) -> u8
+/// A byte of a text as it is shown: `?` where it can't be printed.
+pub fn printable(byte: u8) -> u8
     ensures shown { result ≡ printable byte }
     ensures ascii { result < 128 }
 {

@@ -3,6 +3,9 @@ use Rattle.std.specs.Prelude.{◌≡◌, ℕ, pos, List, [], ◌∷◌, nat_le, 
 use Rattle.std.specs.Str.{IsUtf8}
 use Rattle.toml.specs.Data.{Data, Items, Members, as_array, as_str, get_member, integer, item, no_items}
 use Rattle.toml.specs.Parse.{parse_document}
+use Rattle.toml_members.specs.declared.error.MemberError.{MemberError}
+use Rattle.toml_members.specs.declared.error.MemberFault.{MemberFault}
+use Rattle.toml_members.specs.declared.error.MemberFault.TheVariants.{Missing, OutOfRange, WrongKind}
 
 -- what a second reading makes of what a first one gave
 infixl 10 ◌>>=◌
@@ -49,6 +52,22 @@ each read (item entry entries) = do
   x ← read entry
   xs ← each read entries
   Some (x ∷ xs)
+
+-- why a member is no text or no array
+abbrev pub kind_fault : Option Data → MemberFault
+kind_fault None = Missing
+kind_fault (Some value) = WrongKind
+
+-- why a member is no number up to a limit
+abbrev pub number_fault : Option Data → MemberFault
+number_fault None = Missing
+number_fault (Some (integer number)) = OutOfRange
+number_fault (Some value) = WrongKind
+
+-- an error names the key, and why there is nothing at it
+pub record IsFaultOf (fault_of : Option Data → MemberFault) (key : List ℕ) (table : Members) (e : MemberError) : Type 0 where
+  pub named : e.key.now ≡ key
+  pub fault : e.fault ≡ fault_of (get_member key table)
 
 -- the document of a text
 abbrev pub IsDocument : List ℕ → Members → Type 0

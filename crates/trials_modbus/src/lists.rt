@@ -1,5 +1,5 @@
 //! Lists for sites that no file spells.
-use point_list::{Device, Items, Line, ListError, ListFault, Site, Text, read_list};
+use point_list::{Device, ListError, ListFault, Site, Text, read_list};
 use std::alloc::{AllocError, Global};
 use std::test::Fail;
 use telling::{Trial, twice};
@@ -8,18 +8,10 @@ const HEADER: &str = "name,device,table,address,type,length,scale,role,roll\n";
 
 /// A site with a device of this name.
 fn site_of(alloc: Global, name: &str) -> Result<Site, AllocError> {
+    let name = Text::from_string(String::from_str(alloc, name)?);
     let mut devices = Vec::new(alloc);
-    devices.push(Device {
-        name: Text::from_string(String::from_str(alloc, name)?),
-        line: 0,
-        unit: 17,
-        gap: 8,
-        models: Items::from_vec(Vec::new(alloc)),
-    })?;
-    Ok(Site {
-        lines: Items::from_vec(Vec::<Line>::new(alloc)),
-        devices: Items::from_vec(devices),
-    })
+    devices.push(Device::new(alloc, name, 0, 17))?;
+    Ok(Site::new(Vec::new(alloc), devices))
 }
 
 /// How many rows a list has for a site with a device of this name, or its fault; `AllocError` where memory was

@@ -1,5 +1,5 @@
 //! Sites as values: their lists and texts, and one whose parts don't agree.
-use point_list::{Items, Site, read_site};
+use point_list::{Site, read_site};
 use std::alloc::{AllocError, Global};
 use std::test::Fail;
 use telling::{Trial, twice};
@@ -42,10 +42,7 @@ fn without_lines(trial: &Trial<'_>) -> Result<(), AllocError> {
     let site = site_of(trial.alloc())?;
     let is_sound = site.is_sound();
     let Site { devices, .. } = site;
-    let alone = Site {
-        lines: Items::from_vec(Vec::new(trial.alloc())),
-        devices,
-    };
+    let alone = Site::new(Vec::new(trial.alloc()), devices.into_vec());
     trial.told(&"sound", &(is_sound, alone.is_sound()), &(true, false));
     Ok(())
 }

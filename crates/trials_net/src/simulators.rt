@@ -1,7 +1,8 @@
 //! Readers and writers of simulated devices that fail.
 use crate::noise::Noise;
 use mb_map::Sim;
-use office_commands::{Fault, answer_lines, answer_stream};
+use mb_mbap::Counted;
+use office_commands::{Failure, Fault, answer_lines, answer_stream};
 use std::alloc::Global;
 use std::io;
 use std::test::Fail;
@@ -16,7 +17,8 @@ fn sim(alloc: Global) -> Result<Sim, Fault> {
 }
 
 /// Refused memory ends the attempt.
-fn is_ended(trial: &Trial<'_>, ended: Result<(), Fault>, expected: Fault) -> Result<(), Fault> {
+fn is_ended(trial: &Trial<'_>, ended: Result<(), Failure>, expected: Fault) -> Result<(), Fault> {
+    let ended = ended.map_err(|failure| failure.fault);
     if ended == Err(Fault::Memory) {
         return ended;
     }
@@ -27,12 +29,14 @@ fn is_ended(trial: &Trial<'_>, ended: Result<(), Fault>, expected: Fault) -> Res
 fn all(trial: &Trial<'_>) -> Result<(), Fault> {
     let alloc = trial.alloc();
     let mut sim = sim(alloc)?;
-    let mut line = b"00 00 00 00 00 02 11 07\n".as_slice();
-    let unprinted = answer_lines(alloc, &mut sim, &mut line, &mut Outgoing::new(alloc, 0));
-    is_ended(trial, unprinted, Fault::File)?;
-    let noise = answer_stream(alloc, &mut sim, &mut Noise, &mut io::sink());
+    let mut line = Counted::new(b"00 00 00 00 00 02 11 07\n".as_slice());
+    let mut full = Counted::new(Outgoing::new(alloc, 0));
+    let unprinted = answer_lines(alloc, &mut sim, &mut line, &mut full);
+    is_ended(trial, unprinted.map_err(Failure::from), Fault::File)?;
+    let mut noisy = Counted::new(Noise);
+    let noise = answer_stream(alloc, &mut sim, &mut noisy, &mut Counted::new(io::sink()));
     is_ended(trial, noise, Fault::Noise)?;
-    let unsent = answer_stream(alloc, &mut sim, &mut Noise, &mut Outgoing::new(alloc, 0));
+    let unsent = answer_stream(alloc, &mut sim, &mut noisy, &mut full);
     is_ended(trial, unsent, Fault::Line)
 }
 

@@ -66,7 +66,7 @@ fn assert_poll(
     let printed = poll(trial.alloc(), office, "roof", slot, &near, &near);
     let told = match &printed {
         Ok(text) => Ok(text.as_str()),
-        Err(fault) => Err(*fault),
+        Err(failure) => Err(failure.fault),
     };
     if told == Err(Fault::Memory) || told == Err(Fault::Store(StoreFault::Memory)) {
         return Err(Fault::Memory);
@@ -86,7 +86,10 @@ fn assert_polls(trial: &Trial<'_>) -> Result<(), Fault> {
 
 /// How connecting ends, without the stream.
 fn fault_of(rt: &HostRuntime, address: &str) -> Option<Fault> {
-    connect(rt, address, Duration::from_secs(1)).err()
+    match connect(rt, address, Duration::from_secs(1)) {
+        Ok(_) => None,
+        Err(failure) => Some(failure.fault),
+    }
 }
 
 fn assert_heard(trial: &Trial<'_>) -> Result<(), Fault> {

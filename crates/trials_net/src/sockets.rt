@@ -18,7 +18,7 @@ pub(crate) fn listen(rt: &HostRuntime) -> Result<(TcpListener, String), Fault> {
 
 /// A stream to an address, whose reads and writes wait for a second at most.
 pub(crate) fn connected(rt: &HostRuntime, address: &str) -> Result<TcpStream, Fault> {
-    connect(rt, address, Duration::from_secs(1))
+    Ok(connect(rt, address, Duration::from_secs(1))?)
 }
 
 /// Writes all that an end of a connection has to say, after which it may end its side.

@@ -7,8 +7,8 @@ use Rattle.line_source.proofs.hearing.read_on.Goals as goal
 pub returns-clause-heard : goal.returns-clause-heard
 returns-clause-heard g c =
     let count = c.in_ok-count.count in
-    let piece = take count c.read_piece.new.piece in
+    let piece = take count c.read_some.new.piece in
     hears_piece (Tells c.args.query.now c.args.span c.first_reply-reply.result) c.args.stream.now c.feed.new.self
-    (g.R.Read.remaining (inner_of c.args.reader.now)) (g.R.Read.remaining (inner_of c.read_piece.new.reader)) piece piece c.in-Ok.fed.frames.items c.in-Ok.fed.fault count refl
-    (length-take-le count c.read_piece.new.piece (omega (arith, c.in_ok-count.ensures.some, c.requires.few, c.read_piece.ensures.same)))
+    (g.R.Read.remaining (inner_of c.args.reader.now)) (g.R.Read.remaining (inner_of c.read_some.new.reader)) piece piece c.in-Ok.fed.frames.items c.in-Ok.fed.fault count refl
+    (length-take-le count c.read_some.new.piece (omega (arith, c.in_ok-count.ensures.some, c.requires.few, c.read_some.ensures.same)))
     c.in_ok-count.ensures.bytes c.in-Ok.ensures.stream (subst (Tells c.args.query.now c.args.span c.first_reply-reply.result) c.deref.ensures.value c.first_reply-reply.ensures)

@@ -5,5 +5,5 @@ use Rattle.mb_map.specs.Image.{device_in}
 use Rattle.toml_members.proofs.Each.{with_front}
 use Rattle.mb_map.proofs.image.devices_in.Given as goal
 
-abbrev pub invariant-loop-unit : goal.invariant-loop-unit
-invariant-loop-unit l = with_front l.devices.items (each device_in (items_view (drop l.unit-index l.units))) ≡ each device_in (items_view l.units)
+abbrev pub invariant-loop-index : goal.invariant-loop-index
+invariant-loop-index l = with_front l.devices.items (each device_in (items_view (drop l.index l.units))) ≡ each device_in (items_view l.units)

@@ -1,33 +1,27 @@
 use Rattle.std.proofs.Common.{◌≡◌, ◌≤◌, ◌∙◌, true, rules, arith, sym}
 use Rattle.std.proofs.lemmas.List.Elements.{All-push}
-use Rattle.std.proofs.lemmas.Result.{err_from_is_err_and}
 use Rattle.std.specs.Result.{is_ok}
-use Rattle.toml.specs.View.{items_view}
-use Rattle.toml_members.specs.Members.{each, number_in}
+use Rattle.toml_members.specs.Members.{number_in}
 use Rattle.toml_members.proofs.Each.{each_more, each_fails, each_ends}
-use Rattle.mb_map.proofs.Failing.{fails_here, fails_more}
 use Rattle.mb_map.proofs.image.numbers_in.Goals as goal
 
-pub returns-in_err-number-clause-gives : goal.returns-in_err-number-clause-gives
-returns-in_err-number-clause-gives c =
+pub returns-in-Err-clause-gives : goal.returns-in-Err-clause-gives
+returns-in-Err-clause-gives c =
     let vs = c.args.entries.now in
-    let i = c.loop-entry.entry-index in
-    let p = err_from_is_err_and c.from_residual.result c.from_residual.ensures.1 in
-    let read = rw c.from.ensures at c.number_in.ensures.gives in
-    rw (p.1, p.2) (fails_more c.in_err-number.field-0.0 c.number_in.result (each (number_in c.args.greatest) (items_view vs)) (fails_here c.in_err-number.field-0.0 c.number_in.result c.in_err-number.ensures.value)
-    (λ none. sym c.loop-entry.invariant.read ∙ each_fails (number_in c.args.greatest) c.loop-entry.numbers.items vs i c.entry-item.result (omega arith) c.entry-item.is (sym read ∙ none)))
+    let i = c.loop-index.index in
+    let none = rw c.from.ensures at c.in-Err.ensures.none in
+    sym c.loop-index.invariant.read ∙ each_fails (number_in c.args.greatest) c.loop-index.numbers.items vs i c.index-entries-index.result (omega arith) c.index-entries-index.is none
 
-pub loop-entry-preserved : goal.loop-entry-preserved
-loop-entry-preserved c =
+pub loop-index-preserved : goal.loop-index-preserved
+loop-index-preserved c =
     let vs = c.args.entries.now in
-    let i = c.loop-entry.entry-index in
+    let i = c.loop-index.index in
     let good : is_ok c.push.result ≡ true = search rules in
     let items = rw good at c.push.ensures.items in
-    let gives = rw c.from.ensures at c.number_in.ensures.gives in
-    let found = sym gives ∙ c.in_ok-number.ensures.ok_part in
-    let more = each_more (number_in c.args.greatest) c.loop-entry.numbers.items vs i c.entry-item.result c.in_ok-number.number (omega arith) c.entry-item.is found in
-    let within = rw c.in_ok-number.ensures.ok_part at c.number_in.ensures.within in
-    rw items (record { read = sym more ∙ c.loop-entry.invariant.read; sound = All-push (λ n. n ≤ c.args.greatest) c.loop-entry.numbers.items c.in_ok-number.number c.loop-entry.invariant.sound (omega (arith, within, c.from.ensures)) })
+    let found = rw c.from.ensures at c.in-Ok.ensures.number in
+    let more = each_more (number_in c.args.greatest) c.loop-index.numbers.items vs i c.index-entries-index.result c.in-Ok.number (omega arith) c.index-entries-index.is found in
+    let within = rw c.from.ensures at c.in-Ok.ensures.within in
+    rw items (record { read = sym more ∙ c.loop-index.invariant.read; sound = All-push (λ n. n ≤ c.args.greatest) c.loop-index.numbers.items c.in-Ok.number c.loop-index.invariant.sound within })
 
 pub returns-clause-gives : goal.returns-clause-gives
-returns-clause-gives c = sym c.loop-entry.invariant.read ∙ each_ends (number_in c.args.greatest) c.loop-entry.numbers.items c.args.entries.now c.loop-entry.entry-index (omega arith)
+returns-clause-gives c = sym c.loop-index.invariant.read ∙ each_ends (number_in c.args.greatest) c.loop-index.numbers.items c.args.entries.now c.loop-index.index (omega arith)

@@ -7,8 +7,8 @@ use Rattle.mb_map.specs.Image.{step_in}
 use Rattle.toml_members.proofs.Each.{with_front}
 use Rattle.mb_map.proofs.image.script_in.Given as goal
 
-abbrev pub invariant-loop-entry : goal.invariant-loop-entry
-invariant-loop-entry l = record {
-  read : with_front l.script.items (each step_in (items_view (drop l.entry-index l.entries))) ≡ each step_in (items_view l.entries);
+abbrev pub invariant-loop-index : goal.invariant-loop-index
+invariant-loop-index l = record {
+  read : with_front l.script.items (each step_in (items_view (drop l.index l.entries))) ≡ each step_in (items_view l.entries);
   sound : list_all is_sound l.script.items ≡ true;
 }

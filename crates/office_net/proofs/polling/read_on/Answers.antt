@@ -16,12 +16,12 @@ use Rattle.office_net.proofs.polling.read_on.Goals as goal
 pub bring-requires : goal.bring-requires
 bring-requires g c =
     let (bytes, frames, fed) = c.requires.fed in
-    let piece = take c.in_ok-count.count c.read_piece.new.piece in
+    let piece = take c.in_ok-count.count c.read_some.new.piece in
     let adds = c.in_ok-fed.ensures.stream bytes frames fed.frames_are in
     let few : 8 * (taken_of c.args.poll.now + length c.in_ok-fed.fed.frames.items) ≤ c.args.read + length piece =
     frames_few c.args.stream.now c.args.poll.now c.args.read bytes frames piece c.in_ok-fed.fed.frames.items c.in_ok-fed.fed.fault c.feed.new.self fed adds in
     record {
-      few = omega (arith, few, c.deref.ensures.value, ap length c.deref.ensures.value, c.requires.limit, length-take-le c.in_ok-count.count c.read_piece.new.piece (omega (arith, c.in_ok-count.ensures.some, c.min-most.ensures)), c.in_ok-count.ensures.some, c.min-most.ensures);
+      few = omega (arith, few, c.deref.ensures.value, ap length c.deref.ensures.value, c.requires.limit, length-take-le c.in_ok-count.count c.read_some.new.piece (omega (arith, c.in_ok-count.ensures.some, c.min-most.ensures)), c.in_ok-count.ensures.some, c.min-most.ensures);
       waits = c.requires.waits;
     }
 
@@ -36,7 +36,7 @@ returns-then-read-ge-MOST_READ-clause-cuts g c = λ clean bytes frames fed.
 pub returns-in_err-count-clause-cuts : goal.returns-in_err-count-clause-cuts
 returns-in_err-count-clause-cuts g c = λ clean bytes frames fed.
     let unread = g.R.Read.remaining (inner_of c.args.reader.now) in
-    let left = g.R.Read.remaining (inner_of c.read_piece.new.reader) in
+    let left = g.R.Read.remaining (inner_of c.read_some.new.reader) in
     let wrote = g.W.Write.contents (inner_of c.args.writer.now) in
     let e = c.in_err-count.field-0.0 in
     let line = c.in_err-count.ensures.failed.0 in
@@ -47,18 +47,18 @@ returns-in_err-count-clause-cuts g c = λ clean bytes frames fed.
 pub returns-in_err-fed-clause-cuts : goal.returns-in_err-fed-clause-cuts
 returns-in_err-fed-clause-cuts g c = λ clean bytes frames fed.
     let unread = g.R.Read.remaining (inner_of c.args.reader.now) in
-    let left = g.R.Read.remaining (inner_of c.read_piece.new.reader) in
+    let left = g.R.Read.remaining (inner_of c.read_some.new.reader) in
     let wrote = g.W.Write.contents (inner_of c.args.writer.now) in
     caused_so c.from_residual-in_err-fed.result _ Memory c.from_residual-in_err-fed.ensures.1
-    (cut_unfed _ c.args.poll.now c.args.stream.now c.args.read bytes frames unread left (take c.in_ok-count.count c.read_piece.new.piece) Memory fed c.in_ok-count.ensures.bytes
+    (cut_unfed _ c.args.poll.now c.args.stream.now c.args.read bytes frames unread left (take c.in_ok-count.count c.read_some.new.piece) Memory fed c.in_ok-count.ensures.bytes
     (λ rest. tt) (breaks_still c.args.office.now c.args.poll.now (NoneFailed c.args.writer.now c.args.writer.now) wrote Memory (λ now conn. tt)))
 
 pub returns-in_err-bring-clause-cuts : goal.returns-in_err-bring-clause-cuts
 returns-in_err-bring-clause-cuts g c = λ clean bytes frames fed.
     let e = c.in_err-bring.field-0.0 in
     caused_so c.from_residual-in_err-bring.result _ e c.from_residual-in_err-bring.ensures.1
-    (cut_in c.args.poll.now c.args.stream.now c.feed.new.self c.args.read 0 bytes frames (g.R.Read.remaining (inner_of c.args.reader.now)) (g.R.Read.remaining (inner_of c.read_piece.new.reader))
-    (take c.in_ok-count.count c.read_piece.new.piece) c.in_ok-fed.fed.frames.items c.in_ok-fed.fed.fault fed (c.in_ok-fed.ensures.stream bytes frames fed.frames_are) c.in_ok-count.ensures.bytes
+    (cut_in c.args.poll.now c.args.stream.now c.feed.new.self c.args.read 0 bytes frames (g.R.Read.remaining (inner_of c.args.reader.now)) (g.R.Read.remaining (inner_of c.read_some.new.reader))
+    (take c.in_ok-count.count c.read_some.new.piece) c.in_ok-fed.fed.frames.items c.in_ok-fed.fed.fault fed (c.in_ok-fed.ensures.stream bytes frames fed.frames_are) c.in_ok-count.ensures.bytes
     _ e (HasRisen (failures_of c.args.writer.now) (failures_of c.bring.new.writer)) (CauseFrom c.args.office.now c.bring.new.office) c.in_err-bring.ensures.cause
     (subst (BreaksIn _) c.deref.ensures.value (c.in_err-bring.ensures.goes clean)))
 
@@ -71,8 +71,8 @@ returns-in_err-judge_stream-clause-cuts g c = λ clean bytes frames fed.
     let wrote = g.W.Write.contents (inner_of c.args.writer.now) in
     let writes = g.W.Write.contents (inner_of c.bring.new.writer) in
     caused_so c.from_residual-in_err-judge_stream.result _ e c.from_residual-in_err-judge_stream.ensures.1
-    (cut_after c.args.poll.now c.args.stream.now c.feed.new.self c.args.read 0 bytes frames (g.R.Read.remaining (inner_of c.args.reader.now)) (g.R.Read.remaining (inner_of c.read_piece.new.reader))
-    (take c.in_ok-count.count c.read_piece.new.piece) c.in_ok-fed.fed.frames.items c.in_ok-fed.fed.fault fed (c.in_ok-fed.ensures.stream bytes frames fed.frames_are) c.in_ok-count.ensures.bytes
+    (cut_after c.args.poll.now c.args.stream.now c.feed.new.self c.args.read 0 bytes frames (g.R.Read.remaining (inner_of c.args.reader.now)) (g.R.Read.remaining (inner_of c.read_some.new.reader))
+    (take c.in_ok-count.count c.read_some.new.piece) c.in_ok-fed.fed.frames.items c.in_ok-fed.fed.fault fed (c.in_ok-fed.ensures.stream bytes frames fed.frames_are) c.in_ok-count.ensures.bytes
     _ e bad is c.requires.sound told
     (breaks_later old new c.args.poll.now c.bring.new.poll c.in_ok-fed.fed.frames.items (NoneFailed c.args.writer.now c.bring.new.writer) wrote writes e (frames_open e bad is)
     (subst (λ l. Handles old c.args.poll.now new c.bring.new.poll l wrote writes) c.deref.ensures.value (c.in_ok-bring.ensures.goes clean))))
@@ -80,11 +80,11 @@ returns-in_err-judge_stream-clause-cuts g c = λ clean bytes frames fed.
 pub returns-clause-takes : goal.returns-clause-takes
 returns-clause-takes g c = λ bytes frames fed.
     takes_whole c.args.poll.now c.args.stream.now c.feed.new.self c.args.read c.in_ok-count.count bytes frames
-    (g.R.Read.remaining (inner_of c.args.reader.now)) (g.R.Read.remaining (inner_of c.read_piece.new.reader)) (take c.in_ok-count.count c.read_piece.new.piece)
+    (g.R.Read.remaining (inner_of c.args.reader.now)) (g.R.Read.remaining (inner_of c.read_some.new.reader)) (take c.in_ok-count.count c.read_some.new.piece)
     c.in_ok-fed.fed.frames.items c.in_ok-fed.fed.fault fed (c.in_ok-fed.ensures.stream bytes frames fed.frames_are) c.in_ok-count.ensures.bytes
     (λ came. g.K.Neighbours.is_clean (keeper_of c.bring.new.office) → Handles c.args.office.now c.args.poll.now c.bring.new.office c.bring.new.poll came (g.W.Write.contents (inner_of c.args.writer.now)) (g.W.Write.contents (inner_of c.bring.new.writer)))
     c.bring.new.poll
     (λ clean. subst (λ l. Handles c.args.office.now c.args.poll.now c.bring.new.office c.bring.new.poll l (g.W.Write.contents (inner_of c.args.writer.now)) (g.W.Write.contents (inner_of c.bring.new.writer)))
     c.deref.ensures.value (c.in_ok-bring.ensures.goes clean))
-    (length-take-le c.in_ok-count.count c.read_piece.new.piece (omega (arith, c.in_ok-count.ensures.some, c.min-most.ensures)))
+    (length-take-le c.in_ok-count.count c.read_some.new.piece (omega (arith, c.in_ok-count.ensures.some, c.min-most.ensures)))
     (c.in_ok-bring.ensures.taken ∙ ap (λ n. taken_of c.args.poll.now + n) (ap length c.deref.ensures.value))

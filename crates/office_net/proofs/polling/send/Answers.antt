@@ -25,31 +25,31 @@ returns-in_err-query-clause-goes g c = λ clean.
     (c.loop-query.invariant.goes (c.next.ensures.clean clean)) (λ quiet. quiet)
     (breaks_refused c.loop-query.office c.next.new.office c.loop-query.poll c.next.new.self [] [] calm wrote c.in_err-query.field-0.0 (c.in_err-query.ensures.goes clean)))
 
-pub returns-in_err-write_query-clause-goes : goal.returns-in_err-write_query-clause-goes
-returns-in_err-write_query-clause-goes g c = λ clean.
+pub returns-in_err-write_frame-clause-goes : goal.returns-in_err-write_frame-clause-goes
+returns-in_err-write_frame-clause-goes g c = λ clean.
     let wrote = g.W.Write.contents (inner_of c.loop-query.writer) in
-    let writes = g.W.Write.contents (inner_of c.write_query.new.writer) in
-    let calm = NoneFailed c.args.writer.now c.write_query.new.writer in
-    let e = c.in_err-write_query.field-0.0 in
-    err_so c.from_residual-in_err-write_query.result _ _ e c.from_residual-in_err-write_query.ensures.1
+    let writes = g.W.Write.contents (inner_of c.write_frame.new.writer) in
+    let calm = NoneFailed c.args.writer.now c.write_frame.new.writer in
+    let e = c.in_err-write_frame.field-0.0 in
+    err_so c.from_residual-in_err-write_frame.result _ _ e c.from_residual-in_err-write_frame.ensures.1
     (breaks_after c.args.office.now c.loop-query.office c.next.new.office c.args.poll.now c.loop-query.poll c.next.new.self [] [] [] calm calm
     (g.W.Write.contents (inner_of c.args.writer.now)) wrote writes e
     (c.loop-query.invariant.goes (c.next.ensures.clean clean)) (λ quiet. quiet)
-    (breaks_written c.loop-query.office c.next.new.office c.loop-query.poll c.next.new.self (as_list c.in_ok-query.field-0) calm wrote writes e c.in_err-write_query.ensures.failed.0
+    (breaks_written c.loop-query.office c.next.new.office c.loop-query.poll c.next.new.self (as_list c.in_ok-query.field-0) calm wrote writes e c.in_err-write_frame.ensures.failed.0
     (c.in_ok-query.ensures.goes clean)
-    (risen_not_calm c.args.writer.now c.loop-query.writer c.write_query.new.writer c.loop-query.invariant.calm c.in_err-write_query.ensures.failed.1)))
+    (risen_not_calm c.args.writer.now c.loop-query.writer c.write_frame.new.writer c.loop-query.invariant.calm c.in_err-write_frame.ensures.failed.1)))
 
 pub loop-query-preserved : goal.loop-query-preserved
 loop-query-preserved g c = record {
   goes = λ clean.
       handles_then c.args.office.now c.loop-query.office c.next.new.office c.args.poll.now c.loop-query.poll c.next.new.self [] []
-      (g.W.Write.contents (inner_of c.args.writer.now)) (g.W.Write.contents (inner_of c.loop-query.writer)) (g.W.Write.contents (inner_of c.write_query.new.writer))
+      (g.W.Write.contents (inner_of c.args.writer.now)) (g.W.Write.contents (inner_of c.loop-query.writer)) (g.W.Write.contents (inner_of c.write_frame.new.writer))
       (c.loop-query.invariant.goes (c.next.ensures.clean clean))
       (handles_query c.loop-query.office c.next.new.office c.loop-query.poll c.next.new.self c.in-Some.query c.in_ok-query.field-0
-      (g.W.Write.contents (inner_of c.loop-query.writer)) (g.W.Write.contents (inner_of c.write_query.new.writer)) c.in-Some.is (c.in_ok-query.ensures.goes clean) c.in_ok-write_query.ensures.written);
+      (g.W.Write.contents (inner_of c.loop-query.writer)) (g.W.Write.contents (inner_of c.write_frame.new.writer)) c.in-Some.is (c.in_ok-query.ensures.goes clean) c.in_ok-write_frame.ensures.written);
   counted = omega (arith, c.loop-query.invariant.counted, c.next.ensures.counted);
   clean = λ clean. c.loop-query.invariant.clean (c.next.ensures.clean clean);
-  calm = c.in_ok-write_query.ensures.calm ∙ c.loop-query.invariant.calm;
+  calm = c.in_ok-write_frame.ensures.calm ∙ c.loop-query.invariant.calm;
   taken = c.next.ensures.taken ∙ c.loop-query.invariant.taken;
 }
 

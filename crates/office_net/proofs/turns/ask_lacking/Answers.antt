@@ -3,7 +3,7 @@ use Rattle.office_core.specs.declared.event.EventAnswer.TheVariants.{Refused}
 use Rattle.office_core.specs.History.{Ask}
 use Rattle.office_net.specs.Following.{Follows, MayLeave, TurnFails}
 use Rattle.office_net.specs.Moves.{turn_of}
-use Rattle.office_net.specs.declared.job.Job.TheVariants.{Read}
+use Rattle.office_net.specs.declared.job.LineJob.TheVariants.{Read}
 use Rattle.office_net.proofs.Called.{err_so}
 use Rattle.office_net.proofs.Turning.{then_fails}
 use Rattle.office_net.proofs.turns.ask_lacking.Goals as goal

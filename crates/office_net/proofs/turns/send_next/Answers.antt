@@ -3,7 +3,7 @@ use Rattle.office_core.specs.declared.event.EventAnswer.TheVariants.{Refused}
 use Rattle.office_core.specs.History.{Send}
 use Rattle.office_net.specs.Following.{Follows, MayLeave}
 use Rattle.office_net.specs.Moves.{next_order, turn_of}
-use Rattle.office_net.specs.declared.job.Job.TheVariants.{Order}
+use Rattle.office_net.specs.declared.job.LineJob.TheVariants.{Order}
 use Rattle.office_net.proofs.Called.{err_so}
 use Rattle.office_net.proofs.Turning.{number_found, then_fails}
 use Rattle.office_net.proofs.turns.send_next.Goals as goal

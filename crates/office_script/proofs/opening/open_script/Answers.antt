@@ -6,9 +6,10 @@ use Rattle.office_script.proofs.opening.open_script.Goals as goal
 
 pub loop-alloc-init : goal.loop-alloc-init
 loop-alloc-init c =
-    let lines : c.from_vec.result ≡ [] = c.from_vec.ensures ∙ c.new.ensures.items in
-    let devices : c.from_vec-2.result ≡ [] = c.from_vec-2.ensures ∙ c.new-2.ensures.items in
-    record { sound = nothing_sound c.from_vec.result c.from_vec-2.result lines devices; course = rw (lines, devices) refl; room = omega arith }
+    let lines : c.new.result.items ≡ [] = c.new.ensures.items in
+    let devices : c.new-2.result.items ≡ [] = c.new-2.ensures.items in
+    let empty = nothing_sound c.new.result.items c.new-2.result.items lines devices in
+    record { sound = subst (λ s. is_site s ≡ true) (sym c.new-site.ensures) empty; course = rw (c.new-site.ensures, lines, devices) refl; room = omega arith }
 
 pub returns-in_default : goal.returns-in_default
 returns-in_default c =

@@ -22,7 +22,7 @@ returns-in-Ok-clause-ok g c kept holds fresh clean now_open =
     let first : HasCleanDisk (state g.S.Store old) = subst (λ h. HasCleanDisk (state g.S.Store h)) begins clean_begun in
     let opened = c.requires.open first in
     let within = within_begun g.S.Store old begun last begins kept after (holds first opened) opened c.requires.live in
-    let last_within = c.in_default.ensures.put clean_last (state g.S.Store old).committed kept within fresh in
+    let last_within = c.in_ok-put_change.ensures.put clean_last (state g.S.Store old).committed kept within fresh in
     subst (λ h. IsHeld (state g.S.Store h) after) same (held_after g.S.Store old begun last begins kept after (state g.S.Store end) last_within (c.in-Ok.ensures.ok late).1)
 
 pub returns-in-Ok-clause-crash : goal.returns-in-Ok-clause-crash
@@ -40,7 +40,7 @@ returns-in-Ok-clause-crash g c clean kept holds fresh left may =
     let first : HasCleanDisk (state g.S.Store old) = subst (λ h. HasCleanDisk (state g.S.Store h)) begins clean_begun in
     let opened = c.requires.open first in
     let within = within_begun g.S.Store old begun last begins kept after (holds first opened) opened c.requires.live in
-    let last_within = c.in_default.ensures.put clean_last (state g.S.Store old).committed kept within fresh in
+    let last_within = c.in_ok-put_change.ensures.put clean_last (state g.S.Store old).committed kept within fresh in
     let at_end = subst (λ h. (state g.S.Store h).may_leave may.0) (sym same) may.1 in
     leaves g.S.Store old begun last begins kept after left may.0 last_within may.2 (elim (c.commit.ensures.survives.crash late may.0 at_end) [
       | inl was ↦ inl (c.put_change.ensures.survives.crash clean_last may.0 was)
@@ -62,14 +62,14 @@ returns-in-Ok-clause-durable g c clean kept holds fresh left may =
     let first : HasCleanDisk (state g.S.Store old) = subst (λ h. HasCleanDisk (state g.S.Store h)) begins clean_begun in
     let opened = c.requires.open first in
     let within = within_begun g.S.Store old begun last begins kept after (holds first opened) opened c.requires.live in
-    let last_within = c.in_default.ensures.put clean_last (state g.S.Store old).committed kept within fresh in
+    let last_within = c.in_ok-put_change.ensures.put clean_last (state g.S.Store old).committed kept within fresh in
     let shows = (c.in-Ok.ensures.ok late).1 in
     let sound : IsDatabase (state g.S.Store end).now = subst IsDatabase (sym shows.now_is) last_within.sound in
     let may_end = subst (λ h. MayLeave (state g.S.Store h) left) (sym same) may in
     leaves_commit g.S.Store end after left (λ db. g.met.S.Store.settled end.store db) shows.is_open sound (held_after g.S.Store old begun last begins kept after (state g.S.Store end) last_within shows) may_end
 
-pub returns-in-Err-commit-clause-err : goal.returns-in-Err-commit-clause-err
-returns-in-Err-commit-clause-err g c kept holds clean now_open =
+pub returns-in-Err-clause-err : goal.returns-in-Err-clause-err
+returns-in-Err-clause-err g c kept holds clean now_open =
     let old = c.args.connection.now in
     let begun = c.transaction-tx.result.conn.now in
     let last = c.put_change.new.tx.conn.now in
@@ -80,13 +80,13 @@ returns-in-Err-commit-clause-err g c kept holds clean now_open =
     let clean_begun : HasCleanDisk (state g.S.Store begun) = omega (arith, clean_last, c.put_change.ensures.survives.clean) in
     let begins = c.transaction-tx.ensures.begun in
     let first : HasCleanDisk (state g.S.Store old) = subst (λ h. HasCleanDisk (state g.S.Store h)) begins clean_begun in
-    let inside = c.in_default.ensures.inside clean_last (subst (λ h. IsTrue (state g.S.Store h).in_transaction) (sym begins) refl) in
+    let inside = c.in_ok-put_change.ensures.inside clean_last (subst (λ h. IsTrue (state g.S.Store h).in_transaction) (sym begins) refl) in
     let end_open = subst (λ h. IsTrue (state g.S.Store h).is_open) (sym same) now_open in
     subst (λ h. IsHeld (state g.S.Store h) kept) same
-    (held_still g.S.Store old begun last (state g.S.Store end) c.in-Err-commit.error kept begins (c.put_change.ensures.kept clean_last) inside (c.in-Err-commit.ensures.err late) end_open (holds first))
+    (held_still g.S.Store old begun last (state g.S.Store end) c.in-Err.error kept begins (c.put_change.ensures.kept clean_last) inside (c.in-Err.ensures.err late) end_open (holds first))
 
-pub returns-in-Err-commit-clause-crash : goal.returns-in-Err-commit-clause-crash
-returns-in-Err-commit-clause-crash g c clean kept holds fresh left may =
+pub returns-in-Err-clause-crash : goal.returns-in-Err-clause-crash
+returns-in-Err-clause-crash g c clean kept holds fresh left may =
     let old = c.args.connection.now in
     let begun = c.transaction-tx.result.conn.now in
     let last = c.put_change.new.tx.conn.now in
@@ -100,15 +100,15 @@ returns-in-Err-commit-clause-crash g c clean kept holds fresh left may =
     let first : HasCleanDisk (state g.S.Store old) = subst (λ h. HasCleanDisk (state g.S.Store h)) begins clean_begun in
     let opened = c.requires.open first in
     let within = within_begun g.S.Store old begun last begins kept after (holds first opened) opened c.requires.live in
-    let last_within = c.in_default.ensures.put clean_last (state g.S.Store old).committed kept within fresh in
+    let last_within = c.in_ok-put_change.ensures.put clean_last (state g.S.Store old).committed kept within fresh in
     let at_end = subst (λ h. (state g.S.Store h).may_leave may.0) (sym same) may.1 in
     leaves g.S.Store old begun last begins kept after left may.0 last_within may.2 (elim (c.commit.ensures.survives.crash late may.0 at_end) [
       | inl was ↦ inl (c.put_change.ensures.survives.crash clean_last may.0 was)
       | inr made ↦ inr made
     ])
 
-pub returns-in-Err-clause-crash : goal.returns-in-Err-clause-crash
-returns-in-Err-clause-crash g c clean kept holds fresh left may =
+pub returns-in_err-put_change-clause-crash : goal.returns-in_err-put_change-clause-crash
+returns-in_err-put_change-clause-crash g c clean kept holds fresh left may =
     let old = c.args.connection.now in
     let begun = c.transaction-tx.result.conn.now in
     let last = c.put_change.new.tx.conn.now in

@@ -1,5 +1,5 @@
 use Rattle.std.proofs.Common.{◌<◌, length, sym, arith}
-use Rattle.sunspec.proofs.Printable.{printable_more}
+use Rattle.sunspec.proofs.PrintableBytes.{printable_more}
 use Rattle.sunspec.proofs.shown.printable_text.Goals as goal
 
 pub loop-byte-preserved : goal.loop-byte-preserved

@@ -1,5 +1,0 @@
-use Rattle.std.proofs.Common.{length}
-use Rattle.mb_map.proofs.devices.+ids_differ.Given as goal
-
-abbrev pub decreases-ids_differ : goal.decreases-ids_differ
-decreases-ids_differ l = length l.devices.now
