@@ -1,5 +1,5 @@
 -- What the queries of the tables by number show.
-use Rattle.std.proofs.Common.{◌≡◌, ℕ, pos, negsuc, List, [], ◌∷◌, map, Bool, true, false, cond, ◌&&◌, ◌==◌, None, Some, Ok, Err, Option, Result, Vec, Global, IfOk, refl, sym, ap, ap₂, subst, ◌∙◌, codes, ◌^◌, option_map}
+use Rattle.std.proofs.Common.{◌≡◌, ℕ, pos, negsuc, List, [], ◌∷◌, map, Bool, true, false, cond, ◌&&◌, ◌==◌, None, Some, Ok, Err, Option, Result, Vec, Global, IfOk, refl, sym, ap, ap₂, subst, ◌∙◌, codes, ◌^◌, option_map, map-id}
 use Rattle.std.specs.List.{filter, list_all}
 use Rattle.std.specs.List.Sorted.{IsPermutation}
 use Rattle.std.specs.Ordering.{is_lt, nat_cmp, eq_by_cmp}
@@ -217,8 +217,8 @@ module _ (old new : State) (kept : Tables) (held : IsHeld old kept) (rows : List
   points_shown = as_points shown_point rows kept.points entries_shown
 
   -- and so do the points that are made of the rows
-  pub all_points : {E : Type 0} (made : Result (Vec PointRow Global) E) → IfOk made (λ points. map shown_point rows ≡ map Some points.items) → IfOk made (λ points. points.items ≡ kept.points)
-  all_points (Ok points) is = same_list points.items kept.points (sym is ∙ points_shown)
+  pub all_points : {E : Type 0} (made : Result (Vec PointRow Global) E) → IfOk made (λ points. map shown_point rows ≡ map Some (map (λ point. point) points.items)) → IfOk made (λ points. points.items ≡ kept.points)
+  all_points (Ok points) is = same_list points.items kept.points (sym (ap (map Some) (map-id points.items)) ∙ sym is ∙ points_shown)
   all_points (Err e) is = tt
 
 -- ---- a point by its number

@@ -75,3 +75,8 @@ held_still g old begun last new e kept begins keeps inside (inr late) now_open h
 pub leaves_dropped : {S : Type 0} (g : Ghosts S) (old begun : Held S) (left after : Tables) (db : Trees) → begun ≡ record old { in_transaction = true } → (IsOffice db → StandFor db left)
     → (state g begun).may_leave db → MayLeave (state g old) left ⊎ (left ≡ after)
 leaves_dropped g old begun left after db begins taken was = inl (db, subst (λ h. (state g h).may_leave db) begins was, taken)
+
+-- a change that isn't empty is put into an open store alone
+pub was_open : {S : Type 0} (g : Ghosts S) (old begun : Held S) → begun ≡ record old { in_transaction = true } → (empty : Type 0) → ¬ empty → empty ⊎ IsTrue (state g begun).is_open → IsTrue (state g old).is_open
+was_open g old begun begins empty filled (inl nothing) = absurd (filled nothing)
+was_open g old begun begins empty filled (inr opened) = subst (λ h. IsTrue (state g h).is_open) begins opened

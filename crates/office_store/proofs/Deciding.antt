@@ -4,9 +4,8 @@ use Rattle.std.specs.List.{AllByRecursion, IsDistinct}
 use Rattle.std.specs.List.Sorted.{IsPermutation}
 use Rattle.std.specs.FinMap.Entries as rows
 use Rattle.std.specs.declared.cmp.Ordering.{Ordering}
-use Rattle.std.specs.declared.cmp.Ordering.TheVariants.{Equal}
 use Rattle.std.specs.Ordering.{eq_by_cmp, nat_cmp}
-use Rattle.std.specs.Cmp.{IsTotalOrder, nat_cmp_total}
+use Rattle.std.specs.Cmp.{IsTotalOrder}
 use Rattle.std.specs.Coded.{Coded, coded_list}
 use Rattle.std.proofs.lemmas.Bool.{cases_Bool}
 use Rattle.std.proofs.lemmas.Bool.Decides.{nat_tests}
@@ -32,10 +31,10 @@ use Rattle.poll_book.specs.declared.rows.PointRow.{PointRow}
 use Rattle.office_store.specs.Schema.{office_schema, meta_tree, point_tree, reading_tree, setting_tree, request_tree}
 use Rattle.office_store.specs.Rows.{stored_point, stored_reading, stored_setting, stored_request}
 use Rattle.office_store.specs.Kept.{AreReadings, AreRequests, ArePoints, AreSettings, AreNumbers, IsOffice, StandFor, number_rows}
-use Rattle.office_store.proofs.ByKey.{requests_total, requests_exact}
+use Rattle.office_store.proofs.ByKey.{requests_total}
 use Rattle.office_store.proofs.Putting.{put_same}
 use Rattle.office_store.proofs.Showing.{same_list}
-use Rattle.office_store.proofs.Slots.{keys_total, keys_exact}
+use Rattle.office_store.proofs.Slots.{keys_total}
 use Rattle.office_store.proofs.Sorted.{T_true, distinct_again, keys_sorted}
 
 -- it is so, or it isn't

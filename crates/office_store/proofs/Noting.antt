@@ -1,5 +1,5 @@
 -- The orders that wait: the oldest of a device among them, and which of them wait once an order comes or is settled.
-use Rattle.std.proofs.Common.{◌≡◌, ℕ, ◌+◌, ◌<◌, List, [], ◌∷◌, ◌++◌, map, Bool, true, false, not, cond, Some, None, Option, refl, sym, ap, ap₂, subst, ◌∙◌, arith, T, find, take, drop, length, get_or}
+use Rattle.std.proofs.Common.{◌≡◌, ℕ, ◌+◌, ◌<◌, List, [], ◌∷◌, ◌++◌, map, Bool, true, false, not, cond, Some, None, refl, sym, ap, subst, ◌∙◌, arith, T, find, take, drop, length, get_or}
 use Rattle.std.specs.Option.{option_or}
 use Rattle.std.specs.Prelude.{◌&&◌, ◌==◌}
 use Rattle.std.specs.List.{AllByRecursion, filter}
@@ -16,7 +16,7 @@ use Rattle.poll_book.specs.declared.rows.PointRow.{PointRow}
 use Rattle.poll_book.specs.declared.rows.Setting.{Setting}
 use Rattle.poll_book.specs.declared.rows.SettingRow.{SettingRow}
 use Rattle.poll_book.specs.Changes.{IsNextOrSettledAs}
-use Rattle.poll_book.specs.Orders.{Settings, as_setting, is_of, is_waiting, last_order, oldest_waiting, point_at, waits_on, with_setting}
+use Rattle.poll_book.specs.Orders.{Settings, as_setting, is_of, is_waiting, last_order, oldest_waiting, point_at, with_setting}
 use Rattle.office_store.specs.Waiting.{AreByNumber, AreThose, is_other, waits, waiting_of}
 use Rattle.office_store.proofs.Appending.{below_next, less_is, put_last}
 use Rattle.office_store.proofs.Settling.{greater_is}

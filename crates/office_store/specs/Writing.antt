@@ -1,7 +1,8 @@
--- Tables inside a transaction.
-use Rattle.std.specs.Prelude.{◌≡◌, IsTrue}
+-- A change, and tables inside its transaction.
+use Rattle.std.specs.Prelude.{◌≡◌, [], None, IsTrue}
 use Rattle.sqlite.specs.Effect.{Database, IsDatabase}
 use Rattle.sqlite.specs.State.{State}
+use Rattle.poll_book.specs.declared.rows.Change.{Change}
 use Rattle.poll_book.specs.Tables.{Tables}
 use Rattle.office_store.specs.Schema.{office_schema}
 use Rattle.office_store.specs.Kept.{StandFor}
@@ -14,3 +15,11 @@ pub record Within (s : State) (base : Database) (kept : Tables) : Type 0 where
   pub committed : s.committed ≡ base
   pub sound : IsDatabase s.now
   pub stands : StandFor s.now.trees kept
+
+-- a change has no row and no number
+pub record IsEmpty (change : Change) : Type 0 where
+  pub points : change.points ≡ []
+  pub readings : change.readings ≡ []
+  pub setting : change.setting ≡ None
+  pub request : change.request ≡ None
+  pub connections : change.connections ≡ None

@@ -7,8 +7,8 @@ ghost use Rattle.sqlite.specs.State.{HasCleanDisk, IsLive, KeepsCommit, Survives
 ghost use Rattle.poll_book.specs.Tables as book;
 ghost use Rattle.poll_book.specs.Tables.{Tables};
 ghost use Rattle.poll_book.specs.Changes.{IsNew, applied};
-ghost use Rattle.office_store.specs.Kept.{Holds, MayLeave};
-ghost use Rattle.office_store.specs.Writing.{Within};
+ghost use Rattle.office_store.specs.Kept.{Holds, Keeps, MayLeave};
+ghost use Rattle.office_store.specs.Writing.{IsEmpty, Within};
 
 use crate::error::fault_of;
 use crate::numbers::last_connection;
@@ -23,7 +23,8 @@ use std::alloc::Global;
 
 /// Whether a change has no row and no number.
 fn is_empty(change: &Change) -> bool
-    ensures { (kept : Tables) → result ≡ true → applied change.now kept ≡ kept }
+    ensures same { (kept : Tables) → result ≡ true → applied change.now kept ≡ kept }
+    ensures filled { result ≡ false → ¬ IsEmpty change.now }
 {
     change.points.as_slice().is_empty()
         && change.readings.as_slice().is_empty()
@@ -42,6 +43,7 @@ fn put_change<S: Alter>(
         → IsNew change.now kept
         → OnOk result (Within (state S.Store tx.new.conn.now) base (applied change.now kept)) }
     ensures inside { HasCleanDisk (state S.Store tx.new.conn.now) → IsTrue (state S.Store tx.old.conn.now).in_transaction → OnOk result (IsTrue (state S.Store tx.new.conn.now).in_transaction) }
+    ensures opened { HasCleanDisk (state S.Store tx.new.conn.now) → IsTrue (state S.Store tx.old.conn.now).in_transaction → OnOk result (IsEmpty change.now ⊎ IsTrue (state S.Store tx.old.conn.now).is_open) }
     ensures kept { HasCleanDisk (state S.Store tx.new.conn.now) → KeepsCommit (state S.Store tx.old.conn.now) (state S.Store tx.new.conn.now) }
     ensures survives { Survives (state S.Store tx.old.conn.now) (state S.Store tx.new.conn.now) (λ _. ⊥) }
 {
@@ -52,7 +54,20 @@ fn put_change<S: Alter>(
     put_connections(tx, change.connections)
 }
 
-/// Writes a change in one transaction.
+/// Asks alone. A store that is shut tells so.
+fn write_nothing<S: Alter>(connection: &mut Connection<S>) -> Result<(), StoreFault>
+    requires { connection.old.in_transaction ≡ false }
+    ensures keeps { Keeps (state S.Store connection.old) (state S.Store connection.new) }
+    ensures durable { HasCleanDisk (state S.Store connection.new) → (kept : Tables) → Holds (state S.Store connection.old) kept
+        → OnOk result ((left : Tables) → MayLeave (state S.Store connection.new) left → left ≡ kept) }
+    ensures idle { connection.new.in_transaction ≡ false }
+{
+    last_connection(connection)?;
+    let _ = connection.schema();
+    Ok(())
+}
+
+/// Writes a change that isn't empty in one transaction.
 fn write<S: Alter>(
     alloc: Global,
     connection: &mut Connection<S>,
@@ -60,7 +75,7 @@ fn write<S: Alter>(
 ) -> Result<(), StoreFault>
     requires idle { connection.old.in_transaction ≡ false }
     requires live { IsLive (state S.Store connection.old) }
-    requires open { HasCleanDisk (state S.Store connection.old) → IsTrue (state S.Store connection.old).is_open }
+    requires filled { ¬ IsEmpty change.now }
     ensures ok { (kept : Tables) → Holds (state S.Store connection.old) kept → IsNew change.now kept → OnOk result (Holds (state S.Store connection.new) (applied change.now kept)) }
     ensures err { OnErr result (book.Within (Holds (state S.Store connection.old)) (Holds (state S.Store connection.new))) }
     ensures clean { HasCleanDisk (state S.Store connection.new) → HasCleanDisk (state S.Store connection.old) }
@@ -79,7 +94,7 @@ fn write<S: Alter>(
     }
 }
 
-/// Writes the whole change or nothing. A change of nothing is no transaction.
+/// Writes the whole change or nothing. An empty change is no transaction.
 pub(crate) fn apply<S: Alter>(
     alloc: Global,
     connection: &mut Connection<S>,
@@ -96,11 +111,9 @@ pub(crate) fn apply<S: Alter>(
         → OnOk result ((left : Tables) → MayLeave (state S.Store connection.new) left → left ≡ applied change.now kept) }
     ensures idle { connection.new.in_transaction ≡ false }
 {
-    // A store that is shut tells so, before and also without a write.
-    last_connection(connection)?;
-    let _ = connection.schema();
     if is_empty(change) {
-        return Ok(());
+        return write_nothing(connection);
     }
+    let _ = connection.schema();
     write(alloc, connection, change)
 }

@@ -6,6 +6,7 @@
 mod apply;
 mod ask;
 mod error;
+mod from_row;
 mod keeper;
 pub mod laws;
 mod making;

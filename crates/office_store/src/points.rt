@@ -1,6 +1,6 @@
 //! The table of points.
 
-ghost use Rattle.std.specs.Prelude.{◌≡◌, false, IfOk, Some, map, option_and_then};
+ghost use Rattle.std.specs.Prelude.{◌≡◌, false, IfOk, option_and_then};
 ghost use Rattle.sqlite.specs.Held.{state};
 ghost use Rattle.sqlite.specs.State.{HasCleanDisk};
 ghost use Rattle.sqlite_value.specs.Value.{owned};
@@ -14,6 +14,7 @@ ghost use Rattle.office_store.specs.Rows.{described, kind_of, number_below, role
 
 use crate::ask::ask;
 use crate::error::fault_of;
+use crate::from_row::{FromRow, all_of};
 use crate::values::{address_of, byte_of, long_of, number_of, small_of, value_at};
 use mb_pdu::Table;
 use point_list::{Label, Name, Point, Role};
@@ -107,14 +108,19 @@ fn point_of(row: &Row) -> Option<PointRow>
     Some(PointRow { number, point })
 }
 
-fn all_of(alloc: Global, rows: &Vec<Row>) -> Result<Vec<PointRow>, StoreFault>
-    ensures { IfOk result (λ points. map shown_point rows.now.items ≡ map Some points.items) }
-{
-    let mut points = Vec::new(alloc);
-    for row in rows {
-        points.push(point_of(row).ok_or(StoreFault::Other)?)?;
+impl FromRow for PointRow {
+    ghost use Rattle.poll_book.specs.declared.rows.PointRow.{PointRow};
+    ghost use Rattle.office_store.specs.Rows.{shown_point};
+
+    ghost Entry = { PointRow };
+
+    ghost as_entry = { λ point. point };
+
+    ghost shown = { shown_point };
+
+    fn from_row(_alloc: Global, row: &Row) -> Result<PointRow, StoreFault> {
+        point_of(row).ok_or(StoreFault::Other)
     }
-    Ok(points)
 }
 
 /// The points, by their numbers.

@@ -1,47 +1,47 @@
 //! The table of readings.
 
-ghost use Rattle.std.specs.Prelude.{◌≡◌, ◌≤◌, false, IfOk, IfSome, IsTrue, OnOk, Some, map};
+ghost use Rattle.std.specs.Prelude.{◌≡◌, ◌≤◌, false, IfOk, IfSome, IsTrue, OnOk};
 ghost use Rattle.sqlite.specs.Held.{state};
 ghost use Rattle.sqlite.specs.State.{HasCleanDisk};
 ghost use Rattle.poll_book.specs.Tables.{Tables, reading_at, readings_between};
 ghost use Rattle.poll_book.specs.Totals.{steps, total};
-ghost use Rattle.poll_book.specs.Changes.{as_row, as_rows};
+ghost use Rattle.poll_book.specs.Changes.{as_rows};
 ghost use Rattle.office_store.specs.Kept.{Holds, Keeps};
-ghost use Rattle.office_store.specs.Rows.{shown_reading};
 ghost use Rattle.office_store.specs.Counting.{number_in, numbers_in};
 
 use crate::ask::ask;
 use crate::error::fault_of;
+use crate::from_row::{FromRow, all_of};
 use crate::values::{flag_of, number_of, value_at, words_of};
 use point_list::Point;
 use poll_book::{PointRow, Reading, ReadingRow, StoreFault, counted_number, step_to};
 use sqlite::{Alter, Connection, Row, params};
 use std::alloc::Global;
 
-/// The reading that a row of an answer stands for.
-fn reading_of(alloc: Global, row: &Row) -> Result<ReadingRow, StoreFault>
-    ensures { IfOk result (λ reading. shown_reading row.now ≡ Some (as_row reading)) }
-{
-    let point = number_of(value_at(row, 0)).ok_or(StoreFault::Other)?;
-    let slot = number_of(value_at(row, 1)).ok_or(StoreFault::Other)?;
-    let words = words_of(alloc, value_at(row, 2))?;
-    let counted = flag_of(value_at(row, 3)).ok_or(StoreFault::Other)?;
-    Ok(ReadingRow {
-        point,
-        slot,
-        words,
-        counted,
-    })
-}
+impl FromRow for ReadingRow {
+    ghost use Rattle.poll_book.specs.declared.rows.Reading.{Reading};
+    ghost use Rattle.poll_book.specs.Changes.{as_row};
+    ghost use Rattle.poll_book.specs.Tables.{Key};
+    ghost use Rattle.office_store.specs.Rows.{shown_reading};
 
-fn all_of(alloc: Global, rows: &Vec<Row>) -> Result<Vec<ReadingRow>, StoreFault>
-    ensures { IfOk result (λ readings. map shown_reading rows.now.items ≡ map Some (as_rows readings.items)) }
-{
-    let mut readings = Vec::new(alloc);
-    for row in rows {
-        readings.push(reading_of(alloc, row)?)?;
+    ghost Entry = { Key × Reading };
+
+    ghost as_entry = { as_row };
+
+    ghost shown = { shown_reading };
+
+    fn from_row(alloc: Global, row: &Row) -> Result<ReadingRow, StoreFault> {
+        let point = number_of(value_at(row, 0)).ok_or(StoreFault::Other)?;
+        let slot = number_of(value_at(row, 1)).ok_or(StoreFault::Other)?;
+        let words = words_of(alloc, value_at(row, 2))?;
+        let counted = flag_of(value_at(row, 3)).ok_or(StoreFault::Other)?;
+        Ok(ReadingRow {
+            point,
+            slot,
+            words,
+            counted,
+        })
     }
-    Ok(readings)
 }
 
 /// The readings of a point in the slots from the one to the other, by slot.

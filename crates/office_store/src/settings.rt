@@ -1,17 +1,18 @@
 //! The table of settings.
 
-ghost use Rattle.std.specs.Prelude.{◌≡◌, false, IfOk, IsTrue, OnOk, Some, map};
+ghost use Rattle.std.specs.Prelude.{◌≡◌, false, IfOk, IsTrue, OnOk};
 ghost use Rattle.sqlite.specs.Held.{state};
 ghost use Rattle.sqlite.specs.State.{HasCleanDisk};
 ghost use Rattle.sqlite_value.specs.Value.{owned};
 ghost use Rattle.poll_book.specs.Tables.{Tables};
-ghost use Rattle.poll_book.specs.Orders.{as_setting, last_order, setting_at};
+ghost use Rattle.poll_book.specs.Orders.{last_order, setting_at};
 ghost use Rattle.office_store.specs.Kept.{Holds, Keeps};
-ghost use Rattle.office_store.specs.Rows.{shown_setting, state_of};
+ghost use Rattle.office_store.specs.Rows.{state_of};
 ghost use Rattle.office_store.specs.Waiting.{AreThose};
 
 use crate::ask::ask;
 use crate::error::fault_of;
+use crate::from_row::{FromRow, all_of};
 use crate::values::{byte_of, number_of, value_at, words_of};
 use poll_book::{OrderState, Setting, SettingRow, StoreFault};
 use sqlite::types::ValueRef;
@@ -31,30 +32,30 @@ fn state_of(state: ValueRef<'_>, code: ValueRef<'_>) -> Option<OrderState>
     }
 }
 
-/// The setting that a row of an answer stands for.
-fn setting_of(alloc: Global, row: &Row) -> Result<SettingRow, StoreFault>
-    ensures { IfOk result (λ setting. shown_setting row.now ≡ Some (as_setting setting)) }
-{
-    let number = number_of(value_at(row, 0)).ok_or(StoreFault::Other)?;
-    let point = number_of(value_at(row, 1)).ok_or(StoreFault::Other)?;
-    let words = words_of(alloc, value_at(row, 2))?;
-    let state = state_of(value_at(row, 3), value_at(row, 4)).ok_or(StoreFault::Other)?;
-    Ok(SettingRow {
-        number,
-        point,
-        words,
-        state,
-    })
-}
+impl FromRow for SettingRow {
+    ghost use Rattle.std.specs.Prelude.{ℕ};
+    ghost use Rattle.poll_book.specs.declared.rows.Setting.{Setting};
+    ghost use Rattle.poll_book.specs.Orders.{as_setting};
+    ghost use Rattle.office_store.specs.Rows.{shown_setting};
 
-fn all_of(alloc: Global, rows: &Vec<Row>) -> Result<Vec<SettingRow>, StoreFault>
-    ensures { IfOk result (λ settings. map shown_setting rows.now.items ≡ map Some (map as_setting settings.items)) }
-{
-    let mut settings = Vec::new(alloc);
-    for row in rows {
-        settings.push(setting_of(alloc, row)?)?;
+    ghost Entry = { ℕ × Setting };
+
+    ghost as_entry = { as_setting };
+
+    ghost shown = { shown_setting };
+
+    fn from_row(alloc: Global, row: &Row) -> Result<SettingRow, StoreFault> {
+        let number = number_of(value_at(row, 0)).ok_or(StoreFault::Other)?;
+        let point = number_of(value_at(row, 1)).ok_or(StoreFault::Other)?;
+        let words = words_of(alloc, value_at(row, 2))?;
+        let state = state_of(value_at(row, 3), value_at(row, 4)).ok_or(StoreFault::Other)?;
+        Ok(SettingRow {
+            number,
+            point,
+            words,
+            state,
+        })
     }
-    Ok(settings)
 }
 
 /// The orders that wait, by their numbers.
@@ -100,7 +101,7 @@ pub(crate) fn setting_at<S: Alter>(
     match rows.as_slice() {
         [] => Ok(None),
         [row] => {
-            let found = setting_of(*rows.allocator(), row)?;
+            let found = SettingRow::from_row(*rows.allocator(), row)?;
             Ok(Some(Setting {
                 point: found.point,
                 words: found.words,

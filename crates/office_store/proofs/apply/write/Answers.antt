@@ -4,7 +4,8 @@ use Rattle.sqlite.specs.Held.{state}
 use Rattle.sqlite.specs.State.{HasCleanDisk}
 use Rattle.poll_book.specs.Changes.{applied}
 use Rattle.office_store.specs.Kept.{IsHeld, MayLeave}
-use Rattle.office_store.proofs.Committing.{within_begun, held_after, held_still, leaves, leaves_commit, leaves_dropped}
+use Rattle.office_store.specs.Writing.{IsEmpty}
+use Rattle.office_store.proofs.Committing.{within_begun, held_after, held_still, leaves, leaves_commit, leaves_dropped, was_open}
 use Rattle.office_store.proofs.apply.write.Goals as goal
 
 pub returns-in-Ok-clause-ok : goal.returns-in-Ok-clause-ok
@@ -20,7 +21,8 @@ returns-in-Ok-clause-ok g c kept holds fresh clean now_open =
     let clean_begun : HasCleanDisk (state g.S.Store begun) = omega (arith, clean_last, c.put_change.ensures.survives.clean) in
     let begins = c.transaction-tx.ensures.begun in
     let first : HasCleanDisk (state g.S.Store old) = subst (λ h. HasCleanDisk (state g.S.Store h)) begins clean_begun in
-    let opened = c.requires.open first in
+    let inside = subst (λ h. IsTrue (state g.S.Store h).in_transaction) (sym begins) refl in
+    let opened = was_open g.S.Store old begun begins (IsEmpty c.args.change.now) c.requires.filled (c.in_ok-put_change.ensures.opened clean_last inside) in
     let within = within_begun g.S.Store old begun last begins kept after (holds first opened) opened c.requires.live in
     let last_within = c.in_ok-put_change.ensures.put clean_last (state g.S.Store old).committed kept within fresh in
     subst (λ h. IsHeld (state g.S.Store h) after) same (held_after g.S.Store old begun last begins kept after (state g.S.Store end) last_within (c.in-Ok.ensures.ok late).1)
@@ -38,7 +40,8 @@ returns-in-Ok-clause-crash g c clean kept holds fresh left may =
     let clean_begun : HasCleanDisk (state g.S.Store begun) = omega (arith, clean_last, c.put_change.ensures.survives.clean) in
     let begins = c.transaction-tx.ensures.begun in
     let first : HasCleanDisk (state g.S.Store old) = subst (λ h. HasCleanDisk (state g.S.Store h)) begins clean_begun in
-    let opened = c.requires.open first in
+    let inside = subst (λ h. IsTrue (state g.S.Store h).in_transaction) (sym begins) refl in
+    let opened = was_open g.S.Store old begun begins (IsEmpty c.args.change.now) c.requires.filled (c.in_ok-put_change.ensures.opened clean_last inside) in
     let within = within_begun g.S.Store old begun last begins kept after (holds first opened) opened c.requires.live in
     let last_within = c.in_ok-put_change.ensures.put clean_last (state g.S.Store old).committed kept within fresh in
     let at_end = subst (λ h. (state g.S.Store h).may_leave may.0) (sym same) may.1 in
@@ -60,7 +63,8 @@ returns-in-Ok-clause-durable g c clean kept holds fresh left may =
     let clean_begun : HasCleanDisk (state g.S.Store begun) = omega (arith, clean_last, c.put_change.ensures.survives.clean) in
     let begins = c.transaction-tx.ensures.begun in
     let first : HasCleanDisk (state g.S.Store old) = subst (λ h. HasCleanDisk (state g.S.Store h)) begins clean_begun in
-    let opened = c.requires.open first in
+    let inside = subst (λ h. IsTrue (state g.S.Store h).in_transaction) (sym begins) refl in
+    let opened = was_open g.S.Store old begun begins (IsEmpty c.args.change.now) c.requires.filled (c.in_ok-put_change.ensures.opened clean_last inside) in
     let within = within_begun g.S.Store old begun last begins kept after (holds first opened) opened c.requires.live in
     let last_within = c.in_ok-put_change.ensures.put clean_last (state g.S.Store old).committed kept within fresh in
     let shows = (c.in-Ok.ensures.ok late).1 in
@@ -98,7 +102,8 @@ returns-in-Err-clause-crash g c clean kept holds fresh left may =
     let clean_begun : HasCleanDisk (state g.S.Store begun) = omega (arith, clean_last, c.put_change.ensures.survives.clean) in
     let begins = c.transaction-tx.ensures.begun in
     let first : HasCleanDisk (state g.S.Store old) = subst (λ h. HasCleanDisk (state g.S.Store h)) begins clean_begun in
-    let opened = c.requires.open first in
+    let inside = subst (λ h. IsTrue (state g.S.Store h).in_transaction) (sym begins) refl in
+    let opened = was_open g.S.Store old begun begins (IsEmpty c.args.change.now) c.requires.filled (c.in_ok-put_change.ensures.opened clean_last inside) in
     let within = within_begun g.S.Store old begun last begins kept after (holds first opened) opened c.requires.live in
     let last_within = c.in_ok-put_change.ensures.put clean_last (state g.S.Store old).committed kept within fresh in
     let at_end = subst (λ h. (state g.S.Store h).may_leave may.0) (sym same) may.1 in
@@ -124,3 +129,42 @@ returns-in_err-put_change-clause-crash g c clean kept holds fresh left may =
       ]
       | inr none ↦ absurd none
     ]
+
+pub returns-in-Ok-clause-was_open : goal.returns-in-Ok-clause-was_open
+returns-in-Ok-clause-was_open g c clean now_open =
+    let old = c.args.connection.now in
+    let begun = c.transaction-tx.result.conn.now in
+    let last = c.put_change.new.tx.conn.now in
+    let end = c.commit.new.self.0 in
+    let same : end ≡ c.connection-2-1.given.0 = search rules in
+    let late : HasCleanDisk (state g.S.Store end) = subst (λ h. HasCleanDisk (state g.S.Store h)) (sym same) clean in
+    let clean_last : HasCleanDisk (state g.S.Store last) = omega (arith, late, c.commit.ensures.survives.clean) in
+    let end_open = subst (λ h. IsTrue (state g.S.Store h).is_open) (sym same) now_open in
+    let last_open = (c.in-Ok.ensures.ok late).1.was_open in
+    subst (λ h. IsTrue (state g.S.Store h).is_open) c.transaction-tx.ensures.begun ((c.put_change.ensures.kept clean_last).was_open last_open)
+
+pub returns-in-Err-clause-was_open : goal.returns-in-Err-clause-was_open
+returns-in-Err-clause-was_open g c clean now_open =
+    let old = c.args.connection.now in
+    let begun = c.transaction-tx.result.conn.now in
+    let last = c.put_change.new.tx.conn.now in
+    let end = c.commit.new.self.0 in
+    let same : end ≡ c.connection-2-1.given.0 = search rules in
+    let late : HasCleanDisk (state g.S.Store end) = subst (λ h. HasCleanDisk (state g.S.Store h)) (sym same) clean in
+    let clean_last : HasCleanDisk (state g.S.Store last) = omega (arith, late, c.commit.ensures.survives.clean) in
+    let end_open = subst (λ h. IsTrue (state g.S.Store h).is_open) (sym same) now_open in
+    let last_open : IsTrue (state g.S.Store last).is_open = elim (c.in-Err.ensures.err late) [ inl fails ↦ fails.3.was_open end_open | inr ended ↦ ended.2.0.was_open ] in
+    subst (λ h. IsTrue (state g.S.Store h).is_open) c.transaction-tx.ensures.begun ((c.put_change.ensures.kept clean_last).was_open last_open)
+
+pub returns-in_err-put_change-clause-was_open : goal.returns-in_err-put_change-clause-was_open
+returns-in_err-put_change-clause-was_open g c clean now_open =
+    let old = c.args.connection.now in
+    let begun = c.transaction-tx.result.conn.now in
+    let last = c.put_change.new.tx.conn.now in
+    let end = c.drop-tx.new.self.0 in
+    let same : end ≡ c.connection-1.given.0 = search rules in
+    let late : HasCleanDisk (state g.S.Store end) = subst (λ h. HasCleanDisk (state g.S.Store h)) (sym same) clean in
+    let clean_last : HasCleanDisk (state g.S.Store last) = omega (arith, late, c.drop-tx.ensures.survives.clean) in
+    let end_open = subst (λ h. IsTrue (state g.S.Store h).is_open) (sym same) now_open in
+    let last_open = (c.drop-tx.ensures.undone late).was_open end_open in
+    subst (λ h. IsTrue (state g.S.Store h).is_open) c.transaction-tx.ensures.begun ((c.put_change.ensures.kept clean_last).was_open last_open)

@@ -16,4 +16,4 @@ returns-in-Ok-clause-value g c clean kept holds =
     let rows = c.in-Ok.rows.items in
     let shown = c.in-Ok.ensures.rows clean in
     let held = holds (c.ask.ensures.keeps.clean clean) (after_ok points_text [] old new points_is_query rows shown).0.was_open in
-    by.all_points old new kept held rows shown c.all_of.result c.all_of.ensures
+    by.all_points old new kept held rows shown c.all_of.result (rw c.deref.ensures.value at c.all_of.ensures)

@@ -17,7 +17,7 @@ returns-in-Ok-clause-value g c clean kept holds =
     let shown = rw (c.params-to_sql.ensures, c.params-to_sql-2.ensures, c.params-to_sql-3.ensures) at (c.in-Ok.ensures.rows clean) in
     let keys = given c.args.point c.args.from c.args.to in
     let held = holds (c.ask.ensures.keeps.clean clean) (after_ok readings_text keys old new readings_is_query rows shown).0.was_open in
-    all_between c.args.point c.args.from c.args.to old new kept held rows shown c.all_of.result c.all_of.ensures
+    all_between c.args.point c.args.from c.args.to old new kept held rows shown c.all_of.result (rw c.deref.ensures.value at c.all_of.ensures)
 
 pub returns-in-Ok-clause-open : goal.returns-in-Ok-clause-open
 returns-in-Ok-clause-open g c clean =

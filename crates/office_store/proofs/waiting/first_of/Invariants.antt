@@ -1,4 +1,4 @@
-use Rattle.std.proofs.Common.{◌≡◌, None, Option, false, find, map, take, ℕ}
+use Rattle.std.proofs.Common.{◌≡◌, None, false, find, map, take, ℕ}
 use Rattle.sqlite.specs.Held.{state}
 use Rattle.sqlite.specs.State.{HasCleanDisk}
 use Rattle.poll_book.specs.Tables.{Tables}

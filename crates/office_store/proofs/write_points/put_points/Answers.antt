@@ -1,6 +1,7 @@
 use Rattle.std.proofs.lemmas.List.{take_all}
 use Rattle.std.proofs.Common.{◌≡◌, ◌<◌, ◌++◌, List, inl, length, take, append-nil, refl, sym, subst, ◌∙◌, arith}
 use Rattle.sqlite.specs.Held.{state}
+use Rattle.sqlite.specs.State.{HasCleanDisk}
 use Rattle.sqlite.proofs.StateLemmas.{survives_then}
 use Rattle.poll_book.specs.declared.rows.PointRow.{PointRow}
 use Rattle.office_store.specs.Writing.{Within}
@@ -13,6 +14,7 @@ loop-row-init g c = record {
   survives = record { clean = omega arith; shield = λ x. x; counts = omega arith; limit = refl; closes = λ clean now_open. inl now_open; crash = λ clean db may. inl may };
   kept = λ clean. record { was_open = λ now_open. now_open; committed = λ now_open. refl };
   inside = λ clean inside. inside;
+  opened = λ clean inside some. absurd (omega arith);
   put = λ clean base kept within numbered. subst (λ (points : List PointRow). Within (state g.S.Store c.args.tx.now.conn.now) base (record kept { points = points })) (sym (append-nil kept.points)) within;
 }
 
@@ -35,6 +37,9 @@ loop-row-preserved g c =
           let b = made.kept clean in
           record { was_open = λ now_open. a.was_open (b.was_open now_open); committed = λ now_open. b.committed now_open ∙ a.committed (b.was_open now_open) };
       inside = λ clean inside. made.inside clean (past.inside (omega (arith, clean, made.survives.clean)) inside);
+      opened = λ clean inside some.
+          let earlier : HasCleanDisk before = omega (arith, clean, made.survives.clean) in
+          (past.kept earlier).was_open (made.opened clean (past.inside earlier inside));
       put = λ clean base kept within numbered.
           let it = past.put (omega (arith, clean, made.survives.clean)) base kept within numbered in
           let put = made.put clean base (record kept { points = kept.points ++ take i points }) it (all_below kept.points points i row in_range c.row-item.is numbered) in

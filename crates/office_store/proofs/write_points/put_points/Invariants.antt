@@ -1,4 +1,4 @@
-use Rattle.std.proofs.Common.{◌≡◌, ◌++◌, IsTrue, take}
+use Rattle.std.proofs.Common.{◌≡◌, ◌<◌, ◌++◌, IsTrue, take}
 use Rattle.sqlite.specs.Effect.{Database}
 use Rattle.sqlite.specs.Held.{state}
 use Rattle.sqlite.specs.State.{HasCleanDisk, KeepsCommit, Survives}
@@ -16,5 +16,6 @@ invariant-loop-row g l =
       survives : Survives start now (λ _. ⊥);
       kept : HasCleanDisk now → KeepsCommit start now;
       inside : HasCleanDisk now → IsTrue start.in_transaction → IsTrue now.in_transaction;
+      opened : HasCleanDisk now → IsTrue start.in_transaction → 0 < l.row-index → IsTrue start.is_open;
       put : HasCleanDisk now → (base : Database) (kept : Tables) → Within start base kept → AreNumbered 0 (kept.points ++ l.points) → Within now base (record kept { points = kept.points ++ take l.row-index l.points });
     }

@@ -1,6 +1,7 @@
 use Rattle.std.proofs.Common.{◌≡◌, ℕ, suc, ◌-◌, List, [], ◌∷◌, drop, length, inl, refl, sym, ap, subst, ◌∙◌, arith, drop_of_length-le}
 use Rattle.std.proofs.Math.Seq.{drop-cons}
 use Rattle.sqlite.specs.Held.{state}
+use Rattle.sqlite.specs.State.{HasCleanDisk}
 use Rattle.sqlite.proofs.StateLemmas.{survives_then}
 use Rattle.poll_book.specs.declared.rows.ReadingRow.{ReadingRow}
 use Rattle.poll_book.specs.Tables.{with_rows}
@@ -15,6 +16,7 @@ loop-left-init g c = record {
   survives = record { clean = omega arith; shield = λ x. x; counts = omega arith; limit = refl; closes = λ clean now_open. inl now_open; crash = λ clean db may. inl may };
   kept = λ clean. record { was_open = λ now_open. now_open; committed = λ now_open. refl };
   inside = λ clean inside. inside;
+  opened = λ clean inside some. absurd (omega arith);
   in_range = omega arith;
   put = λ clean base kept within fresh.
       let rows = c.args.rows.now in
@@ -42,6 +44,9 @@ loop-left-preserved g c =
           let b = made.kept clean in
           record { was_open = λ now_open. a.was_open (b.was_open now_open); committed = λ now_open. b.committed now_open ∙ a.committed (b.was_open now_open) };
       inside = λ clean inside. made.inside clean (past.inside (omega (arith, clean, made.survives.clean)) inside);
+      opened = λ clean inside some.
+          let earlier : HasCleanDisk before = omega (arith, clean, made.survives.clean) in
+          (past.kept earlier).was_open (made.opened clean (past.inside earlier inside));
       in_range = omega (arith, past.in_range);
       put = λ clean base kept within fresh.
           let it = past.put (omega (arith, clean, made.survives.clean)) base kept within fresh in

@@ -1,4 +1,4 @@
-use Rattle.std.proofs.Common.{◌≡◌, ◌≤◌, IsTrue, drop, length}
+use Rattle.std.proofs.Common.{◌≡◌, ◌<◌, ◌≤◌, IsTrue, drop, length}
 use Rattle.sqlite.specs.Effect.{Database}
 use Rattle.sqlite.specs.Held.{state}
 use Rattle.sqlite.specs.State.{HasCleanDisk, KeepsCommit, Survives}
@@ -16,6 +16,7 @@ invariant-loop-left g l =
       survives : Survives start now (λ _. ⊥);
       kept : HasCleanDisk now → KeepsCommit start now;
       inside : HasCleanDisk now → IsTrue start.in_transaction → IsTrue now.in_transaction;
+      opened : HasCleanDisk now → IsTrue start.in_transaction → l.left < length l.rows → IsTrue start.is_open;
       in_range : l.left ≤ length l.rows;
       put : HasCleanDisk now → (base : Database) (kept : Tables) → Within start base kept → AreNew kept.readings (as_rows l.rows) → Within now base (record kept { readings = with_rows (as_rows (drop l.left l.rows)) kept.readings });
     }

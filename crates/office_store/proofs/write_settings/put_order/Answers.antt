@@ -1,4 +1,4 @@
-use Rattle.std.proofs.Common.{sym, subst}
+use Rattle.std.proofs.Common.{inr, sym, subst}
 use Rattle.poll_book.specs.Changes.{IsNextOrSettled, with_order}
 use Rattle.office_store.proofs.SettingStates.{next_of, settled_of}
 use Rattle.office_store.specs.Writing.{Within}
@@ -16,6 +16,7 @@ pub returns-in_ok-settle-in_default-state : goal.returns-in_ok-settle-in_default
 returns-in_ok-settle-in_default-state g c = record {
   same_reference = c.settle.ensures.same_reference;
   inside = c.in_ok-settle-in_default-state.ensures.inside;
+  opened = λ clean inside. inr (c.in_ok-settle-in_default-state.ensures.opened clean inside);
   kept = c.settle.ensures.kept;
   survives = c.settle.ensures.survives;
   put = λ clean base kept within next.

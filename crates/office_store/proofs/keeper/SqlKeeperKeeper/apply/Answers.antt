@@ -1,4 +1,4 @@
-use Rattle.std.proofs.Common.{◌≡◌, Bool, Err, Ok, OnErr, OnOk, Result, false, refl, sym, subst, true, ◌∙◌}
+use Rattle.std.proofs.Common.{◌≡◌, Err, Ok, OnErr, OnOk, Result, false, refl, sym, subst, true, ◌∙◌}
 use Rattle.std.specs.Prelude.{is_ok}
 use Rattle.sqlite.specs.Held.{state}
 use Rattle.poll_book.specs.Tables.{Tables, Within}
