@@ -1,7 +1,7 @@
 //! Reading a list of 10,000 points and a site of 64 lines and 256 devices, loading the list twice, and
 //! planning the reads of 10,000 points: spread out, and each inside strings that begin sooner.
 use crate::office::{HEADER, begun, load, site};
-use crate::pace::{granted, print_each, refused, timed};
+use crate::pace::{granted, print_each, timed};
 use mb_pdu::Table;
 use office_core::Office;
 use point_list::{Label, Name, Point, Role, Site, read_list};
@@ -68,17 +68,25 @@ fn measure_loads(rt: &HostRuntime, office: &mut Office<MemKeeper>, text: &str) -
     Ok(())
 }
 
-pub fn lists(rt: &HostRuntime) -> io::Result<()> {
-    let text = site_text(rt.alloc())?;
-    let (site, took) = timed!(rt, site(rt.alloc(), text.as_str()));
-    let Some(site) = site else {
-        return Err(refused());
-    };
+/// Prints how long the site's reading takes, and that of the list over it.
+fn measure_readings(rt: &HostRuntime, text: &str, list: &str) -> io::Result<()> {
+    let (site, took) = timed!(rt, site(rt.alloc(), text));
+    let site = granted(site)?;
     let micros = took.as_micros();
     println!(rt; "a site of {LINES} lines and {DEVICES} devices read in {micros} us")?;
+    measure_list(rt, &site, list)
+}
+
+/// An office of the site of a text.
+fn office_of(alloc: Global, text: &str) -> Option<Office<MemKeeper>> {
+    begun(alloc, MemKeeper::new(alloc), site(alloc, text)?)
+}
+
+pub fn lists(rt: &HostRuntime) -> io::Result<()> {
+    let text = site_text(rt.alloc())?;
     let list = list_text(rt.alloc())?;
-    measure_list(rt, &site, list.as_str())?;
-    let mut office = granted(begun(rt.alloc(), MemKeeper::new(rt.alloc()), site))?;
+    measure_readings(rt, text.as_str(), list.as_str())?;
+    let mut office = granted(office_of(rt.alloc(), text.as_str()))?;
     measure_loads(rt, &mut office, list.as_str())
 }
 

@@ -9,7 +9,7 @@
 
 use crate::store::Place;
 use anyhow::{Result, bail};
-use std::env;
+use std::{env, io};
 
 mod lists;
 mod modbus;
@@ -23,29 +23,37 @@ mod store;
 const WORDS: &str =
     "units frames map lists plans office orders store store-pages store-file waiting serve serve-list poll-file open-file script script-1000";
 
+/// What a measure of this name did; `None` where there is none of it.
+fn measured(rt: &HostRuntime, word: &str) -> Option<io::Result<()>> {
+    Some(match word {
+        "units" => modbus::units(rt),
+        "frames" => modbus::frames(rt),
+        "map" => modbus::map(rt),
+        "lists" => lists::lists(rt),
+        "plans" => lists::plans(rt),
+        "office" => office::readings(rt),
+        "orders" => office::orders(rt),
+        "store" => store::look_ups(rt, Place::Memory, Place::Memory),
+        "store-pages" => store::look_ups(rt, Place::Pages, Place::Pages),
+        "store-file" => {
+            store::look_ups(rt, Place::File("bench-10.db"), Place::File("bench-100.db"))
+        }
+        "waiting" => store::searches(rt),
+        "serve" => serving::measure(rt),
+        "serve-list" => serving::lists(rt),
+        "poll-file" => store::polling(rt),
+        "open-file" => store::opening(rt),
+        "script" => script::write(rt, 100),
+        "script-1000" => script::write(rt, 1_000),
+        _ => return None,
+    })
+}
+
 fn main(rt: HostRuntime) -> Result<()> {
     for word in env::args(&rt)?.skip(1) {
-        match word.as_str() {
-            "units" => modbus::units(&rt)?,
-            "frames" => modbus::frames(&rt)?,
-            "map" => modbus::map(&rt)?,
-            "lists" => lists::lists(&rt)?,
-            "plans" => lists::plans(&rt)?,
-            "office" => office::readings(&rt)?,
-            "orders" => office::orders(&rt)?,
-            "store" => store::look_ups(&rt, Place::Memory, Place::Memory)?,
-            "store-pages" => store::look_ups(&rt, Place::Pages, Place::Pages)?,
-            "store-file" => {
-                store::look_ups(&rt, Place::File("bench-10.db"), Place::File("bench-100.db"))?;
-            }
-            "waiting" => store::searches(&rt)?,
-            "serve" => serving::measure(&rt)?,
-            "serve-list" => serving::lists(&rt)?,
-            "poll-file" => store::polling(&rt)?,
-            "open-file" => store::opening(&rt)?,
-            "script" => script::write(&rt, 100)?,
-            "script-1000" => script::write(&rt, 1_000)?,
-            other => bail!("no measure '{other}'; there are: {WORDS}"),
+        match measured(&rt, word.as_str()) {
+            Some(done) => done?,
+            None => bail!("no measure '{word}'; there are: {WORDS}"),
         }
     }
     Ok(())

@@ -122,11 +122,21 @@ fn answers(mapping: &mut Mapping, request: &Unit) -> u64 {
     bytes
 }
 
-pub fn map(rt: &HostRuntime) -> io::Result<()> {
-    let mut mapping = granted(Mapping::new(rt.alloc(), 0, 0, 1000, 0).ok())?;
-    let set = mapping.set(Table::Holding, 107, 555);
-    let request = granted(Unit::from_bytes(REQUESTS[0]))?;
-    let (bytes, took) = timed!(rt, answers(&mut mapping, &request));
+/// A device of 1,000 registers, of which one isn't 0.
+fn mapping(alloc: Global) -> Option<Mapping> {
+    let mut mapping = Mapping::new(alloc, 0, 0, 1000, 0).ok()?;
+    mapping.set(Table::Holding, 107, 555);
+    Some(mapping)
+}
+
+fn measure_answers(rt: &HostRuntime, mapping: &mut Mapping, request: &Unit) -> io::Result<()> {
+    let (bytes, took) = timed!(rt, answers(mapping, request));
     print_each(rt, "read of 125 registers answered", ROUNDS, took)?;
-    println!(rt; "{bytes} bytes answered, register set: {set}")
+    println!(rt; "{bytes} bytes answered")
+}
+
+pub fn map(rt: &HostRuntime) -> io::Result<()> {
+    let request = granted(Unit::from_bytes(REQUESTS[0]))?;
+    let mut mapping = granted(mapping(rt.alloc()))?;
+    measure_answers(rt, &mut mapping, &request)
 }

@@ -171,21 +171,25 @@ impl Work {
         }
     }
 
-    /// Prints how long it takes over an empty keeper, for each of what it is called, and gives the keeper.
-    pub fn measured<K: Keeper + Drop>(self, rt: &HostRuntime, keeper: K) -> io::Result<K> {
-        let list = self.list(rt.alloc())?;
-        let mut office = granted(loaded(rt.alloc(), keeper, list.as_str()))?;
-        let (done, took) = timed!(rt, self.done(rt.alloc(), &mut office));
+    /// An office over an empty keeper that knows its points.
+    fn begun<K: Keeper + Drop>(self, alloc: Global, keeper: K) -> Option<Office<K>> {
+        loaded(alloc, keeper, self.list(alloc).ok()?.as_str())
+    }
+
+    /// Prints how long it takes, for each of what it is called.
+    fn measure<K: Keeper>(self, rt: &HostRuntime, office: &mut Office<K>) -> io::Result<()> {
+        let (done, took) = timed!(rt, self.done(rt.alloc(), office));
         granted(done)?;
         match self {
-            Work::Slots(slots) => print_each(rt, "reading", POINTS.wrapping_mul(slots), took)?,
-            Work::Orders(count) => print_each(
-                rt,
-                "event of an order",
-                count.wrapping_mul(3),
-                took,
-            )?,
+            Work::Slots(slots) => print_each(rt, "reading", POINTS.wrapping_mul(slots), took),
+            Work::Orders(count) => print_each(rt, "event of an order", count.wrapping_mul(3), took),
         }
+    }
+
+    /// Measures it over an empty keeper, and gives the keeper.
+    pub fn measured<K: Keeper + Drop>(self, rt: &HostRuntime, keeper: K) -> io::Result<K> {
+        let mut office = granted(self.begun(rt.alloc(), keeper))?;
+        self.measure(rt, &mut office)?;
         Ok(office.into_keeper())
     }
 }

@@ -66,13 +66,25 @@ fn measure_round<K: Keeper>(
     Ok(took)
 }
 
-/// Prints how long a round of each of two slots takes over an empty keeper, each with its connection, and
-/// tells the last.
+/// Prints how long a round of each of two slots takes, each with its connection, and tells the last.
+fn measure_rounds<K: Keeper>(
+    rt: &HostRuntime,
+    office: &mut Office<K>,
+    mapping: &mut Mapping,
+) -> io::Result<Duration> {
+    measure_round(rt, office, mapping, 1)?;
+    measure_round(rt, office, mapping, 2)
+}
+
+/// An office over an empty keeper that knows the counters.
+fn begun<K: Keeper + Drop>(alloc: Global, keeper: K) -> Option<Office<K>> {
+    let list = counters(alloc, u32::from(QUANTITY), u32::from(STRIDE)).ok()?;
+    loaded(alloc, keeper, list.as_str())
+}
+
 pub fn measure<K: Keeper + Drop>(rt: &HostRuntime, keeper: K) -> io::Result<Duration> {
-    let list = counters(rt.alloc(), u32::from(QUANTITY), u32::from(STRIDE))?;
     // So many registers hold all blocks.
     let mut mapping = granted(Mapping::new(rt.alloc(), 0, 0, 10_000, 0).ok())?;
-    let mut office = granted(loaded(rt.alloc(), keeper, list.as_str()))?;
-    measure_round(rt, &mut office, &mut mapping, 1)?;
-    measure_round(rt, &mut office, &mut mapping, 2)
+    let mut office = granted(begun(rt.alloc(), keeper))?;
+    measure_rounds(rt, &mut office, &mut mapping)
 }

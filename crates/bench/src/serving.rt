@@ -100,12 +100,16 @@ fn exchange_all<K: Keeper>(
     Ok(())
 }
 
+fn measure_serving<K: Keeper>(rt: &HostRuntime, office: &mut Office<K>) -> io::Result<()> {
+    let ((), took) = timed!(rt, exchange_all(rt, office, Asked::Total, TOTALS)?);
+    print_each(rt, "total served", TOTALS, took)?;
+    let ((), took) = timed!(rt, exchange_all(rt, office, Asked::Order, ORDERS)?);
+    print_each(rt, "order served", ORDERS, took)
+}
+
 pub fn measure(rt: &HostRuntime) -> io::Result<()> {
     let mut office = granted(office_of(rt.alloc()))?;
-    let ((), took) = timed!(rt, exchange_all(rt, &mut office, Asked::Total, TOTALS)?);
-    print_each(rt, "total served", TOTALS, took)?;
-    let ((), took) = timed!(rt, exchange_all(rt, &mut office, Asked::Order, ORDERS)?);
-    print_each(rt, "order served", ORDERS, took)
+    measure_serving(rt, &mut office)
 }
 
 /// So many lists are put.
@@ -157,13 +161,21 @@ fn load_all<K: Keeper>(alloc: Global, office: &mut Office<K>, list: &str) -> io:
 }
 
 /// Puts a list over HTTP, in the pieces in which `serve_one` reads it, and loads it without.
+fn measure_lists<K: Keeper>(
+    rt: &HostRuntime,
+    office: &mut Office<K>,
+    list: &str,
+) -> io::Result<()> {
+    let bytes = list.len();
+    println!(rt; "a list of {bytes} bytes")?;
+    let ((), took) = timed!(rt, put_all(rt.alloc(), office, list)?);
+    print_each(rt, "list served", LISTS, took)?;
+    let ((), took) = timed!(rt, load_all(rt.alloc(), office, list)?);
+    print_each(rt, "list loaded", LISTS, took)
+}
+
 pub fn lists(rt: &HostRuntime) -> io::Result<()> {
     let list = long_list(rt.alloc())?;
     let mut office = granted(loaded(rt.alloc(), MemKeeper::new(rt.alloc()), LIST))?;
-    let bytes = list.len();
-    println!(rt; "a list of {bytes} bytes")?;
-    let ((), took) = timed!(rt, put_all(rt.alloc(), &mut office, list.as_str())?);
-    print_each(rt, "list served", LISTS, took)?;
-    let ((), took) = timed!(rt, load_all(rt.alloc(), &mut office, list.as_str())?);
-    print_each(rt, "list loaded", LISTS, took)
+    measure_lists(rt, &mut office, list.as_str())
 }

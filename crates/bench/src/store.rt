@@ -27,8 +27,6 @@ pub enum Place {
 pub enum Task {
     /// Readings of so many slots are kept, and each point is looked up in some of them.
     LookUp(u32),
-    /// So many orders are settled, and one that waits is searched for.
-    Search(u32),
     /// Two rounds are polled.
     Poll,
     /// Readings of so many slots are kept.
@@ -53,42 +51,61 @@ fn kept<S: Alter + Drop>(mut connection: Connection<S>, is_new: bool) -> Option<
     SqlKeeper::open(connection).ok()
 }
 
+fn fill<K: Keeper + Drop>(rt: &HostRuntime, keeper: K, slots: u32) -> io::Result<Duration> {
+    let (_keeper, took) = timed!(rt, Work::Slots(slots).measured(rt, keeper)?);
+    Ok(took)
+}
+
+fn done<K: Keeper + Drop>(rt: &HostRuntime, keeper: K, task: Task) -> io::Result<Duration> {
+    match task {
+        Task::LookUp(slots) => look_up(rt, keeper, slots),
+        Task::Poll => measure(rt, keeper),
+        Task::Fill(slots) => fill(rt, keeper, slots),
+        Task::Open(start) => open(rt, keeper, start),
+    }
+}
+
+// A call over any keeper is dear where the keeper is a database's, so there is one.
 fn done_over<S: Alter + Drop>(
     rt: &HostRuntime,
     connection: Connection<S>,
     task: Task,
 ) -> io::Result<Duration> {
     let keeper = granted(kept(connection, !matches!(task, Task::Open(_))))?;
-    match task {
-        Task::LookUp(slots) => look_up(rt, keeper, slots),
-        Task::Search(count) => search(rt, keeper, count),
-        Task::Poll => measure(rt, keeper),
-        Task::Fill(slots) => {
-            let (_keeper, took) = timed!(rt, Work::Slots(slots).measured(rt, keeper)?);
-            Ok(took)
-        }
-        Task::Open(start) => open(rt, keeper, start),
+    done(rt, keeper, task)
+}
+
+fn done_in_memory(rt: &HostRuntime, task: Task) -> io::Result<Duration> {
+    match Connection::open_in_memory(rt.alloc()) {
+        Ok(connection) => done_over(rt, connection, task),
+        Err(_) => Err(refused()),
+    }
+}
+
+fn done_in_pages(rt: &HostRuntime, task: Task) -> io::Result<Duration> {
+    let files = Files {
+        log: Memory::new(rt.alloc()),
+        db: Memory::new(rt.alloc()),
+    };
+    match Connection::open_files(rt.alloc(), files, PAGES) {
+        Ok(connection) => done_over(rt, connection, task),
+        Err(_) => Err(refused()),
+    }
+}
+
+fn done_in_file(rt: &HostRuntime, path: &str, task: Task) -> io::Result<Duration> {
+    match Connection::open(rt, path) {
+        Ok(connection) => done_over(rt, connection, task),
+        Err(_) => Err(refused()),
     }
 }
 
 /// Does something with a database, which is new but to be opened. Tells how long the last of it took.
 fn done_in(rt: &HostRuntime, place: Place, task: Task) -> io::Result<Duration> {
     match place {
-        Place::Memory => done_over(rt, Connection::open_in_memory(rt.alloc())?, task),
-        Place::Pages => {
-            let files = Files {
-                log: Memory::new(rt.alloc()),
-                db: Memory::new(rt.alloc()),
-            };
-            match Connection::open_files(rt.alloc(), files, PAGES) {
-                Ok(connection) => done_over(rt, connection, task),
-                Err(_) => Err(refused()),
-            }
-        }
-        Place::File(path) => match Connection::open(rt, path) {
-            Ok(connection) => done_over(rt, connection, task),
-            Err(_) => Err(refused()),
-        },
+        Place::Memory => done_in_memory(rt, task),
+        Place::Pages => done_in_pages(rt, task),
+        Place::File(path) => done_in_file(rt, path, task),
     }
 }
 
@@ -108,14 +125,22 @@ fn found<K: Keeper>(keeper: &mut K, points: &[PointRow]) -> u32 {
     found
 }
 
+fn measure_look_ups<K: Keeper>(
+    rt: &HostRuntime,
+    keeper: &mut K,
+    points: &[PointRow],
+) -> io::Result<Duration> {
+    let (found, took) = timed!(rt, found(keeper, points));
+    let count = POINTS.wrapping_mul(LOOKUPS);
+    print_each(rt, "look-up by key", count, took)?;
+    granted((found == count).then_some(took))
+}
+
 /// Prints how long the readings of so many slots take, and look-ups among them, and tells the latter.
 fn look_up<K: Keeper + Drop>(rt: &HostRuntime, keeper: K, slots: u32) -> io::Result<Duration> {
     let mut keeper = Work::Slots(slots).measured(rt, keeper)?;
     let points = granted(keeper.points(rt.alloc()).ok())?;
-    let (found, took) = timed!(rt, found(&mut keeper, points.as_slice()));
-    let count = POINTS.wrapping_mul(LOOKUPS);
-    print_each(rt, "look-up by key", count, took)?;
-    granted((found == count).then_some(took))
+    measure_look_ups(rt, &mut keeper, &points)
 }
 
 /// Prints how a look-up among ten times the readings compares.
@@ -139,25 +164,34 @@ fn find_none<K: Keeper>(keeper: &mut K, times: u32) -> Option<()> {
     Some(())
 }
 
-/// Prints how long so many orders take, and the searches of a keeper that has made none.
-fn search<S: Alter + Drop>(
+/// Prints how long the searches take of a keeper that has made none, where so many orders are settled.
+fn measure_searches<K: Keeper>(
     rt: &HostRuntime,
-    keeper: SqlKeeper<S>,
+    keeper: &mut K,
     count: u32,
 ) -> io::Result<Duration> {
+    let (first, took) = timed!(rt, find_none(keeper, 1));
+    print_each(rt, "first search, for each settled order", count, took)?;
+    let (others, took) = timed!(rt, find_none(keeper, AGAIN));
+    print_each(rt, "search again", AGAIN, took)?;
+    granted(first.and(others).map(|()| took))
+}
+
+/// Prints how long so many orders take over new tables, and searches behind them.
+fn search<S: Alter + Drop>(
+    rt: &HostRuntime,
+    connection: Connection<S>,
+    count: u32,
+) -> io::Result<Duration> {
+    let keeper = granted(kept(connection, true))?;
     let keeper = Work::Orders(count).measured(rt, keeper)?;
     let mut keeper = granted(kept(keeper.into_connection(), false))?;
-    let (first, took) = timed!(rt, find_none(&mut keeper, 1));
-    print_each(rt, "first search, for each settled order", count, took)?;
-    let (others, took) = timed!(rt, find_none(&mut keeper, AGAIN));
-    print_each(rt, "search again", AGAIN, took)?;
-    granted(first.and(others))?;
-    Ok(took)
+    measure_searches(rt, &mut keeper, count)
 }
 
 pub fn searches(rt: &HostRuntime) -> io::Result<()> {
     for count in [1_000u32, 10_000] {
-        done_in(rt, Place::Memory, Task::Search(count))?;
+        search(rt, Connection::open_in_memory(rt.alloc())?, count)?;
     }
     Ok(())
 }

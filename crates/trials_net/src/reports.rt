@@ -63,14 +63,29 @@ fn told(trial: &Trial<'_>, reported: &Reported, ended: Result<bool, ReportFault>
     trial.told(&text, &reported.text.as_slice(), &text.as_bytes());
 }
 
-fn writers_fail(trial: &Trial<'_>) -> Result<(), OfficeError> {
-    let alloc = trial.alloc();
-    let mut office = read_office(alloc, MemKeeper::new(alloc))?;
+fn each_write_fails(trial: &Trial<'_>, office: &mut Office<MemKeeper>) -> Result<(), OfficeError> {
     for writes in 0..4usize {
-        let reported = report_of(alloc, &mut office, writes)?;
+        let reported = report_of(trial.alloc(), office, writes)?;
         let written = REPORT.get(..writes * 16).unwrap_or("");
         told(trial, &reported, Err(ReportFault::Write), written);
     }
+    Ok(())
+}
+
+fn writers_fail(trial: &Trial<'_>) -> Result<(), OfficeError> {
+    let mut office = read_office(trial.alloc(), MemKeeper::new(trial.alloc()))?;
+    each_write_fails(trial, &mut office)
+}
+
+/// Expects how a report ends that is written at once, and its text.
+fn is_reported<K: Keeper>(
+    trial: &Trial<'_>,
+    office: &mut Office<K>,
+    ended: Result<bool, ReportFault>,
+    text: &str,
+) -> Result<(), OfficeError> {
+    let reported = report_of(trial.alloc(), office, 1000)?;
+    told(trial, &reported, ended, text);
     Ok(())
 }
 
@@ -80,19 +95,20 @@ fn calls(alloc: Global) -> Result<u32, OfficeError> {
     Ok(read_office(alloc, keeper)?.into_keeper().calls)
 }
 
+fn is_told_again(
+    trial: &Trial<'_>,
+    office: &mut Office<Refusing>,
+    fault: StoreFault,
+) -> Result<(), OfficeError> {
+    is_reported(trial, office, Err(ReportFault::Store(fault)), "")?;
+    is_reported(trial, office, Ok(true), REPORT)
+}
+
 /// Refuses the call of this number, which a report makes, and asks for the report again.
 fn is_refused(trial: &Trial<'_>, at: u32, fault: StoreFault) -> Result<(), OfficeError> {
     let alloc = trial.alloc();
     let mut office = read_office(alloc, Refusing::new(alloc, at, fault))?;
-    let refused = report_of(alloc, &mut office, 1000)?;
-    told(trial, &refused, Err(ReportFault::Store(fault)), "");
-    told(
-        trial,
-        &report_of(alloc, &mut office, 1000)?,
-        Ok(true),
-        REPORT,
-    );
-    Ok(())
+    is_told_again(trial, &mut office, fault)
 }
 
 fn stores_refuse(trial: &Trial<'_>) -> Result<(), OfficeError> {
@@ -111,6 +127,15 @@ fn first_report(alloc: Global) -> Result<(Office<MemKeeper>, Reported), OfficeEr
     Ok((office, reported))
 }
 
+/// Expects the whole report, or that it was refused for want of memory and that nothing is written.
+fn is_whole_or_refused(trial: &Trial<'_>, first: &Reported) {
+    if let Err(ReportFault::Memory | ReportFault::Store(StoreFault::Memory)) = first.ended {
+        trial.told(&"memory", &first.text.is_empty(), &true);
+    } else {
+        told(trial, first, Ok(true), REPORT);
+    }
+}
+
 /// Run under `rt try --test --fail-alloc N`, this one sees each allocation of a report refused.
 fn refused_memory(trial: &Trial<'_>) -> Result<(), OfficeError> {
     let alloc = trial.alloc();
@@ -118,18 +143,8 @@ fn refused_memory(trial: &Trial<'_>) -> Result<(), OfficeError> {
         Ok(first) => first,
         Err(_) => first_report(alloc)?,
     };
-    if let Err(ReportFault::Memory | ReportFault::Store(StoreFault::Memory)) = first.ended {
-        trial.told(&"memory", &first.text.is_empty(), &true);
-    } else {
-        told(trial, &first, Ok(true), REPORT);
-    }
-    told(
-        trial,
-        &report_of(alloc, &mut office, 1000)?,
-        Ok(true),
-        REPORT,
-    );
-    Ok(())
+    is_whole_or_refused(trial, &first);
+    is_reported(trial, &mut office, Ok(true), REPORT)
 }
 
 fn all(trial: &Trial<'_>) -> Result<(), OfficeError> {

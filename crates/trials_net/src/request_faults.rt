@@ -80,10 +80,15 @@ fn a_writer_fails(trial: &Trial<'_>, writes: usize) -> Result<(), OfficeError> {
     is_ended(trial, &mut office, writes, Err(ServeFault::Write))
 }
 
-fn all(trial: &Trial<'_>) -> Result<(), OfficeError> {
+/// Readers that fail, and then one that doesn't.
+fn readers(trial: &Trial<'_>) -> Result<(), OfficeError> {
     let mut office = office_of(trial.alloc())?;
     readers_fail(trial, &mut office)?;
-    is_ended(trial, &mut office, 9, Ok(Served))?;
+    is_ended(trial, &mut office, 9, Ok(Served))
+}
+
+fn all(trial: &Trial<'_>) -> Result<(), OfficeError> {
+    readers(trial)?;
     for writes in 0..9 {
         a_writer_fails(trial, writes)?;
     }

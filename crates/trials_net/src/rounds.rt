@@ -56,9 +56,10 @@ const REPLIES: &[u8] = &[
 ];
 
 /// All come in one piece, so the last is taken too, though the round is settled by then.
-fn one_piece_is_taken_whole(trial: &Trial<'_>) -> Result<(), OfficeError> {
-    let alloc = trial.alloc();
-    let mut office = office_of(alloc)?;
+fn one_piece_is_taken_whole(
+    trial: &Trial<'_>,
+    office: &mut Office<MemKeeper>,
+) -> Result<(), OfficeError> {
     let conn = office.open_line("roof")?;
     let round = Round {
         asked: 3,
@@ -66,50 +67,51 @@ fn one_piece_is_taken_whole(trial: &Trial<'_>) -> Result<(), OfficeError> {
         excepted: 1,
         refused: 3,
     };
-    let told = ended(alloc, &mut office, conn, REPLIES, 1000);
+    let told = ended(trial.alloc(), office, conn, REPLIES, 1000);
     trial.told(&"one piece", &told, &Ok(round));
     Ok(())
 }
 
-fn writers_fail(trial: &Trial<'_>) -> Result<(), OfficeError> {
-    let alloc = trial.alloc();
-    let mut office = office_of(alloc)?;
+fn writers_fail(trial: &Trial<'_>, office: &mut Office<MemKeeper>) -> Result<(), OfficeError> {
     for writes in 0..3 {
         let conn = office.open_line("roof")?;
-        let told = ended(alloc, &mut office, conn, &[], writes);
+        let told = ended(trial.alloc(), office, conn, &[], writes);
         trial.told(&writes, &told, &Err(PollFault::Line));
     }
     Ok(())
 }
 
-fn closed_connections_are_told(trial: &Trial<'_>) -> Result<(), OfficeError> {
-    let alloc = trial.alloc();
-    let mut office = office_of(alloc)?;
-    let never = ended(alloc, &mut office, Conn::new(7), &[], 1000);
+fn closed_connections_are_told(
+    trial: &Trial<'_>,
+    office: &mut Office<MemKeeper>,
+) -> Result<(), OfficeError> {
+    let never = ended(trial.alloc(), office, Conn::new(7), &[], 1000);
     trial.told(&"never opened", &never, &Err(PollFault::Closed));
     let former = office.open_line("roof")?;
     let _ = office.open_line("roof")?;
-    let closed = ended(alloc, &mut office, former, &[], 1000);
+    let closed = ended(trial.alloc(), office, former, &[], 1000);
     trial.told(&"closed", &closed, &Err(PollFault::Closed));
     Ok(())
 }
 
-fn noise_ends_a_round(trial: &Trial<'_>) -> Result<(), OfficeError> {
-    let alloc = trial.alloc();
-    let mut office = office_of(alloc)?;
+fn noise_ends_a_round(
+    trial: &Trial<'_>,
+    office: &mut Office<MemKeeper>,
+) -> Result<(), OfficeError> {
     let conn = office.open_line("roof")?;
     let mut reader = Counted::new(Noise);
-    let mut writer = Counted::new(Vec::new(alloc));
-    let ended = poll_round(alloc, &mut office, conn, 5, &mut reader, &mut writer);
+    let mut writer = Counted::new(Vec::new(trial.alloc()));
+    let ended = poll_round(trial.alloc(), office, conn, 5, &mut reader, &mut writer);
     trial.told(&"noise", &ended, &Err(PollFault::Noise));
     Ok(())
 }
 
 fn all(trial: &Trial<'_>) -> Result<(), OfficeError> {
-    one_piece_is_taken_whole(trial)?;
-    writers_fail(trial)?;
-    closed_connections_are_told(trial)?;
-    noise_ends_a_round(trial)
+    let alloc = trial.alloc();
+    one_piece_is_taken_whole(trial, &mut office_of(alloc)?)?;
+    writers_fail(trial, &mut office_of(alloc)?)?;
+    closed_connections_are_told(trial, &mut office_of(alloc)?)?;
+    noise_ends_a_round(trial, &mut office_of(alloc)?)
 }
 
 #[test]

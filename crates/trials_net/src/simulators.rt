@@ -26,18 +26,39 @@ fn is_ended(trial: &Trial<'_>, ended: Result<(), Failure>, expected: Fault) -> R
     Ok(())
 }
 
-fn all(trial: &Trial<'_>) -> Result<(), Fault> {
-    let alloc = trial.alloc();
-    let mut sim = sim(alloc)?;
+/// How a line ends whose reply can't be written.
+fn unprinted(alloc: Global, sim: &mut Sim) -> Result<(), Failure> {
     let mut line = Counted::new(b"00 00 00 00 00 02 11 07\n".as_slice());
     let mut full = Counted::new(Outgoing::new(alloc, 0));
-    let unprinted = answer_lines(alloc, &mut sim, &mut line, &mut full);
-    is_ended(trial, unprinted.map_err(Failure::from), Fault::File)?;
+    answer_lines(alloc, sim, &mut line, &mut full).map_err(Failure::from)
+}
+
+/// How a stream without end ends.
+fn noise(alloc: Global, sim: &mut Sim) -> Result<(), Failure> {
     let mut noisy = Counted::new(Noise);
-    let noise = answer_stream(alloc, &mut sim, &mut noisy, &mut Counted::new(io::sink()));
-    is_ended(trial, noise, Fault::Noise)?;
-    let unsent = answer_stream(alloc, &mut sim, &mut noisy, &mut full);
-    is_ended(trial, unsent, Fault::Line)
+    answer_stream(alloc, sim, &mut noisy, &mut Counted::new(io::sink()))
+}
+
+/// How a stream ends whose replies can't be written.
+fn unsent(alloc: Global, sim: &mut Sim) -> Result<(), Failure> {
+    let mut noisy = Counted::new(Noise);
+    answer_stream(
+        alloc,
+        sim,
+        &mut noisy,
+        &mut Counted::new(Outgoing::new(alloc, 0)),
+    )
+}
+
+fn are_ended(trial: &Trial<'_>, sim: &mut Sim) -> Result<(), Fault> {
+    is_ended(trial, unprinted(trial.alloc(), sim), Fault::File)?;
+    is_ended(trial, noise(trial.alloc(), sim), Fault::Noise)?;
+    is_ended(trial, unsent(trial.alloc(), sim), Fault::Line)
+}
+
+fn all(trial: &Trial<'_>) -> Result<(), Fault> {
+    let mut sim = sim(trial.alloc())?;
+    are_ended(trial, &mut sim)
 }
 
 #[test]

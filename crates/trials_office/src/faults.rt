@@ -93,23 +93,40 @@ fn take_all_as(
     Ok(refused)
 }
 
+/// Whether an office was refused once, as it began or by an event.
+fn is_once(begun: Option<OfficeError>, refused: u32, fault: StoreFault) -> bool {
+    match begun {
+        None => refused == 1,
+        Some(error) => refused == 0 && error == OfficeError::Store(fault),
+    }
+}
+
 /// Takes the events, of which one meets the refusal, or the office's beginning does. Another number of
 /// refusals is told as an error: it can be of memory refused to the test.
+fn refuse_once(
+    trial: &Trial<'_>,
+    twin: &mut Office<MemKeeper>,
+    events: &[Event],
+    at: u32,
+    fault: StoreFault,
+) -> Result<(), OfficeError> {
+    let (mut office, error) = refusing_office(trial.alloc(), at, fault)?;
+    let refused = take_all_as(trial, &mut office, twin, events, fault)?;
+    if is_once(error, refused, fault) {
+        Ok(())
+    } else {
+        Err(OfficeError::Exhausted)
+    }
+}
+
 fn is_refused_once(
     trial: &Trial<'_>,
     events: &[Event],
     at: u32,
     fault: StoreFault,
 ) -> Result<(), OfficeError> {
-    let alloc = trial.alloc();
-    let mut twin = office_over(alloc, MemKeeper::new(alloc))?;
-    let (mut office, error) = refusing_office(alloc, at, fault)?;
-    let refused = take_all_as(trial, &mut office, &mut twin, events, fault)?;
-    match (error, refused) {
-        (None, 1) => Ok(()),
-        (Some(OfficeError::Store(told)), 0) if told == fault => Ok(()),
-        _ => Err(OfficeError::Exhausted),
-    }
+    let mut twin = office_over(trial.alloc(), MemKeeper::new(trial.alloc()))?;
+    refuse_once(trial, &mut twin, events, at, fault)
 }
 
 fn answer_all(office: &mut Office<Refusing>, events: &[Event]) {
@@ -160,22 +177,45 @@ fn used_keeper(alloc: Global) -> Result<MemKeeper, OfficeError> {
     Ok(office.into_keeper())
 }
 
+fn is_refused_for(
+    trial: &Trial<'_>,
+    office: &mut Office<MemKeeper>,
+    happens: &Happens,
+    error: OfficeError,
+) -> Result<(), OfficeError> {
+    let told = take_happening(trial.alloc(), office, happens)?;
+    trial.told(&error, &told, &EventAnswer::Refused(error));
+    Ok(())
+}
+
+fn is_numbered(
+    trial: &Trial<'_>,
+    office: &mut Office<MemKeeper>,
+    number: u32,
+) -> Result<(), OfficeError> {
+    trial.told(&"number", &opened(office, "roof")?, &number);
+    Ok(())
+}
+
 /// Expects that an office over a used keeper has its points and readings, and no connection.
 fn is_begun(trial: &Trial<'_>, office: &mut Office<MemKeeper>) -> Result<(), OfficeError> {
     trial.told(&"points", &office.points().len(), &4);
     trial.told(&"devices", &office.site().devices.len(), &2);
     trial.told(&"reading", &has_words(office, "a", 5, &[555])?, &true);
-    let late = take_happening(trial.alloc(), office, &Arrive(2, 0, 17, THREE))?;
-    let refused = EventAnswer::Refused(OfficeError::NoConnection);
-    trial.told(&"late", &late, &refused);
-    let unnamed = EventAnswer::Refused(OfficeError::WrongLine);
-    let line = take_happening(trial.alloc(), office, &Open(""))?;
-    trial.told(&"no line", &line, &unnamed);
     trial.told(&"order", &state(office, 1)?, &Some(OrderState::Done));
-    trial.told(&"number", &opened(office, "roof")?, &3);
-    let device = take_happening(trial.alloc(), office, &Ask(3, "", 1, (3, 107, 3)))?;
-    trial.told(&"no device", &device, &unnamed);
-    Ok(())
+    let late = Arrive(2, 0, 17, THREE);
+    is_refused_for(trial, office, &late, OfficeError::NoConnection)?;
+    is_refused_for(trial, office, &Open(""), OfficeError::WrongLine)?;
+    is_numbered(trial, office, 3)?;
+    let unnamed = Ask(3, "", 1, (3, 107, 3));
+    is_refused_for(trial, office, &unnamed, OfficeError::WrongLine)
+}
+
+/// The keeper of such an office.
+fn begun_keeper(trial: &Trial<'_>) -> Result<MemKeeper, OfficeError> {
+    let mut office = office_over(trial.alloc(), used_keeper(trial.alloc())?)?;
+    is_begun(trial, &mut office)?;
+    Ok(office.into_keeper())
 }
 
 /// The keeper that an office of another site gives back.
@@ -188,12 +228,9 @@ fn given_back(alloc: Global, keeper: MemKeeper) -> Result<MemKeeper, OfficeError
 }
 
 fn goes_on(trial: &Trial<'_>) -> Result<(), OfficeError> {
-    let alloc = trial.alloc();
-    let mut office = office_over(alloc, used_keeper(alloc)?)?;
-    is_begun(trial, &mut office)?;
-    let mut last = office_over(alloc, given_back(alloc, office.into_keeper())?)?;
-    trial.told(&"number", &opened(&mut last, "roof")?, &4);
-    Ok(())
+    let keeper = given_back(trial.alloc(), begun_keeper(trial)?)?;
+    let mut last = office_over(trial.alloc(), keeper)?;
+    is_numbered(trial, &mut last, 4)
 }
 
 #[test]

@@ -1,7 +1,7 @@
 //! An office beside the slow model.
 use crate::draws::{Chance, SLOTS, draw};
 use crate::events::event_of;
-use crate::model::{Book, Given, Placed, Row, total};
+use crate::model::{Book, Given, Happened, Placed, Row, total};
 use office_core::{Arrival, EventAnswer, Office, OfficeError};
 use office_plays::builders::office_over;
 use office_plays::steps::{rows, state, take, total as total_of};
@@ -118,6 +118,18 @@ impl Taken {
 // The office and the book are made in one function and used in another, by reference: each early
 // exit of a function that owns them has to be proved to give back all that they hold.
 
+/// Expects the book's answer to what happens, and gives it.
+fn happen<K: Keeper>(
+    trial: &Trial<'_>,
+    office: &mut Office<K>,
+    book: &mut Book,
+    happened: Happened,
+) -> Result<EventAnswer, OfficeError> {
+    let told = take(office, &event_of(trial.alloc(), happened)?)?;
+    trial.told(&happened, &told, &book.happen(happened)?);
+    Ok(told)
+}
+
 /// Expects each answer of an office, and its tables after each where what is taken is counted.
 fn go<K: Keeper>(
     trial: &Trial<'_>,
@@ -129,8 +141,7 @@ fn go<K: Keeper>(
     let mut chance = Chance { state: seed };
     for place in 0..EVENTS {
         let happened = draw(trial.alloc(), &mut chance, book, place)?;
-        let told = take(office, &event_of(trial.alloc(), happened)?)?;
-        trial.told(&happened, &told, &book.happen(happened)?);
+        let told = happen(trial, office, book, happened)?;
         if let Some(taken) = &mut taken {
             taken.count(&told);
             are_tables(trial, office, book)?;

@@ -41,11 +41,22 @@ fn twin(alloc: Global) -> Result<Office<MemKeeper>, OfficeError> {
     office_over(alloc, MemKeeper::new(alloc))
 }
 
+fn take_beside_twin<K: Keeper>(
+    trial: &Trial<'_>,
+    office: &mut Office<K>,
+) -> Result<(), OfficeError> {
+    let mut twin = twin(trial.alloc())?;
+    take_all(trial, office, &mut twin)
+}
+
+fn stored_calls(trial: &Trial<'_>) -> Result<(), OfficeError> {
+    let mut office = office_over(trial.alloc(), stored(trial.alloc())?)?;
+    take_beside_twin(trial, &mut office)
+}
+
 fn refused_calls(trial: &Trial<'_>) -> Result<(), OfficeError> {
-    let alloc = trial.alloc();
-    take_all(trial, &mut twin(alloc)?, &mut twin(alloc)?)?;
-    let mut office = office_over(alloc, stored(alloc)?)?;
-    take_all(trial, &mut office, &mut twin(alloc)?)
+    take_beside_twin(trial, &mut twin(trial.alloc())?)?;
+    stored_calls(trial)
 }
 
 /// Run under `rt try --test --fail-alloc N`, this one sees each allocation of a call refused.
@@ -89,11 +100,19 @@ fn are_answers(
     Ok(())
 }
 
+fn run_answers(trial: &Trial<'_>, events: &[Event]) -> Result<Vec<EventAnswer>, OfficeError> {
+    let mut office = twin(trial.alloc())?;
+    answers(trial, &mut office, events)
+}
+
+fn is_run(trial: &Trial<'_>, events: &[Event]) -> Result<(), OfficeError> {
+    let answers = run_answers(trial, events)?;
+    are_answers(trial, &answers, events, &mut twin(trial.alloc())?)
+}
+
 fn refused_run(trial: &Trial<'_>) -> Result<(), OfficeError> {
-    let alloc = trial.alloc();
-    let events = events_of(alloc, HAPPENINGS)?;
-    let answers = answers(trial, &mut twin(alloc)?, &events)?;
-    are_answers(trial, &answers, &events, &mut twin(alloc)?)
+    let events = events_of(trial.alloc(), HAPPENINGS)?;
+    is_run(trial, &events)
 }
 
 #[test]

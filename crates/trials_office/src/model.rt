@@ -9,7 +9,7 @@ use poll_match::Conn;
 use std::alloc::Global;
 
 /// A point of device m1 in the holding registers. A counter rolls after 999.
-#[derive(Clone, Copy, Debug, PartialEq, Eq)]
+#[derive(Clone, Copy, PartialEq)]
 pub(crate) struct Row {
     pub(crate) name: &'static str,
     pub(crate) address: u16,
@@ -17,7 +17,7 @@ pub(crate) struct Row {
     pub(crate) role: Role,
 }
 
-#[derive(Clone, Copy, Debug, PartialEq, Eq)]
+#[derive(Clone, Copy, Debug)]
 pub(crate) enum Brought {
     /// So many registers, the first of which has this number, and each next one more.
     Words(u16, u16),
@@ -30,13 +30,13 @@ pub(crate) enum Brought {
 }
 
 /// What a caller asks for: a list by its number, of which there are four, or a value for a point.
-#[derive(Clone, Copy, Debug, PartialEq, Eq)]
+#[derive(Clone, Copy, Debug, PartialEq)]
 pub(crate) enum Wanted {
     List(u32),
     Value(&'static str, u32),
 }
 
-#[derive(Clone, Copy, Debug, PartialEq, Eq)]
+#[derive(Clone, Copy, Debug)]
 pub(crate) enum Happened {
     /// Under a key by its number.
     Request {
@@ -94,7 +94,7 @@ pub(crate) fn is_faulty(list: u32) -> bool {
 }
 
 /// The first request under a key, and what became of it.
-#[derive(Clone, Copy, Debug, PartialEq, Eq)]
+#[derive(Clone, Copy)]
 struct Request {
     key: u32,
     wanted: Wanted,
@@ -102,14 +102,14 @@ struct Request {
 }
 
 /// What is written for an order, and how it stands.
-#[derive(Clone, Copy, Debug, PartialEq, Eq)]
+#[derive(Clone, Copy)]
 pub(crate) struct Placed {
     address: u16,
     value: u16,
     pub(crate) state: OrderState,
 }
 
-#[derive(Clone, Copy, Debug, PartialEq, Eq)]
+#[derive(Clone, Copy)]
 pub(crate) enum Asked {
     /// How many points were known then.
     Read {
@@ -127,7 +127,7 @@ pub(crate) enum Asked {
 }
 
 /// A query that a connection made.
-#[derive(Clone, Copy, Debug, PartialEq, Eq)]
+#[derive(Clone, Copy)]
 pub(crate) struct Query {
     conn: u32,
     pub(crate) asked: Asked,
@@ -135,7 +135,7 @@ pub(crate) struct Query {
 }
 
 /// A reading: the place of its point, its slot, the first register's number.
-#[derive(Clone, Copy, Debug, PartialEq, Eq)]
+#[derive(Clone, Copy, PartialEq)]
 pub(crate) struct Given {
     pub(crate) point: usize,
     pub(crate) slot: u32,

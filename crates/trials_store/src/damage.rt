@@ -1,7 +1,7 @@
 //! Files without room, files of which one call fails, and files with a damaged byte, under the database
 //! of an office: what it still answers is right, and the rest is refused.
 use crate::disks::{Failing, Which};
-use crate::plays::{POINTS, Playing, copied, done_on, new_tables, options};
+use crate::plays::{POINTS, Playing, copies, done_on, new_tables, options};
 use office_core::OfficeError;
 use office_plays::steps::Happens::{self, Arrive, Ask, Load, Open, Order, Send};
 use poll_book::StoreFault;
@@ -58,8 +58,16 @@ impl Harm {
     }
 }
 
-/// How many events an office over harmed files refuses; `None` where a greater step harms nothing: with
-/// room for all, or where fewer calls were made.
+/// Whether a greater step harms nothing: with room for all, or where fewer calls were made.
+fn is_past(harm: Harm, files: &Files<Failing<Rot<Memory>>>, refused: Option<u32>) -> bool {
+    match harm {
+        Harm::Room => refused == Some(0),
+        Harm::Call => !files.log.has_failed() && !files.db.has_failed(),
+        Harm::Byte => false,
+    }
+}
+
+/// How many events an office over harmed files refuses; `None` where a greater step harms nothing.
 fn refused(
     trial: &Trial<'_>,
     tables: &Files<Memory>,
@@ -73,11 +81,10 @@ fn refused(
         _ => (4, tables.db.bytes().len()),
     };
     let (log, db) = which.both(harm.limits(step, len), SOUND);
-    let log_file = Rot::new(copied(trial.alloc(), &tables.log)?, log.2);
-    let db_file = Rot::new(copied(trial.alloc(), &tables.db)?, db.2);
+    let files = copies(trial.alloc(), &tables.log, &tables.db)?;
     let files = Files {
-        log: Failing::new(log_file, log.0, log.1),
-        db: Failing::new(db_file, db.0, db.1),
+        log: Failing::new(Rot::new(files.log, log.2), log.0, log.1),
+        db: Failing::new(Rot::new(files.db, db.2), db.0, db.1),
     };
     let playing = Playing {
         is_new: false,
@@ -86,12 +93,7 @@ fn refused(
     };
     let (reached, files) = done_on(trial, files, options(1, frames), &playing)?;
     let refused = reached.map(|reached| reached.refused);
-    let is_past = match harm {
-        Harm::Room => refused == Some(0),
-        Harm::Call => !files.log.has_failed() && !files.db.has_failed(),
-        Harm::Byte => false,
-    };
-    Ok(if is_past {
+    Ok(if is_past(harm, &files, refused) {
         None
     } else {
         Some(refused.unwrap_or(0))

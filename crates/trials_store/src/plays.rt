@@ -8,7 +8,7 @@ use office_plays::builders::{MEMORY, TWO, begun, events_of, office_over, shown};
 use office_plays::steps::{Happens, take};
 use office_store::SqlKeeper;
 use poll_book::{Keeper, MemKeeper, StoreFault};
-use sqlite::{Alter, Connection, Error, ErrorCode, Files, Options};
+use sqlite::{Alter, Connection, Error, ErrorCode, FileStore, Files, Options};
 use sqlite_disk::{Disk, Memory};
 use std::alloc::Global;
 use store_plays::{begin, opened};
@@ -46,6 +46,31 @@ pub(crate) fn options(pages: usize, frames: usize) -> Options {
     }
 }
 
+/// The database in files; the files where it isn't one. Refused memory ends the attempt.
+fn connected<D: Disk + Drop>(
+    alloc: Global,
+    files: Files<D>,
+    options: Options,
+) -> Result<Result<Connection<FileStore<D>>, Files<D>>, OfficeError>
+    requires log { IsTrue (D.Disk.is_usable files.log) }
+    requires db { IsTrue (D.Disk.is_usable files.db) }
+{
+    match Connection::open_files(alloc, files, options) {
+        Ok(connection) => Ok(Ok(connection)),
+        Err((Error::SqliteFailure(ErrorCode::OutOfMemory), _left)) => Err(MEMORY),
+        Err((_error, left)) => Ok(Err(left.into_files())),
+    }
+}
+
+fn done_in_store<D: Disk + Drop, T: Task>(
+    trial: &Trial<'_>,
+    connection: Connection<FileStore<D>>,
+    task: &T,
+) -> Result<(Option<Reached>, Files<D>), OfficeError> {
+    let (reached, store) = task.done_in(trial, connection)?;
+    Ok((reached, store.close()))
+}
+
 /// Does a task with the database in files, and gives the files back.
 pub(crate) fn done_on<D: Disk + Drop, T: Task>(
     trial: &Trial<'_>,
@@ -56,18 +81,14 @@ pub(crate) fn done_on<D: Disk + Drop, T: Task>(
     requires log { IsTrue (D.Disk.is_usable files.log) }
     requires db { IsTrue (D.Disk.is_usable files.db) }
 {
-    match Connection::open_files(trial.alloc(), files, options) {
-        Ok(connection) => {
-            let (reached, store) = task.done_in(trial, connection)?;
-            Ok((reached, store.close()))
-        }
-        Err((Error::SqliteFailure(ErrorCode::OutOfMemory), _left)) => Err(MEMORY),
-        Err((_error, left)) => Ok((None, left.into_files())),
+    match connected(trial.alloc(), files, options)? {
+        Ok(connection) => done_in_store(trial, connection, task),
+        Err(files) => Ok((None, files)),
     }
 }
 
 /// A file of the same bytes, which a crash leaves.
-pub(crate) fn copied(alloc: Global, file: &Memory) -> Result<Memory, OfficeError>
+fn copied(alloc: Global, file: &Memory) -> Result<Memory, OfficeError>
     ensures { IfOk result (λ copy. IsTrue (memory_is_usable copy)) }
 {
     let mut copy = Memory::new(alloc);
@@ -78,6 +99,16 @@ pub(crate) fn copied(alloc: Global, file: &Memory) -> Result<Memory, OfficeError
         Ok(()) => Ok(copy),
         Err(_) => Err(MEMORY),
     }
+}
+
+/// Files of the same bytes.
+pub(crate) fn copies(alloc: Global, log: &Memory, db: &Memory) -> Result<Files<Memory>, OfficeError>
+    ensures log { IfOk result (λ copies. IsTrue (memory_is_usable copies.log)) }
+    ensures db { IfOk result (λ copies. IsTrue (memory_is_usable copies.db)) }
+{
+    let log = copied(alloc, log)?;
+    let db = copied(alloc, db)?;
+    Ok(Files { log, db })
 }
 
 pub(crate) fn empty_files(alloc: Global) -> Files<Memory>
@@ -173,28 +204,47 @@ fn take_all_as<K: Keeper>(
     })
 }
 
+/// The keeper of a database's tables, which are made first where it is new.
+fn kept_in<S: Alter + Drop>(
+    connection: Connection<S>,
+    is_new: bool,
+) -> Result<SqlKeeper<S>, (OfficeError, Connection<S>)> {
+    if is_new {
+        begin(connection)
+    } else {
+        opened(connection)
+    }
+}
+
+/// The store that was refused. Refused memory ends the attempt.
+fn left<S: Alter + Drop>(error: OfficeError, connection: Connection<S>) -> Result<S, OfficeError> {
+    if error == MEMORY {
+        return Err(MEMORY);
+    }
+    Ok(connection.into_store())
+}
+
+/// An office over a keeper; else the store.
+fn office_of<S: Alter + Drop>(
+    alloc: Global,
+    keeper: SqlKeeper<S>,
+) -> Result<Result<Office<SqlKeeper<S>>, S>, OfficeError> {
+    match begun(alloc, keeper, TWO)? {
+        Ok(office) => Ok(Ok(office)),
+        Err((error, keeper)) => Ok(Err(left(error, keeper.into_connection())?)),
+    }
+}
+
 /// An office over a database's tables; else the store.
 fn office_in<S: Alter + Drop>(
     alloc: Global,
     connection: Connection<S>,
     is_new: bool,
 ) -> Result<Result<Office<SqlKeeper<S>>, S>, OfficeError> {
-    let kept = if is_new {
-        begin(connection)
-    } else {
-        opened(connection)
-    };
-    let (error, connection) = match kept {
-        Ok(keeper) => match begun(alloc, keeper, TWO)? {
-            Ok(office) => return Ok(Ok(office)),
-            Err((error, keeper)) => (error, keeper.into_connection()),
-        },
-        Err(refused) => refused,
-    };
-    if error == MEMORY {
-        return Err(MEMORY);
+    match kept_in(connection, is_new) {
+        Ok(keeper) => office_of(alloc, keeper),
+        Err((error, connection)) => Ok(Err(left(error, connection)?)),
     }
-    Ok(Err(connection.into_store()))
 }
 
 impl Playing {
@@ -210,20 +260,22 @@ impl Playing {
     }
 }
 
+fn store_of<S: Alter + Drop>(office: Office<SqlKeeper<S>>) -> S {
+    office.into_keeper().into_connection().into_store()
+}
+
 impl Task for Playing {
     fn done_in<S: Alter + Drop>(
         &self,
         trial: &Trial<'_>,
         connection: Connection<S>,
     ) -> Result<(Option<Reached>, S), OfficeError> {
-        let mut office = match office_in(trial.alloc(), connection, self.is_new)? {
-            Ok(office) => office,
-            Err(store) => return Ok((None, store)),
-        };
-        let reached = self.played(trial, &mut office)?;
-        Ok((
-            Some(reached),
-            office.into_keeper().into_connection().into_store(),
-        ))
+        match office_in(trial.alloc(), connection, self.is_new)? {
+            Ok(mut office) => {
+                let reached = self.played(trial, &mut office)?;
+                Ok((Some(reached), store_of(office)))
+            }
+            Err(store) => Ok((None, store)),
+        }
     }
 }

@@ -2,7 +2,7 @@
 //! fail from some call on, and an office that is begun anew on what a crash leaves of them.
 use crate::disks::Which;
 use crate::plays::{
-    MAKING, POINTS, Playing, Reached, Task, copied, done_on, empty_files, new_tables, options,
+    MAKING, POINTS, Playing, Reached, Task, copies, done_on, empty_files, new_tables, options,
 };
 use office_core::{EventAnswer, Office, OfficeError};
 use office_plays::builders::{MEMORY, event_of, office_over};
@@ -115,6 +115,18 @@ fn is_unconnected<K: Keeper>(
     Ok(())
 }
 
+/// What the requests of all events are answered.
+fn all_answers(alloc: Global) -> Result<(Vec<EventAnswer>, u32), OfficeError> {
+    let mut twin = twin_after(alloc, HAPPENINGS.len())?;
+    asked_again(alloc, &mut twin)
+}
+
+fn are_answered<K: Keeper>(trial: &Trial<'_>, office: &mut Office<K>) -> Result<(), OfficeError> {
+    let told = asked_again(trial.alloc(), office)?;
+    trial.told(&"requests", &told, &all_answers(trial.alloc())?);
+    Ok(())
+}
+
 /// An office that took so many events goes on: the requests, made again, count once.
 fn goes_on<K: Keeper>(
     trial: &Trial<'_>,
@@ -123,10 +135,7 @@ fn goes_on<K: Keeper>(
 ) -> Result<(), OfficeError> {
     is_unconnected(trial, office, &mut twin_after(trial.alloc(), count)?)?;
     asked_again(trial.alloc(), office)?;
-    let told = asked_again(trial.alloc(), office)?;
-    let mut twin = twin_after(trial.alloc(), HAPPENINGS.len())?;
-    trial.told(&"requests", &told, &asked_again(trial.alloc(), &mut twin)?);
-    Ok(())
+    are_answered(trial, office)
 }
 
 /// What a stop leaves is an office that goes on. Where tables were being made there may be none, and then
@@ -176,7 +185,19 @@ impl GoingOn {
         are_tables(trial, &mut keeper, count, count.saturating_add(more))?;
         let mut office = office_over(trial.alloc(), keeper)?;
         self.used(trial, &mut office, count)?;
-        Ok(office.into_keeper())
+        self.is_full(trial, office.into_keeper())
+    }
+
+    /// What was a new office has the tables of all events.
+    fn is_full<K: Keeper + Drop>(
+        &self,
+        trial: &Trial<'_>,
+        mut keeper: K,
+    ) -> Result<K, OfficeError> {
+        if self.is_new {
+            are_tables(trial, &mut keeper, HAPPENINGS.len(), HAPPENINGS.len())?;
+        }
+        Ok(keeper)
     }
 }
 
@@ -186,10 +207,7 @@ impl Task for GoingOn {
         trial: &Trial<'_>,
         connection: Connection<S>,
     ) -> Result<(Option<Reached>, S), OfficeError> {
-        let mut keeper = self.begun(trial, self.kept(trial, connection)?)?;
-        if self.is_new {
-            are_tables(trial, &mut keeper, HAPPENINGS.len(), HAPPENINGS.len())?;
-        }
+        let keeper = self.begun(trial, self.kept(trial, connection)?)?;
         Ok((self.reached, keeper.into_connection().into_store()))
     }
 }
@@ -198,16 +216,20 @@ type Stopped = Files<Fuse<Memory>>;
 
 /// Does a task with the database that a stop left, opened anew.
 fn reopened<T: Task>(trial: &Trial<'_>, files: &Stopped, task: &T) -> Result<(), OfficeError> {
-    let files = Files {
-        log: copied(trial.alloc(), files.log.inner())?,
-        db: copied(trial.alloc(), files.db.inner())?,
-    };
+    let files = copies(trial.alloc(), files.log.inner(), files.db.inner())?;
     let (_reached, _files) = done_on(trial, files, options(64, 8), task)?;
     Ok(())
 }
 
-/// Stops an office after so many calls of a file, and expects what both outcomes of it leave: all that was
-/// written, and only what was flushed. Tells whether it was stopped.
+/// Expects what both outcomes of a stop leave: all that was written, and only what was flushed.
+fn are_left(trial: &Trial<'_>, files: &mut Stopped, going_on: &GoingOn) -> Result<(), OfficeError> {
+    reopened(trial, files, going_on)?;
+    files.log.crash();
+    files.db.crash();
+    reopened(trial, files, going_on)
+}
+
+/// Stops an office after so many calls of a file, and expects what this leaves. Tells whether it was stopped.
 fn is_stopped(
     trial: &Trial<'_>,
     files: &Files<Memory>,
@@ -216,9 +238,10 @@ fn is_stopped(
     calls: u64,
 ) -> Result<bool, OfficeError> {
     let (log, db) = which.both(calls, u64::MAX);
+    let files = copies(trial.alloc(), &files.log, &files.db)?;
     let files = Files {
-        log: Fuse::new(copied(trial.alloc(), &files.log)?, log),
-        db: Fuse::new(copied(trial.alloc(), &files.db)?, db),
+        log: Fuse::new(files.log, log),
+        db: Fuse::new(files.db, db),
     };
     // The log is copied into the database file every few commits, so that both are written.
     let (reached, mut files) = done_on(trial, files, options(64, 8), playing)?;
@@ -226,10 +249,7 @@ fn is_stopped(
         is_new: playing.is_new,
         reached,
     };
-    reopened(trial, &files, &going_on)?;
-    files.log.crash();
-    files.db.crash();
-    reopened(trial, &files, &going_on)?;
+    are_left(trial, &mut files, &going_on)?;
     Ok(reached.is_none_or(|reached| reached.refused > 0))
 }
 
