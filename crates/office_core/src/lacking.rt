@@ -24,7 +24,7 @@ pub(crate) fn some_lacks<K: Keeper>(
     ensures clean { K.is_clean keeper.new → K.is_clean keeper.old }
 {
     for row in known {
-        if covers(device, read, &row.point) && keeper.reading(row, slot)?.is_none() {
+        if covers(device, read, &row.point) && !keeper.has_reading(row, slot)? {
             return Ok(true);
         }
     }

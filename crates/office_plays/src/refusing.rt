@@ -73,6 +73,12 @@ impl Neighbours for Refusing {
         counted(&mut self.refusals, answer)
     }
 
+    fn has_reading(&mut self, point: &PointRow, slot: u32) -> Result<bool, StoreFault> {
+        self.count()?;
+        let answer = self.kept.has_reading(point, slot);
+        counted(&mut self.refusals, answer)
+    }
+
     fn total(&mut self, point: &PointRow) -> Result<u128, StoreFault> {
         self.count()?;
         let answer = self.kept.total(point);

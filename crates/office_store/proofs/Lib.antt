@@ -9,6 +9,7 @@ mod Showing
 mod Registers
 mod Comparing
 mod Slots
+mod Presence
 mod ByNumber
 mod Counts
 mod Connections

@@ -7,6 +7,9 @@ version_text = codes "SELECT value FROM meta WHERE name = 'version'"
 abbrev pub readings_text : List ℕ
 readings_text = codes "SELECT point, slot, words, counted FROM reading WHERE point = ?1 AND slot >= ?2 AND slot <= ?3 ORDER BY slot"
 
+abbrev pub reading_key_text : List ℕ
+reading_key_text = codes "SELECT point, slot FROM reading WHERE point = ?1 AND slot = ?2"
+
 abbrev pub points_text : List ℕ
 points_text = codes "SELECT number, name, device, tab, addr, kind, len, scale, role, roll FROM point ORDER BY number"
 

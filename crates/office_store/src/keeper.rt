@@ -134,6 +134,11 @@ impl<S: Alter> Neighbours for SqlKeeper<S> {
         counted(&mut self.refusals, found)
     }
 
+    fn has_reading(&mut self, point: &PointRow, slot: u32) -> Result<bool, StoreFault> {
+        let has = readings::has_reading(&mut self.connection, point.number, slot);
+        counted(&mut self.refusals, has)
+    }
+
     fn total(&mut self, point: &PointRow) -> Result<u128, StoreFault> {
         let sum = readings::total(self.alloc, &mut self.connection, point);
         counted(&mut self.refusals, sum)

@@ -1,6 +1,6 @@
 //! The table of readings.
 
-ghost use Rattle.std.specs.Prelude.{◌≡◌, ◌≤◌, false, IfOk, IfSome, IsTrue, OnOk};
+ghost use Rattle.std.specs.Prelude.{◌≡◌, ◌≤◌, false, IfOk, IfSome, IsTrue, OnOk, is_some};
 ghost use Rattle.sqlite.specs.Held.{state};
 ghost use Rattle.sqlite.specs.State.{HasCleanDisk};
 ghost use Rattle.poll_book.specs.Tables.{Tables, reading_at, readings_between};
@@ -91,6 +91,28 @@ pub(crate) fn reading_at<S: Alter>(
         }),
         None => None,
     })
+}
+
+/// Whether a point has a reading in a slot.
+pub(crate) fn has_reading<S: Alter>(
+    connection: &mut Connection<S>,
+    point: u32,
+    slot: u32,
+) -> Result<bool, StoreFault>
+    requires { connection.old.in_transaction ≡ false }
+    ensures value { HasCleanDisk (state S.Store connection.new) → (kept : Tables) → Holds (state S.Store connection.old) kept
+        → IfOk result (λ has. has ≡ is_some (reading_at kept.readings (point, slot))) }
+    ensures keeps { Keeps (state S.Store connection.old) (state S.Store connection.new) }
+    ensures idle { connection.new.in_transaction ≡ false }
+{
+    match ask(
+        connection,
+        "SELECT point, slot FROM reading WHERE point = ?1 AND slot = ?2",
+        params![point, slot],
+    ) {
+        Ok(rows) => Ok(!rows.is_empty()),
+        Err(error) => Err(fault_of(error)),
+    }
 }
 
 /// How far a counter went by these readings of it, by slot.

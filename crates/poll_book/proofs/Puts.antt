@@ -1,6 +1,6 @@
 -- Rows put into the list of a point, and into the lists of all points.
-use Rattle.std.proofs.Common.{◌≡◌, ℕ, suc, ◌<◌, ◌≢◌, cond, eqb, List, [], ◌∷◌, ◌++◌, get_or, set, take, drop, Some, None, refl, sym, ap, ◌∙◌, arith, append_assoc, append-nil}
-use Rattle.std.specs.Prelude.{All}
+use Rattle.std.proofs.Common.{◌≡◌, ℕ, suc, ◌<◌, ◌≢◌, cond, eqb, List, [], ◌∷◌, ◌++◌, get_or, set, take, drop, Some, None, refl, sym, ap, ◌∙◌, arith, append_assoc, append-nil, false, Ok, Err, Result, IfOk, IfErr}
+use Rattle.std.specs.Prelude.{All, is_ok, is_some}
 use Rattle.std.specs.List.{insert}
 use Rattle.std.specs.Ordering.{nat_cmp, ordering_then}
 use Rattle.std.specs.Cmp.{nat_cmp_is}
@@ -13,7 +13,7 @@ use Rattle.std.proofs.lemmas.Bool.{ne_eqb, eq-eqb}
 use Rattle.poll_book.specs.declared.rows.Reading.{Reading}
 use Rattle.poll_book.specs.declared.history.SlotRow.{SlotRow}
 use Rattle.poll_book.specs.declared.history.History.{History}
-use Rattle.poll_book.specs.Tables.{Key, key_cmp, Readings}
+use Rattle.poll_book.specs.Tables.{Key, key_cmp, Readings, reading_at}
 use Rattle.poll_book.proofs.Entries as entries
 use Rattle.poll_book.specs.Histories.{as_entry, slots_of, slot_of, point_of, readings_of, own, IsAt, IsGap}
 
@@ -161,3 +161,10 @@ find_slot p s l at d here =
 
 pub find_no_slot : (p s : ℕ) (l : List SlotRow) (at : ℕ) → IsGap slot_of l s at → rows.find key_cmp (p, s) (slots_of p l) ≡ None
 find_no_slot p s l at gap = entries.find_no_row key_cmp (as_entry p) (p, s) l at (slots_below p s (take at l) gap.below) (slots_above p s (drop at l) gap.above)
+
+-- a search tells whether something stands there
+pub has_slot : (p s : ℕ) (l : List SlotRow) (r : Result ℕ ℕ) → IfOk r (IsAt slot_of l s) → IfErr r (IsGap slot_of l s) → is_ok r ≡ is_some (reading_at (slots_of p l) (p, s))
+has_slot p s l (Ok at) here gap =
+    let blank : SlotRow = record { slot = 0; reading = record { words = []; counted = false } } in
+    sym (ap is_some (find_slot p s l at blank here))
+has_slot p s l (Err at) here gap = sym (ap is_some (find_no_slot p s l at gap))

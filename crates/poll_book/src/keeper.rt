@@ -1,5 +1,5 @@
 ghost use Rattle.poll_book.specs.declared.fault.StoreFault.{StoreFault};
-ghost use Rattle.std.specs.Prelude.{◌≡◌, ◌⊎◌, ℕ, IfErr, IfOk, OnOk, OnErr, option_map};
+ghost use Rattle.std.specs.Prelude.{◌≡◌, ◌⊎◌, ℕ, IfErr, IfOk, OnOk, OnErr, is_some, option_map};
 ghost use Rattle.poll_book.specs.Fault.{CountsRefusal};
 ghost use Rattle.poll_book.specs.Tables.{Tables, Within, reading_at, readings_between};
 ghost use Rattle.poll_book.specs.Orders.{as_setting, last_order, oldest_waiting, setting_at};
@@ -34,6 +34,16 @@ pub trait Neighbours {
     fn reading(&mut self, point: &PointRow, slot: u32) -> Result<Option<Reading>, StoreFault>
         ensures value { is_clean self.new → (kept : Tables) → holds self.old kept
             → IfOk result (λ found. found ≡ reading_at kept.readings (point.now.number, slot)) }
+        ensures cause { IfErr result (λ fault. may_refuse fault) }
+        ensures counted { CountsRefusal (refused self.old) (refused self.new) result }
+        ensures same { Within (holds self.old) (holds self.new) }
+        ensures clean { is_clean self.new → is_clean self.old }
+        ensures crash { is_clean self.new → Within (may_leave self.new) (may_leave self.old) };
+
+    /// Whether a point has a reading in a slot.
+    fn has_reading(&mut self, point: &PointRow, slot: u32) -> Result<bool, StoreFault>
+        ensures value { is_clean self.new → (kept : Tables) → holds self.old kept
+            → IfOk result (λ has. has ≡ is_some (reading_at kept.readings (point.now.number, slot))) }
         ensures cause { IfErr result (λ fault. may_refuse fault) }
         ensures counted { CountsRefusal (refused self.old) (refused self.new) result }
         ensures same { Within (holds self.old) (holds self.new) }

@@ -74,6 +74,10 @@ impl Neighbours for MemKeeper {
         counted(&mut self.refusals, found)
     }
 
+    fn has_reading(&mut self, point: &PointRow, slot: u32) -> Result<bool, StoreFault> {
+        Ok(self.tables.has_reading(point.number, slot))
+    }
+
     fn total(&mut self, point: &PointRow) -> Result<u128, StoreFault> {
         Ok(self.tables.total(point))
     }

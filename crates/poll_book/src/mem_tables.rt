@@ -1,5 +1,5 @@
 //! Tables in memory.
-ghost use Rattle.std.specs.Prelude.{◌≡◌, ◌≤◌, IfOk, IfSome, OnErr, OnOk, option_map};
+ghost use Rattle.std.specs.Prelude.{◌≡◌, ◌≤◌, ℕ, IfOk, IfSome, OnErr, OnOk, is_some, option_map};
 ghost use Rattle.poll_book.specs.Tables as table;
 ghost use Rattle.poll_book.specs.Tables.{no_tables, readings_between};
 ghost use Rattle.poll_book.specs.Changes.{applied, as_rows};
@@ -83,6 +83,13 @@ impl MemTables {
     {
         let slots = slots_in(&self.histories, point);
         reading_at(slots, point, slot)
+    }
+
+    /// Whether a point has a reading in a slot.
+    pub(crate) fn has_reading(&self, point: u32, slot: u32) -> bool
+        ensures { result ≡ is_some (table.reading_at self.now.readings (point, slot)) }
+    {
+        has_slot(slots_in(&self.histories, point), slot)
     }
 
     /// How far a counter went by its counted readings.
@@ -193,6 +200,13 @@ fn reading_at(slots: &[SlotRow], point: u32, slot: u32) -> Result<Option<Reading
         words: reading.words.clone()?,
         counted: reading.counted,
     }))
+}
+
+fn has_slot(slots: &[SlotRow], slot: u32) -> bool
+    requires { IsRising slot_of slots.now }
+    ensures { (point : ℕ) → result ≡ is_some (table.reading_at (slots_of point slots.now) (point, slot)) }
+{
+    slot_place(slots, slot).is_ok()
 }
 
 fn number_of(point: &Point, reading: &Reading) -> Option<u64>

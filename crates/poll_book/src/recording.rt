@@ -28,7 +28,7 @@ pub fn record<N: Neighbours>(
     let mut rows = Vec::with_capacity(alloc, covered.len())?;
     for entry in covered {
         let point = &entry.0;
-        if keeper.reading(point, slot)?.is_none() {
+        if !keeper.has_reading(point, slot)? {
             rows.push(ReadingRow::new(alloc, point, slot, entry.1.as_slice())?)?;
         }
     }
