@@ -236,7 +236,7 @@ module _ (known : PointRow) where
 
 -- ---- lists whose slots rise
 
-abbrev slot_of : ℕ × ℕ → ℕ
+abbrev pub slot_of : ℕ × ℕ → ℕ
 slot_of p = p.0
 
 rising_more : (x : ℕ × ℕ) (xs : List (ℕ × ℕ)) → ((y : ℕ × ℕ) → Contains xs y → slot_of x < slot_of y) → IsRising slot_of xs → IsRising slot_of (x ∷ xs)
@@ -250,10 +250,10 @@ rising_more x xs first rest zero (suc j) d lt within = first (get_or xs j d) (j,
 rising_more x xs first rest (suc i) zero d lt within = absurd (omega arith)
 rising_more x xs first rest (suc i) (suc j) d lt within = rest i j d (omega arith) (omega arith)
 
-rising_rest : (x : ℕ × ℕ) (xs : List (ℕ × ℕ)) → IsRising slot_of (x ∷ xs) → IsRising slot_of xs
+pub rising_rest : (x : ℕ × ℕ) (xs : List (ℕ × ℕ)) → IsRising slot_of (x ∷ xs) → IsRising slot_of xs
 rising_rest x xs rise i j d lt within = rise (suc i) (suc j) d (omega arith) (omega arith)
 
-rising_first : (x : ℕ × ℕ) (xs : List (ℕ × ℕ)) (y : ℕ × ℕ) → IsRising slot_of (x ∷ xs) → Contains xs y → slot_of x < slot_of y
+pub rising_first : (x : ℕ × ℕ) (xs : List (ℕ × ℕ)) (y : ℕ × ℕ) → IsRising slot_of (x ∷ xs) → Contains xs y → slot_of x < slot_of y
 rising_first x xs y rise h = subst (λ (z : ℕ × ℕ). slot_of x < slot_of z) h.2 (rise 0 (suc h.0) y (omega arith) (let lt = h.1 in omega arith))
 
 -- a list whose slots rise is the only one with its elements

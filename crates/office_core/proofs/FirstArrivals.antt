@@ -85,7 +85,7 @@ at_append (x ∷ xs) ys key =
     ∙ or_cond (eq_by_cmp key_cmp key x.0) x.1 (reading_at xs key) (reading_at ys key)
 
 -- a table made of rows has the first of them under a key
-at_made : (xs : Readings) (key : Key) → reading_at (with_rows xs []) key ≡ reading_at xs key
+pub at_made : (xs : Readings) (key : Key) → reading_at (with_rows xs []) key ≡ reading_at xs key
 at_made [] key = refl
 at_made (x ∷ xs) key =
     rows.find-put key_cmp keys_total key x.0 x.1 (with_rows xs []) ∙ ap (cond (eq_by_cmp key_cmp key x.0) (Some x.1)) (at_made xs key)
@@ -198,7 +198,7 @@ abbrev fault_of : History → ℕ → List ℕ → Read → Option OfficeError
 fault_of before c device read = ask_fault (open_line before c) (site_of before) (points before) (length (asked before c)) device read
 
 -- a query that was asked is among those of its connection
-query_there : (before : History) (c n : ℕ) (q : Question) (asking : History) → IsQuery before c n q asking → slice_get (asked before c) n ≡ Some (Reads q)
+pub query_there : (before : History) (c n : ℕ) (q : Question) (asking : History) → IsQuery before c n q asking → slice_get (asked before c) n ≡ Some (Reads q)
 query_there before c n q asking is =
     let asks : List Query = asked asking c in
     let new : Question = question (site_of asking) (points asking) is.device is.slot is.read in
@@ -210,9 +210,9 @@ query_there before c n q asking is =
     ∙ asked_stays is.came.later (Ask c is.device is.slot is.read ∷ asking) c n (Reads q)
     (ap (λ m. slice_get (asked (Ask c is.device is.slot is.read ∷ asking) c) m) (sym is.count) ∙ at ∙ ap (λ (x : Question). Some (Reads x)) (sym is.is))
 
-record WasAsked (before : History) (c n : ℕ) (q : Question) : Type 0 where
-  asking : History
-  is : IsQuery before c n q asking
+pub record WasAsked (before : History) (c n : ℕ) (q : Question) : Type 0 where
+  pub asking : History
+  pub is : IsQuery before c n q asking
 
 asked_later : (h : Happening) (before : History) (c n : ℕ) (q : Question) → WasAsked before c n q → WasAsked (h ∷ before) c n q
 asked_later h before c n q was = record {
@@ -229,7 +229,7 @@ asked_later h before c n q was = record {
 }
 
 -- and each read of a connection was asked
-query_asked : (before : History) (c n : ℕ) (q : Question) → slice_get (asked before c) n ≡ Some (Reads q) → WasAsked before c n q
+pub query_asked : (before : History) (c n : ℕ) (q : Question) → slice_get (asked before c) n ≡ Some (Reads q) → WasAsked before c n q
 query_asked [] c n q e = absurd (none-some (Reads q) e)
 query_asked (Restart site ∷ before) c n q e = asked_later (Restart site) before c n q (query_asked before c n q e)
 query_asked (Load caller key list ∷ before) c n q e = asked_later (Load caller key list) before c n q (query_asked before c n q e)
@@ -280,10 +280,10 @@ query_asked (Send d number ∷ before) c n q e = by (λ f. query_asked before c 
 -- ---- points that were known
 
 -- these points are those, and then more
-abbrev Longer : List PointRow → List PointRow → Type 0
+abbrev pub Longer : List PointRow → List PointRow → Type 0
 Longer first all = (more : List PointRow) × (all ≡ first ++ more)
 
-points_stay : (later : List Happening) (before : History) → Longer (points before) (points (later ++ before))
+pub points_stay : (later : List Happening) (before : History) → Longer (points before) (points (later ++ before))
 points_stay [] before = ([], sym (append-nil (points before)))
 points_stay (Restart site ∷ later) before = points_stay later before
 points_stay (Order caller key point value ∷ later) before = points_stay later before
@@ -309,7 +309,7 @@ known_so None device slot read known = refl
 known_so (Some to) device slot read known = refl
 
 -- the points that a query knows are those of the history after which it was asked
-points_of_query : (before : History) (c n : ℕ) (q : Question) (asking : History) → IsQuery before c n q asking → take q.known (points before) ≡ points asking
+pub points_of_query : (before : History) (c n : ℕ) (q : Question) (asking : History) → IsQuery before c n q asking → take q.known (points before) ≡ points asking
 points_of_query before c n q asking is =
     let longer = points_stay is.came.later (Ask c is.device is.slot is.read ∷ asking) in
     let count : q.known ≡ length (points asking) =
@@ -351,7 +351,7 @@ one_of earlier c n unit bytes none e = by (slice_get (asked earlier c) n) refl e
     by (Some (Writes w)) is f = absurd (none w is)
 
 -- and a reply fits its query
-fits_so : (earlier : History) (c n : ℕ) (unit : List ℕ) (q : Question) (reply : AReply) → IsReplyTo earlier c n unit q reply
+pub fits_so : (earlier : History) (c n : ℕ) (unit : List ℕ) (q : Question) (reply : AReply) → IsReplyTo earlier c n unit q reply
     → fits_query (slice_get (asked earlier c) n) unit ≡ true
 fits_so earlier c n unit q reply is =
     ap (λ o. fits_query o unit) (query_there earlier c n q is.asking is.query) ∙ answered (read_request q.read) reply unit is.spelled
@@ -411,7 +411,7 @@ answered_so (Reply d m unit ∷ before) c n legal none e =
         }
     by rest false other f = reply_later (Reply d m unit) before c n (rest f)
 
-first_so : (before : History) (c n : ℕ) → is_answered before c n ≡ false → IsFirst before c n
+pub first_so : (before : History) (c n : ℕ) → is_answered before c n ≡ false → IsFirst before c n
 first_so before c n e older unit q reply came is =
     let yes : is_answered before c n ≡ true =
     ap (λ h. is_answered h c n) came.stands ∙ answers_on came.later older c n unit (fits_so older c n unit q reply is) in
@@ -547,7 +547,7 @@ given_stays (Reply c n unit ∷ later) before key r e =
     at_append (given (later ++ before)) (new_given (later ++ before) c n unit) key ∙ or_some _ _ r (given_stays later before key r e)
 
 -- a unit that gives a key words leaves it with a reading
-given_once : (before older : History) (c n : ℕ) (unit : List ℕ) (row : PointRow) (slot : ℕ) (words : List ℕ) → Legal before
+pub given_once : (before older : History) (c n : ℕ) (unit : List ℕ) (row : PointRow) (slot : ℕ) (words : List ℕ) → Legal before
     → Happened before (Reply c n unit) older → Gives older c n unit row slot words → reading_at (given before) (row.number, slot) ≡ None → ⊥
 given_once before older c n unit row slot words legal came gave none =
     let key : Key = (row.number, slot) in

@@ -3,11 +3,13 @@ use Rattle.std.proofs.Common.{◌≡◌, ◌≤◌, ◌<◌, ◌+◌, ℕ, zero,
 use Rattle.std.specs.Prelude.{◌-◌, All, Contains, filter, slice_get}
 use Rattle.std.specs.Str.{bytes_eq}
 use Rattle.std.specs.FinMap.Entries as rows
+use Rattle.std.specs.Ordering.{eq_by_cmp}
 use Rattle.std.specs.declared.cmp.Ordering.{Ordering}
 use Rattle.std.specs.declared.cmp.Ordering.TheVariants.{Less, Equal, Greater}
 use Rattle.std.proofs.lemmas.Bool.{and_parts, leb-true, eqb-true}
 use Rattle.std.proofs.lemmas.List.{length-map, length-drop, length-take-le}
 use Rattle.std.proofs.lemmas.List.Elements.{All-nil, All-cons, All-head, All-tail, All-map, All-filter, All-append, All-take, All-weaker, All-contains_itself, Contains-append_left, Contains-get_or, filter_passes}
+use Rattle.std.proofs.lemmas.Option.{none-some, same_Some}
 use Rattle.mb_pdu.specs.declared.request.Request.{Request}
 use Rattle.mb_pdu.specs.declared.request.Request.TheVariants.{ReadCoils, ReadDiscrete, ReadHolding, ReadInput}
 use Rattle.mb_pdu.specs.declared.reply.Normal.{Normal}
@@ -29,7 +31,7 @@ use Rattle.read_planner.specs.declared.Read.{Read}
 use Rattle.read_planner.specs.Read.{read_request}
 use Rattle.poll_book.specs.declared.rows.PointRow.{PointRow}
 use Rattle.poll_book.specs.declared.rows.Reading.{Reading}
-use Rattle.poll_book.specs.Tables.{Key, key_cmp, Readings, is_between, readings_between, with_rows}
+use Rattle.poll_book.specs.Tables.{Key, key_cmp, Readings, reading_at, is_between, readings_between, with_rows}
 use Rattle.poll_book.specs.Changes.{keyed, AreNumbered}
 use Rattle.poll_book.specs.Totals.{is_counted}
 use Rattle.poll_book.proofs.Tabled.{exact_keys}
@@ -39,6 +41,7 @@ use Rattle.office_core.specs.Loads.{loading, added}
 use Rattle.office_core.specs.History.{Restart, Load, Order, Open, Ask, Send, Reply, Noise, History, site_of, points, is_used, asked, is_answered, given_by, given, readings, tables}
 use Rattle.office_core.specs.Legal.{Legal}
 use Rattle.office_core.specs.Fitting.{IsFitting}
+use Rattle.office_core.proofs.FirstArrivals.{same_key}
 use Rattle.office_core.proofs.Cells.{cells_spelled}
 use Rattle.office_core.proofs.Loaded.{numbered_points}
 use Rattle.office_core.proofs.Forms.{IsFormed, IsFormedRow, points_formed}
@@ -147,12 +150,13 @@ words_fit device read reply point formed brings covered =
 
 -- ---- rows of readings
 
--- the row is of a point of these, and has registers of its type
+-- the row is of a point of these, has registers of its type, and is marked as counted where they count
 record IsOf (known : List PointRow) (kept : Key × Reading) : Type 0 where
   point : PointRow
   there : Contains known point
   number : point.number ≡ kept.0.0
   registers : AreRegistersOf point.point.kind kept.1.words
+  marked : kept.1.counted ≡ is_counted point.point kept.1.words
 
 -- also of these and more points
 of_more : (known more : List PointRow) (kept : Key × Reading) → IsOf known kept → IsOf (known ++ more) kept
@@ -161,6 +165,7 @@ of_more known more kept is = record {
   there = Contains-append_left known more is.point is.there;
   number = is.number;
   registers = is.registers;
+  marked = is.marked;
 }
 
 -- so is what a reply gives to some of the points
@@ -184,7 +189,7 @@ rows_fit all known device read slot reply there formed brings =
     key_of c = ((c.0.number, slot), record { words = c.1; counted = is_counted c.0.point c.1 })
 
     one : (x : PointRow) → Contains all x → IsFormedRow x → covers device read x.point ≡ true → IsOf all (key_of (made x))
-    one x at form covered = record { point = x; there = at; number = refl; registers = words_fit device read reply x.point form brings covered }
+    one x at form covered = record { point = x; there = at; number = refl; registers = words_fit device read reply x.point form brings covered; marked = refl }
 
 -- what a unit gives where it stands
 new_fit : (before : History) (c n : ℕ) (unit : List ℕ) → Legal before → IsBytes unit
@@ -273,7 +278,7 @@ any_default (x ∷ xs) zero a b lt = refl
 any_default (x ∷ xs) (suc k) a b lt = any_default xs k a b (omega arith)
 
 -- a number names one point
-one_point : (n : ℕ) (xs : List PointRow) (a b : PointRow) → AreNumbered n xs → Contains xs a → Contains xs b → a.number ≡ b.number → a ≡ b
+pub one_point : (n : ℕ) (xs : List PointRow) (a b : PointRow) → AreNumbered n xs → Contains xs a → Contains xs b → a.number ≡ b.number → a ≡ b
 one_point n xs a b numbered there other same =
     let i : ℕ = there.0 in
     let j : ℕ = other.0 in
@@ -285,6 +290,29 @@ one_point n xs a b numbered there other same =
     sym there.2 ∙ any_default xs i a b there.1 ∙ ap (λ k. get_or xs k b) e ∙ other.2
 
 -- ---- the tables
+
+-- what holds of each row of a table holds of what stands under a key
+at_key : (P : Key × Reading → Type 0) (table : Readings) (key : Key) (reading : Reading) → All P table → reading_at table key ≡ Some reading → P (key, reading)
+at_key P [] key reading all e = absurd (none-some reading e)
+at_key P (x ∷ table) key reading all e = by (at_key P table key reading (All-tail P x table all)) (eq_by_cmp key_cmp key x.0) refl e
+  where
+    by : (reading_at table key ≡ Some reading → P (key, reading)) → (b : Bool) → eq_by_cmp key_cmp key x.0 ≡ b
+        → cond b (Some x.1) (reading_at table key) ≡ Some reading → P (key, reading)
+    by rest true same f =
+        let is : ◌≡◌ {A = Key × Reading} x (key, reading) = λ i. (sym (same_key key x.0 same) i, same_Some x.1 reading f i) in
+        subst P is (All-head P x table all)
+    by rest false other f = rest f
+
+-- each row is of a point
+readings_of_points : (before : History) → Legal before → All (IsOf (points before)) (readings before)
+readings_of_points before legal = with_rows_all (IsOf (points before)) (given before) [] (given_fit before legal) (All-nil (IsOf (points before)))
+
+-- a reading is marked as counted where its words count
+pub marked : (before : History) (known : PointRow) (slot : ℕ) (reading : Reading) → Legal before → Contains (points before) known
+    → reading_at (readings before) (known.number, slot) ≡ Some reading → reading.counted ≡ is_counted known.point reading.words
+marked before known slot reading legal there e =
+    let is = at_key (IsOf (points before)) (readings before) (known.number, slot) reading (readings_of_points before legal) e in
+    subst (λ (r : PointRow). reading.counted ≡ is_counted r.point reading.words) (one_point 0 (points before) is.point known (numbered_points before) is.there there is.number) is.marked
 
 -- what is kept of each point has the form of its type
 pub tables_fit : (before : History) → Legal before → IsFitting (tables before)
@@ -298,7 +326,7 @@ tables_fit before legal k d lt =
     )
   where
     all : All (IsOf (points before)) (readings before)
-    all = with_rows_all (IsOf (points before)) (given before) [] (given_fit before legal) (All-nil (IsOf (points before)))
+    all = readings_of_points before legal
 
     of_type : Contains (points before) (get_or (points before) k d) → (from to : ℕ) (x : Key × Reading) → IsOf (points before) x
         → is_between (get_or (points before) k d).number from to x.0 ≡ true → AreRegistersOf (get_or (points before) k d).point.kind x.1.words

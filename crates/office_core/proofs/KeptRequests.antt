@@ -374,7 +374,7 @@ list_none (NotLoaded reason) number e = absurd (cc)
 list_none (IsLoaded count points) number e = absurd (cc)
 
 -- an order that is accepted takes the next number, and its setting stands
-order_next : (o : Ordering) (table : Settings) (number : ℕ) → AreOrders 0 table → ordered (last_order table) o ≡ Ordered number
+pub order_next : (o : Ordering) (table : Settings) (number : ℕ) → AreOrders 0 table → ordered (last_order table) o ≡ Ordered number
     → (number ≡ last_order table + 1) × (last_order (with_ordered o table) ≡ last_order table + 1)
 order_next (Refused fault) table number a e = absurd (cc)
 order_next (Taken point words) table number a e =

@@ -37,3 +37,8 @@ pub mod Messages
 pub mod Forms
 pub mod Fitting
 pub mod ByName
+pub mod StepsLost
+pub mod SlotsLost
+pub mod LostReadings
+pub mod Calls
+pub mod SameArrivals

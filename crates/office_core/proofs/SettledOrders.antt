@@ -148,7 +148,7 @@ abbrev asks : History → List ℕ → ℕ → Read → Query
 asks before device slot read = Reads (question (site_of before) (points before) device slot read)
 
 -- what was sent is among the queries of its connection
-send_there : (before : History) (c n : ℕ) (w : Writing) (sending : History) → IsSend before c n w sending → slice_get (asked before c) n ≡ Some (Writes w)
+pub send_there : (before : History) (c n : ℕ) (w : Writing) (sending : History) → IsSend before c n w sending → slice_get (asked before c) n ≡ Some (Writes w)
 send_there before c n w sending is =
     let old : List Query = asked sending c in
     let new : Query = Writes (sends sending is.number) in
@@ -158,9 +158,9 @@ send_there before c n w sending is =
     ∙ asked_stays is.came.later (Send c is.number ∷ sending) c n (Writes w)
     (ap (λ m. slice_get (asked (Send c is.number ∷ sending) c) m) (sym is.count) ∙ at ∙ ap (λ (x : Writing). Some (Writes x)) (sym is.is))
 
-record WasSent (before : History) (c n : ℕ) (w : Writing) : Type 0 where
-  sending : History
-  is : IsSend before c n w sending
+pub record WasSent (before : History) (c n : ℕ) (w : Writing) : Type 0 where
+  pub sending : History
+  pub is : IsSend before c n w sending
 
 sent_later : (h : Happening) (before : History) (c n : ℕ) (w : Writing) → WasSent before c n w → WasSent (h ∷ before) c n w
 sent_later h before c n w was = record {
@@ -178,7 +178,7 @@ abbrev refusal : History → ℕ → ℕ → Option OfficeError
 refusal before c number = send_fault (open_line before c) (site_of before) (points before) (settings before) (length (asked before c)) number
 
 -- and each write of a connection was sent
-write_sent : (before : History) (c n : ℕ) (w : Writing) → slice_get (asked before c) n ≡ Some (Writes w) → WasSent before c n w
+pub write_sent : (before : History) (c n : ℕ) (w : Writing) → slice_get (asked before c) n ≡ Some (Writes w) → WasSent before c n w
 write_sent [] c n w e = absurd (none-some (Writes w) e)
 write_sent (Restart site ∷ before) c n w e = sent_later (Restart site) before c n w (write_sent before c n w e)
 write_sent (Load caller key list ∷ before) c n w e = sent_later (Load caller key list) before c n w (write_sent before c n w e)
@@ -224,17 +224,24 @@ write_sent (Send d number ∷ before) c n w e = by (λ f. write_sent before c n 
 
 -- ---- replies
 
--- a query that was answered has a place where a unit that fits it stands
-record HasFit (before : History) (c n : ℕ) : Type 0 where
-  older : History
-  unit : List ℕ
-  came : Happened before (Reply c n unit) older
-  fits_it : fits_query (slice_get (asked older c) n) unit ≡ true
+-- a query that was answered has a place where the first unit that fits it stands
+pub record HasFit (before : History) (c n : ℕ) : Type 0 where
+  pub older : History
+  pub unit : List ℕ
+  pub came : Happened before (Reply c n unit) older
+  pub fits_it : fits_query (slice_get (asked older c) n) unit ≡ true
+  pub new : is_answered older c n ≡ false
 
 fit_later : (h : Happening) (before : History) (c n : ℕ) → HasFit before c n → HasFit (h ∷ before) c n
-fit_later h before c n f = record { older = f.older; unit = f.unit; came = step_later h before (Reply c n f.unit) f.older f.came; fits_it = f.fits_it }
+fit_later h before c n f = record {
+  older = f.older;
+  unit = f.unit;
+  came = step_later h before (Reply c n f.unit) f.older f.came;
+  fits_it = f.fits_it;
+  new = f.new;
+}
 
-answered_by : (before : History) (c n : ℕ) → is_answered before c n ≡ true → HasFit before c n
+pub answered_by : (before : History) (c n : ℕ) → is_answered before c n ≡ true → HasFit before c n
 answered_by [] c n e = absurd (cc)
 answered_by (Restart site ∷ before) c n e = fit_later (Restart site) before c n (answered_by before c n e)
 answered_by (Load caller key list ∷ before) c n e = fit_later (Load caller key list) before c n (answered_by before c n e)
@@ -244,26 +251,33 @@ answered_by (Ask d device slot read ∷ before) c n e = fit_later (Ask d device 
 answered_by (Send d number ∷ before) c n e = fit_later (Send d number) before c n (answered_by before c n e)
 answered_by (Noise d frame ∷ before) c n e = fit_later (Noise d frame) before c n (answered_by before c n e)
 answered_by (Reply d m unit ∷ before) c n e =
-    by (λ f. answered_by before c n f) (eqb d c && (eqb m n && fits_query (slice_get (asked before c) n) unit)) refl e
+    by (λ f. answered_by before c n f) (eqb d c && (eqb m n && fits_query (slice_get (asked before c) n) unit)) (is_answered before c n) refl refl e
   where
     by : (is_answered before c n ≡ true → HasFit before c n)
-        → (b : Bool) → (eqb d c && (eqb m n && fits_query (slice_get (asked before c) n) unit)) ≡ b → (b || is_answered before c n) ≡ true
+        → (b old : Bool) → (eqb d c && (eqb m n && fits_query (slice_get (asked before c) n) unit)) ≡ b → is_answered before c n ≡ old → (b || old) ≡ true
         → HasFit (Reply d m unit ∷ before) c n
-    by rest true now f =
+    by rest b true now is f = fit_later (Reply d m unit) before c n (rest is)
+    by rest true false now is f =
         let a = and_parts (eqb d c) _ now in
         let b = and_parts (eqb m n) _ a.1 in
         let same_c : d ≡ c = eqb-true d c a.0 in
         let same_n : m ≡ n = eqb-true m n b.0 in
-        record { older = before; unit = unit; came = record { later = []; stands = λ i. Reply (same_c i) (same_n i) unit ∷ before }; fits_it = b.1 }
-    by rest false other f = fit_later (Reply d m unit) before c n (rest f)
+        record {
+          older = before;
+          unit = unit;
+          came = record { later = []; stands = λ i. Reply (same_c i) (same_n i) unit ∷ before };
+          fits_it = b.1;
+          new = is;
+        }
+    by rest false false now is f = absurd (cc)
 
 -- a reply to what was sent fits it
-reply_fits : (earlier : History) (c n : ℕ) (unit : List ℕ) (w : Writing) (reply : AReply) → IsReplyToSend earlier c n unit w reply
+pub reply_fits : (earlier : History) (c n : ℕ) (unit : List ℕ) (w : Writing) (reply : AReply) → IsReplyToSend earlier c n unit w reply
     → fits_query (slice_get (asked earlier c) n) unit ≡ true
 reply_fits earlier c n unit w reply is =
     ap (λ o. fits_query o unit) (send_there earlier c n w is.sending is.send) ∙ answered (write_request w.address w.payload) reply unit is.spelled
 
-first_so : (before : History) (c n : ℕ) → is_answered before c n ≡ false → IsFirstToSend before c n
+pub first_so : (before : History) (c n : ℕ) → is_answered before c n ≡ false → IsFirstToSend before c n
 first_so before c n e older unit w reply came is =
     let yes : is_answered before c n ≡ true =
     ap (λ h. is_answered h c n) came.stands ∙ answers_on came.later older c n unit (reply_fits older c n unit w reply is) in
@@ -309,7 +323,7 @@ unanswered before c n w legal is first = by (is_answered before c n) refl
 
 -- ---- settings
 
-at_put : (key k : ℕ) (s : Setting) (table : Settings) → setting_at (with_setting k s table) key ≡ cond (eqb key k) (Some s) (setting_at table key)
+pub at_put : (key k : ℕ) (s : Setting) (table : Settings) → setting_at (with_setting k s table) key ≡ cond (eqb key k) (Some s) (setting_at table key)
 at_put key k s table =
     rows.find-put nat_cmp nat_cmp_total key k s table ∙ ap (λ b. cond b (Some s) (setting_at table key)) (unsigned_tied key k)
 
@@ -473,7 +487,7 @@ settling_set older c n unit order state z =
     (ap (λ k. is_some (setting_at (settings older) k)) (sym z.order_is) ∙ sent_set older c n z.w z.replies.sending z.replies.send)
 
 -- after it the order waits no more
-settled_on : (before older : History) (c n : ℕ) (unit : List ℕ) (order : ℕ) (state : OrderState) (s : Setting) → Legal before
+pub settled_on : (before older : History) (c n : ℕ) (unit : List ℕ) (order : ℕ) (state : OrderState) (s : Setting) → Legal before
     → Happened before (Reply c n unit) older → Settles older c n unit order state → setting_at (settings before) order ≡ Some s → is_waiting s.state ≡ false
 settled_on before older c n unit order state s legal came z e =
     let old = settling_set older c n unit order state z in
@@ -555,7 +569,7 @@ module _ (before : History) (c n : ℕ) (unit : List ℕ) (order : ℕ) (setting
   stated (Some state) is f = set state is (setting_at (settings before) w.order) refl f
 
 -- an order that doesn't wait was settled by a reply
-settled_so : (before : History) (order : ℕ) (setting : Setting) → Legal before → setting_at (settings before) order ≡ Some setting
+pub settled_so : (before : History) (order : ℕ) (setting : Setting) → Legal before → setting_at (settings before) order ≡ Some setting
     → is_waiting setting.state ≡ false → IsSettledBy before order setting.state
 settled_so [] order setting legal e done = absurd (none-some setting e)
 settled_so (Restart site ∷ before) order setting legal e done = settled_later (Restart site) before order setting.state (settled_so before order setting legal.2 e done)

@@ -16,6 +16,8 @@ pub mod Offices
 pub mod FirstArrivals
 pub mod KeptRequests
 pub mod SettledOrders
+pub mod SameArrivals
+pub mod Losses
 pub mod Fitting
 pub mod Messages
 pub mod ByName

@@ -1,6 +1,6 @@
 //! Laws of the definitions alone.
 
-ghost use Rattle.std.specs.Prelude.{◌≡◌, ◌⊎◌, ◌↔◌, ◌≤◌, ℕ, All, false, List, ◌++◌, Some, IsSome};
+ghost use Rattle.std.specs.Prelude.{◌≡◌, ◌⊎◌, ◌↔◌, ◌≤◌, ℕ, ◌+◌, ◌*◌, All, Contains, false, List, ◌++◌, length, Some, IsSome};
 ghost use Rattle.read_planner.specs.Place.{CanBeRead};
 ghost use Rattle.poll_book.specs.declared.requests.Request.{Request};
 ghost use Rattle.poll_book.specs.declared.rows.OrderState.{OrderState};
@@ -21,6 +21,8 @@ ghost use Rattle.office_core.specs.Messages.{IsMessage, happening_of};
 ghost use Rattle.office_core.specs.Queries.{Writing};
 ghost use Rattle.office_core.specs.Standing.{Sees};
 ghost use Rattle.office_core.specs.FirstArrivals.{IsReadingOf, AreBySlot, sum_of_steps, numbers_of};
+ghost use Rattle.office_core.specs.Losses.{HasReadingsOf, first_slot, last_slot};
+ghost use Rattle.office_core.specs.SameArrivals.{HaveSameArrivals, HasEqualCopies};
 ghost use Rattle.office_core.specs.KeptRequests.{IsFirstRequest, OrderedUnder};
 ghost use Rattle.office_core.specs.SettledOrders.{IsSend, IsOldest, IsSettledBy};
 
@@ -33,6 +35,32 @@ pub fn first_arrivals()
     ensures slots { (before : History) (known : PointRow) → (pairs : List (ℕ × ℕ)) × AreBySlot before known pairs }
     ensures total { (before : History) (known : PointRow) (pairs : List (ℕ × ℕ)) → AreBySlot before known pairs
         → total before known ≡ sum_of_steps known.point.roll (numbers_of pairs) }
+{}
+
+/// Order, repeats and delays change nothing: two histories in which callers and the office did the same,
+/// and the same units came for the same queries, leave the same readings, totals and settings, where what
+/// came twice for one query, for one point and slot, or for one order says the same.
+pub fn order_free()
+    ensures readings { (one other : History) → Legal one → Legal other → HaveSameArrivals one other → HasEqualCopies one
+        → readings one ≡ readings other }
+    ensures totals { (one other : History) → Legal one → Legal other → HaveSameArrivals one other → HasEqualCopies one
+        → (known : PointRow) → total one known ≡ total other known }
+    ensures orders { (one other : History) → Legal one → Legal other → HaveSameArrivals one other → HasEqualCopies one
+        → settings one ≡ settings other }
+{}
+
+/// Readings that are lost never raise a total. Take two histories with the same points, of which the one
+/// has each reading of a counter that the other has: its total is no smaller; and where the least and the
+/// greatest slot that count are the same, it is greater by whole rounds of the counter, at most one for
+/// each reading more that counts.
+pub fn losses()
+    ensures lost { (less more : History) (known : PointRow) → Legal less → Legal more → points less ≡ points more
+        → Contains (points less) known → HasReadingsOf more less known → total less known ≤ total more known }
+    ensures rounds { (less more : History) (known : PointRow) → Legal less → Legal more → points less ≡ points more
+        → Contains (points less) known → HasReadingsOf more less known
+        → (xs ys : List (ℕ × ℕ)) → AreBySlot less known xs → AreBySlot more known ys
+        → first_slot xs ≡ first_slot ys → last_slot xs ≡ last_slot ys
+        → (k : ℕ) × (total less known + k * (known.point.roll + 1) ≡ total more known) × (k + length xs ≤ length ys) }
 {}
 
 /// What is kept under a caller's key is the first request under it, with what became of it where it
