@@ -1,9 +1,10 @@
 //! Reading a list of 10,000 points and a site of 64 lines and 256 devices, loading the list twice, and
 //! planning the reads of 10,000 points: spread out, and each inside strings that begin sooner.
-use crate::office::{HEADER, begun, load, site};
+use crate::office::load;
 use crate::pace::{granted, print_each, timed};
 use mb_pdu::Table;
 use office_core::Office;
+use office_plays::builders::{HEADER, begun, site};
 use point_list::{Label, Name, Point, Role, Site, read_list};
 use poll_book::MemKeeper;
 use read_planner::{can_be_read, plan};
@@ -71,7 +72,7 @@ fn measure_loads(rt: &HostRuntime, office: &mut Office<MemKeeper>, text: &str) -
 /// Prints how long the site's reading takes, and that of the list over it.
 fn measure_readings(rt: &HostRuntime, text: &str, list: &str) -> io::Result<()> {
     let (site, took) = timed!(rt, site(rt.alloc(), text));
-    let site = granted(site)?;
+    let site = granted(site.ok())?;
     let micros = took.as_micros();
     println!(rt; "a site of {LINES} lines and {DEVICES} devices read in {micros} us")?;
     measure_list(rt, &site, list)
@@ -79,7 +80,7 @@ fn measure_readings(rt: &HostRuntime, text: &str, list: &str) -> io::Result<()> 
 
 /// An office of the site of a text.
 fn office_of(alloc: Global, text: &str) -> Option<Office<MemKeeper>> {
-    begun(alloc, MemKeeper::new(alloc), site(alloc, text)?)
+    begun(alloc, MemKeeper::new(alloc), text).ok()?.ok()
 }
 
 pub fn lists(rt: &HostRuntime) -> io::Result<()> {

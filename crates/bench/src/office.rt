@@ -1,61 +1,41 @@
 //! Keeping readings, replies of 125 registers, slot after slot of 1,000 points; and orders under different
 //! keys, each of them sent and settled by its echo.
-ghost use Rattle.std.specs.Prelude.{IfSome};
-ghost use Rattle.point_list.specs.Sites.{IsSound};
-
 use crate::modbus::reply_bytes;
 use crate::pace::{granted, print_each, timed};
 use mb_mbap::Frame;
 use mb_pdu::{Span, Unit};
 use office_core::{Office, OfficeError, RequestAnswer};
-use point_list::{Site, read_site};
-use poll_book::{Caller, Keeper, Key, MemKeeper, OrderState};
+use office_plays::builders::{HEADER, named, office_over};
+use office_plays::steps::state;
+use poll_book::{Keeper, MemKeeper, OrderState};
 use poll_match::Conn;
 use read_planner::Read;
 use std::alloc::{AllocError, Global};
 use std::io;
 
-pub const HEADER: &str = "name,device,table,address,type,length,scale,role,roll\n";
-
 pub const POINTS: u32 = 1_000;
 
-const SITE: &str =
-    "[[line]]\nname = \"roof\"\naddress = \"127.0.0.1:1502\"\n[[device]]\nname = \"m1\"\nline = \"roof\"\nunit = 17\ngap = 8\n";
-
 // The calls of an office stand in functions that promise nothing of them: a measure needs nothing.
-
-pub fn site(alloc: Global, text: &str) -> Option<Site>
-    ensures { IfSome result (λ site. IsSound site) }
-{
-    read_site(alloc, text.as_bytes()).ok()
-}
-
-/// An office over what a keeper has.
-pub fn begun<K: Keeper + Drop>(alloc: Global, keeper: K, site: Site) -> Option<Office<K>>
-    requires { IsSound site }
-{
-    Office::new(alloc, keeper, site).ok()
-}
-
-/// An office of the roof.
-pub fn opened<K: Keeper + Drop>(alloc: Global, keeper: K) -> Option<Office<K>> {
-    begun(alloc, keeper, site(alloc, SITE)?)
-}
 
 /// What becomes of a list.
 pub fn load<K: Keeper>(
     office: &mut Office<K>,
     key: &str,
     list: &str,
-) -> Option<Result<RequestAnswer, OfficeError>> {
-    Some(office.load(&Caller::new("bench")?, &Key::new(key)?, list.as_bytes()))
+) -> Result<RequestAnswer, OfficeError> {
+    let (caller, key) = named(key)?;
+    office.load(&caller, &key, list.as_bytes())
 }
 
-/// An office of the roof that knows the points of a list, its caller's first.
-pub fn loaded<K: Keeper + Drop>(alloc: Global, keeper: K, list: &str) -> Option<Office<K>> {
-    let mut office = opened(alloc, keeper)?;
-    load(&mut office, "list", list)?.ok()?;
-    Some(office)
+/// An office that knows the points of a list, its caller's first.
+pub fn loaded<K: Keeper + Drop>(
+    alloc: Global,
+    keeper: K,
+    list: &str,
+) -> Result<Office<K>, OfficeError> {
+    let mut office = office_over(alloc, keeper)?;
+    load(&mut office, "list", list)?;
+    Ok(office)
 }
 
 /// Counters of one register: so many of them from address 0, and so many from each other multiple of the
@@ -120,8 +100,7 @@ fn poll_all<K: Keeper>(office: &mut Office<K>, slots: u32) -> Option<()> {
     (rows.len() as u64 == slots as u64).then_some(())
 }
 
-const SETTING: &str =
-    "name,device,table,address,type,length,scale,role,roll\nlim,m1,holding,40,uint16,,,setting,\n";
+const SETTING: &str = "lim,m1,holding,40,uint16,,,setting,\n";
 
 /// The order of this number under a key of its own: it is ordered, sent, and its echo comes.
 fn carry_out<K: Keeper>(
@@ -131,7 +110,7 @@ fn carry_out<K: Keeper>(
     number: u32,
 ) -> Option<()> {
     let name = format!(in alloc; "k{number}").ok()?;
-    let (caller, key) = (Caller::new("bench")?, Key::new(name.as_str())?);
+    let (caller, key) = named(name.as_str()).ok()?;
     office.order(&caller, &key, "lim", 80).ok()?;
     // A device answers the write of one register by the same frame.
     let sent = office.send_order(conn, number).ok()?;
@@ -144,8 +123,7 @@ fn carry_out_all<K: Keeper>(alloc: Global, office: &mut Office<K>, count: u32) -
     for before in 0..count {
         carry_out(alloc, office, conn, before + 1)?;
     }
-    let last = office.order_state(count).ok()??;
-    (last == OrderState::Done).then_some(())
+    (state(office, count) == Ok(Some(OrderState::Done))).then_some(())
 }
 
 /// What an office is used for: readings of so many slots, or so many orders.
@@ -160,7 +138,7 @@ impl Work {
     fn list(self, alloc: Global) -> Result<String, AllocError> {
         match self {
             Work::Slots(_) => counters(alloc, 125, 125),
-            Work::Orders(_) => String::from_str(alloc, SETTING),
+            Work::Orders(_) => format!(in alloc; "{HEADER}{SETTING}"),
         }
     }
 
@@ -172,8 +150,8 @@ impl Work {
     }
 
     /// An office over an empty keeper that knows its points.
-    fn begun<K: Keeper + Drop>(self, alloc: Global, keeper: K) -> Option<Office<K>> {
-        loaded(alloc, keeper, self.list(alloc).ok()?.as_str())
+    fn begun<K: Keeper + Drop>(self, alloc: Global, keeper: K) -> Result<Office<K>, OfficeError> {
+        loaded(alloc, keeper, self.list(alloc)?.as_str())
     }
 
     /// Prints how long it takes, for each of what it is called.
@@ -188,7 +166,7 @@ impl Work {
 
     /// Measures it over an empty keeper, and gives the keeper.
     pub fn measured<K: Keeper + Drop>(self, rt: &HostRuntime, keeper: K) -> io::Result<K> {
-        let mut office = granted(self.begun(rt.alloc(), keeper))?;
+        let mut office = granted(self.begun(rt.alloc(), keeper).ok())?;
         self.measure(rt, &mut office)?;
         Ok(office.into_keeper())
     }

@@ -5,7 +5,7 @@ use crate::pace::{granted, timed};
 use mb_map::Mapping;
 use mb_mbap::{Counted, Frame};
 use mb_pdu::Unit;
-use office_core::Office;
+use office_core::{Office, OfficeError};
 use office_net::{PollFault, Round, poll_round};
 use poll_book::Keeper;
 use std::alloc::{AllocError, Global};
@@ -77,14 +77,14 @@ fn measure_rounds<K: Keeper>(
 }
 
 /// An office over an empty keeper that knows the counters.
-fn begun<K: Keeper + Drop>(alloc: Global, keeper: K) -> Option<Office<K>> {
-    let list = counters(alloc, u32::from(QUANTITY), u32::from(STRIDE)).ok()?;
+fn begun<K: Keeper + Drop>(alloc: Global, keeper: K) -> Result<Office<K>, OfficeError> {
+    let list = counters(alloc, u32::from(QUANTITY), u32::from(STRIDE))?;
     loaded(alloc, keeper, list.as_str())
 }
 
 pub fn measure<K: Keeper + Drop>(rt: &HostRuntime, keeper: K) -> io::Result<Duration> {
     // So many registers hold all blocks.
     let mut mapping = granted(Mapping::new(rt.alloc(), 0, 0, 10_000, 0).ok())?;
-    let mut office = granted(begun(rt.alloc(), keeper))?;
+    let mut office = granted(begun(rt.alloc(), keeper).ok())?;
     measure_rounds(rt, &mut office, &mut mapping)
 }

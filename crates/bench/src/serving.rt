@@ -1,12 +1,13 @@
 //! Requests over sockets on 127.0.0.1, a connection each. Both ends are in this process, and take
 //! their turns one after the other, over an office in memory. And lists as large as a body may be,
 //! from memory.
-use crate::office::{HEADER, load, loaded, poll};
+use crate::office::{load, loaded, poll};
 use crate::pace::{granted, print_each, timed};
 use mb_mbap::Counted;
 use mb_pdu::{Span, Unit};
-use office_core::Office;
+use office_core::{Office, OfficeError};
 use office_net::serve_one;
+use office_plays::builders::HEADER;
 use poll_book::{Keeper, MemKeeper};
 use std::alloc::{AllocError, Global};
 use std::io::{self, Write};
@@ -49,15 +50,15 @@ fn is_done(asked: Asked, answer: &str) -> bool {
 }
 
 /// An office of a counter with readings, and a setting.
-fn office_of(alloc: Global) -> Option<Office<MemKeeper>> {
+fn office_of(alloc: Global) -> Result<Office<MemKeeper>, OfficeError> {
     let mut office = loaded(alloc, MemKeeper::new(alloc), LIST)?;
     let span = Span {
         start: 107,
         quantity: 1,
     };
-    let unit = Unit::from_bytes(&[3, 2, 0, 80])?;
-    poll(&mut office, SLOTS, &[span], &unit).ok()?;
-    Some(office)
+    let unit = Unit::from_bytes(&[3, 2, 0, 80]).ok_or(OfficeError::WrongReply)?;
+    poll(&mut office, SLOTS, &[span], &unit)?;
+    Ok(office)
 }
 
 /// Answers what was asked for over a connection, and closes it.
@@ -108,7 +109,7 @@ fn measure_serving<K: Keeper>(rt: &HostRuntime, office: &mut Office<K>) -> io::R
 }
 
 pub fn measure(rt: &HostRuntime) -> io::Result<()> {
-    let mut office = granted(office_of(rt.alloc()))?;
+    let mut office = granted(office_of(rt.alloc()).ok())?;
     measure_serving(rt, &mut office)
 }
 
@@ -155,7 +156,7 @@ fn put_all<K: Keeper>(alloc: Global, office: &mut Office<K>, list: &str) -> io::
 fn load_all<K: Keeper>(alloc: Global, office: &mut Office<K>, list: &str) -> io::Result<()> {
     for number in 0..LISTS {
         let key = format!(in alloc; "load{number}")?;
-        granted(load(office, key.as_str(), list).and_then(Result::ok))?;
+        granted(load(office, key.as_str(), list).ok())?;
     }
     Ok(())
 }
@@ -176,6 +177,6 @@ fn measure_lists<K: Keeper>(
 
 pub fn lists(rt: &HostRuntime) -> io::Result<()> {
     let list = long_list(rt.alloc())?;
-    let mut office = granted(loaded(rt.alloc(), MemKeeper::new(rt.alloc()), LIST))?;
+    let mut office = granted(loaded(rt.alloc(), MemKeeper::new(rt.alloc()), LIST).ok())?;
     measure_lists(rt, &mut office, list.as_str())
 }

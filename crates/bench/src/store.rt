@@ -2,15 +2,16 @@
 //! key; the oldest order that waits, where all orders are settled, searched for the first time, and then
 //! again; and opening an office in a file of 200,000 readings. What names a database's place opens it and
 //! does no more: a proof that carries its files is a dear one.
-use crate::office::{POINTS, Work, opened};
+use crate::office::{POINTS, Work};
 use crate::pace::{granted, print_each, refused, timed};
 use crate::polling::measure;
-use office_store::{SqlKeeper, create};
+use office_plays::builders::office_over;
 use poll_book::{Keeper, Neighbours, PointRow};
 use sqlite::{Alter, Connection, Files, Options};
 use sqlite_disk::Memory;
 use std::time::{Duration, Instant};
 use std::{fs, io};
+use store_plays::kept;
 
 /// Where a database lies.
 #[derive(Clone, Copy)]
@@ -43,14 +44,6 @@ const PAGES: Options = Options {
     seed: 7,
 };
 
-/// A database's keeper, over tables that are made first where they are asked for.
-fn kept<S: Alter + Drop>(mut connection: Connection<S>, is_new: bool) -> Option<SqlKeeper<S>> {
-    if is_new && (!connection.is_autocommit() || create(&mut connection).is_err()) {
-        return None;
-    }
-    SqlKeeper::open(connection).ok()
-}
-
 fn fill<K: Keeper + Drop>(rt: &HostRuntime, keeper: K, slots: u32) -> io::Result<Duration> {
     let (_keeper, took) = timed!(rt, Work::Slots(slots).measured(rt, keeper)?);
     Ok(took)
@@ -71,15 +64,12 @@ fn done_over<S: Alter + Drop>(
     connection: Connection<S>,
     task: Task,
 ) -> io::Result<Duration> {
-    let keeper = granted(kept(connection, !matches!(task, Task::Open(_))))?;
+    let keeper = granted(kept(connection, !matches!(task, Task::Open(_))).ok())?;
     done(rt, keeper, task)
 }
 
 fn done_in_memory(rt: &HostRuntime, task: Task) -> io::Result<Duration> {
-    match Connection::open_in_memory(rt.alloc()) {
-        Ok(connection) => done_over(rt, connection, task),
-        Err(_) => Err(refused()),
-    }
+    done_over(rt, Connection::open_in_memory(rt.alloc())?, task)
 }
 
 fn done_in_pages(rt: &HostRuntime, task: Task) -> io::Result<Duration> {
@@ -183,9 +173,9 @@ fn search<S: Alter + Drop>(
     connection: Connection<S>,
     count: u32,
 ) -> io::Result<Duration> {
-    let keeper = granted(kept(connection, true))?;
+    let keeper = granted(kept(connection, true).ok())?;
     let keeper = Work::Orders(count).measured(rt, keeper)?;
-    let mut keeper = granted(kept(keeper.into_connection(), false))?;
+    let mut keeper = granted(kept(keeper.into_connection(), false).ok())?;
     measure_searches(rt, &mut keeper, count)
 }
 
@@ -204,7 +194,7 @@ pub fn polling(rt: &HostRuntime) -> io::Result<()> {
 
 /// Prints how long an office takes to open, with its database.
 fn open<K: Keeper + Drop>(rt: &HostRuntime, keeper: K, start: Instant) -> io::Result<Duration> {
-    let office = granted(opened(rt.alloc(), keeper))?;
+    let office = granted(office_over(rt.alloc(), keeper).ok())?;
     let took = start.elapsed(rt)?;
     let micros = took.as_micros();
     println!(rt;

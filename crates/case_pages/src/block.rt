@@ -25,10 +25,7 @@ impl<'a> Block<'a> {
 }
 
 fn line_ends(text: &str) -> usize {
-    text.as_bytes()
-        .iter()
-        .filter(|byte| **byte == b'\n')
-        .count()
+    text.bytes().filter(|byte| *byte == b'\n').count()
 }
 
 /// The blocks of a page, in their order: each second part between fences.
@@ -40,10 +37,7 @@ pub fn blocks_of(alloc: Global, page: &str) -> Result<Vec<Block<'_>>, Trouble> {
             let Some((words, text)) = part.split_once('\n') else {
                 return Err(Trouble::Page("a fence without a line"));
             };
-            let block = Block { words, text, line };
-            if blocks.push(block).is_err() {
-                return Err(Trouble::Memory);
-            }
+            blocks.push(Block { words, text, line })?;
         }
         line = line.saturating_add(line_ends(part));
     }

@@ -1,5 +1,5 @@
 //! Why a page can't be played to its end.
-use std::alloc::AllocError;
+use std::alloc::{AllocError, AllocFailed};
 use std::error::Error;
 use std::{fmt, io};
 
@@ -27,6 +27,12 @@ impl Error for Trouble {}
 
 impl From<AllocError> for Trouble {
     fn from(_: AllocError) -> Trouble {
+        Trouble::Memory
+    }
+}
+
+impl<T: Drop> From<AllocFailed<T>> for Trouble {
+    fn from(_: AllocFailed<T>) -> Trouble {
         Trouble::Memory
     }
 }

@@ -66,10 +66,8 @@ fn registers_in(cells: &[(u16, u16)], start: u16, quantity: u16) -> Option<Regis
 
 /// The register at an address.
 fn register(cells: &[(u16, u16)], address: u16) -> Option<u16> {
-    cells
-        .iter()
-        .find(|cell| cell.0 == address)
-        .map(|cell| cell.1)
+    let cell = cells.iter().find(|cell| cell.0 == address)?;
+    Some(cell.1)
 }
 
 /// The registers of a word: a number, also so many times, or a text of two bytes in each.
@@ -122,9 +120,7 @@ impl Device {
             return Err(Trouble::Page("no stretch of registers"));
         };
         for (place, word) in (0u16..).zip(words_of(alloc, words)?.iter()) {
-            self.cells
-                .push((first.wrapping_add(place), *word))
-                .map_err(AllocError::from)?;
+            self.cells.push((first.wrapping_add(place), *word))?;
         }
         Ok(())
     }
@@ -132,12 +128,7 @@ impl Device {
     /// What came of it, how many reads there were, how many of them began before the end of the one before, and how
     /// many failed.
     fn read_for(&self, alloc: Global, text: &str) -> Result<String, Trouble> {
-        let Device {
-            reads,
-            returns,
-            failures,
-            ..
-        } = self;
+        let (reads, returns, failures) = (self.reads, self.returns, self.failures);
         Ok(format!(in alloc; "{text}; reads {reads}, back {returns}, failed {failures}")?)
     }
 }
@@ -169,22 +160,14 @@ pub(crate) fn chain(alloc: Global, input: &str) -> Result<String, Trouble> {
 }
 
 fn common_text(alloc: Global, values: &Common) -> Result<String, AllocError> {
-    let Common {
-        mn,
-        md,
-        opt,
-        vr,
-        sn,
-        da,
-    } = values;
     let mut text = String::new(alloc);
     for (name, value) in [
-        ("Mn ", mn),
-        (", Md ", md),
-        (", Opt ", opt),
-        (", Vr ", vr),
-        (", SN ", sn),
-        (", DA ", da),
+        ("Mn ", &values.mn),
+        (", Md ", &values.md),
+        (", Opt ", &values.opt),
+        (", Vr ", &values.vr),
+        (", SN ", &values.sn),
+        (", DA ", &values.da),
     ] {
         text.push_str(name)?;
         text.push_str(value_text(alloc, value)?.as_str())?;
@@ -209,7 +192,7 @@ pub(crate) fn common_model(alloc: Global, input: &str) -> Result<String, Trouble
     let chain = match model_of(model) {
         Some(model) => Chain {
             base: 0,
-            models: vec![in alloc; model].map_err(AllocError::from)?,
+            models: vec![in alloc; model]?,
             end: 65535,
         },
         None => match found(alloc, &mut Device::new(alloc, input)?) {

@@ -5,32 +5,12 @@ use crate::lists::last_of;
 use crate::texts::refusal;
 use case_pages::{Block, Tally, Trouble};
 use mb_map::Sim;
-use point_list::{ListFault, Site};
+use point_list::Site;
 use std::alloc::{AllocError, Global};
 use std::fmt::Display;
 
 /// The line that stands for those between its neighbours, which differ in a number.
 const AND_SO_ON: &str = "…\n";
-
-/// What can be wrong with a list, but for want of memory.
-const FAULTS: [ListFault; 16] = [
-    ListFault::BadCsv,
-    ListFault::BadHeader,
-    ListFault::BadName,
-    ListFault::UnknownDevice,
-    ListFault::BadTable,
-    ListFault::BadAddress,
-    ListFault::BadType,
-    ListFault::LeftOutType,
-    ListFault::BadLength,
-    ListFault::BadScale,
-    ListFault::BadRole,
-    ListFault::BadRoll,
-    ListFault::Twice,
-    ListFault::TooManyPoints,
-    ListFault::NoModel,
-    ListFault::PastModel,
-];
 
 /// The words of a fence without the fault behind them, and the fault.
 fn example_of(words: &str) -> Option<(&str, &str)> {
@@ -40,6 +20,13 @@ fn example_of(words: &str) -> Option<(&str, &str)> {
         }
     }
     None
+}
+
+/// Whether a page has an example of a fault.
+fn has_example(page: &[Block<'_>], fault: &str) -> bool {
+    page.iter()
+        .filter_map(|block| example_of(block.words))
+        .any(|(_, words)| words.starts_with(fault))
 }
 
 /// The number at which a line differs from another, as digits, and where it begins.
@@ -149,24 +136,19 @@ fn fault_of<T: Drop, E: Display + Drop>(
     }
 }
 
-/// A fault, where the page has an example of it.
-fn met<'a>(page: &[Block<'_>], fault: &'a str) -> &'a str {
-    let is_met = page.iter().any(|block| example_of(block.words).is_some_and(|(
-        _,
-        it,
-    )| it.starts_with(fault)));
-    if is_met { fault } else { "no example" }
-}
-
-/// Expects of a page that each fault of lists has an example.
+/// Expects that each fault of a block, a line each, has an example in the page.
 pub(crate) fn play_faults<R: Print>(
-    alloc: Global,
     tally: &mut Tally<'_, R>,
     page: &[Block<'_>],
+    block: &Block<'_>,
 ) -> Result<(), Trouble> {
-    for fault in FAULTS {
-        let fault = fault.to_string(alloc)?;
-        tally.told(1, met(page, fault.as_str()), fault.as_str())?;
+    for fault in block.text.lines() {
+        let met = if has_example(page, fault) {
+            fault
+        } else {
+            "no example"
+        };
+        tally.told(block.line, met, fault)?;
     }
     Ok(())
 }

@@ -7,7 +7,7 @@ use case_pages::{Block, Trouble, bytes_of, file_of};
 use point_list::{ListError, Point, Site, read_list, read_site, resolve};
 use std::alloc::Global;
 
-const HEADER: &[u8] = b"name,device,table,address,type,length,scale,role,roll\n";
+const HEADER: &str = "name,device,table,address,type,length,scale,role,roll\n";
 
 fn site_of(alloc: Global, text: &str) -> Result<Site, ListError>
     ensures { IfOk result IsSound }
@@ -39,8 +39,5 @@ pub(crate) fn list(alloc: Global, page: &[Block<'_>], input: &str) -> Result<Str
 
 /// The last point of records, or what they are refused for.
 pub(crate) fn records(alloc: Global, page: &[Block<'_>], input: &str) -> Result<String, Trouble> {
-    let mut list = Vec::new(alloc);
-    list.extend_from_slice(HEADER)?;
-    list.extend_from_slice(&bytes_of(alloc, input)?)?;
-    outcome(alloc, last_of(alloc, file_of(page, "site.toml")?, &list))
+    list(alloc, page, format!(in alloc; "{HEADER}{input}")?.as_str())
 }

@@ -24,8 +24,8 @@ use case_pages::{Block, Player, Tally, Trouble, play_pages, play_rows};
 use std::alloc::Global;
 use std::process::ExitCode;
 
-/// The page whose examples have to show each fault of lists.
-const FORMATS: &str = "FORMATS.md";
+/// The words of a block of faults, of each of which its page has an example.
+const FAULTS: &str = "text faults";
 
 #[derive(Drop)]
 struct Pages {
@@ -53,18 +53,16 @@ impl Player for Pages {
     fn play<R: Print>(
         &mut self,
         tally: &mut Tally<'_, R>,
-        name: &str,
+        _name: &str,
         page: &[Block<'_>],
     ) -> Result<(), Trouble> {
         let mut examples = Examples::new(self.alloc);
         for block in page {
             match block.words.strip_prefix("rows ") {
                 Some(words) => play_kind(self.alloc, tally, page, block, words)?,
+                None if block.words == FAULTS => formats::play_faults(tally, page, block)?,
                 None => examples.play(tally, block)?,
             }
-        }
-        if name == FORMATS {
-            formats::play_faults(self.alloc, tally, page)?;
         }
         Ok(())
     }

@@ -52,9 +52,10 @@ pub(crate) fn kind(alloc: Global, input: &str) -> Result<String, Trouble> {
         return Ok(String::from_str(alloc, "no type")?);
     };
     let (code, registers, greatest) = (kind.code(), kind.registers(), kind.greatest());
-    let other = unless(
+    let text = format!(in alloc; "{kind:?}: code {code}, registers {registers}, to {greatest}")?;
+    unless(
         is_found_again(kind),
         ", and ANOTHER TYPE by its name or code",
-    );
-    Ok(format!(in alloc; "{kind:?}: code {code}, registers {registers}, to {greatest}{other}")?)
+        text,
+    )
 }

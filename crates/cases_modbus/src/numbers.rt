@@ -23,16 +23,12 @@ fn number_of(input: &str) -> Option<Option<u128>> {
 
 /// `"DIGITS" LIMIT`, or `"DIGITS" MOST LIMIT` where there may be only so many digits.
 pub(crate) fn number(alloc: Global, input: &str) -> Result<String, Trouble> {
-    match number_of(input) {
-        Some(number) => Ok(shown(alloc, &number)?),
-        None => Err(Trouble::Page("no digits and limit")),
-    }
+    let number = number_of(input).ok_or(Trouble::Page("no digits and limit"))?;
+    Ok(shown(alloc, &number)?)
 }
 
 /// `"DIGITS"`.
 pub(crate) fn scale(alloc: Global, input: &str) -> Result<String, Trouble> {
-    match quoted(input) {
-        Some((text, _)) => Ok(shown(alloc, &digits::scale(text.as_bytes()))?),
-        None => Err(Trouble::Page("no digits")),
-    }
+    let (text, _) = quoted(input).ok_or(Trouble::Page("no digits"))?;
+    Ok(shown(alloc, &digits::scale(text.as_bytes()))?)
 }

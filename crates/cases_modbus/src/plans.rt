@@ -30,7 +30,7 @@ fn push_points(points: &mut Vec<Point>, text: &str) -> Result<(), Trouble> {
         let Some(point) = point_of(text, step) else {
             return Err(Trouble::Page("no point"));
         };
-        points.push(point).map_err(AllocError::from)?;
+        points.push(point)?;
     }
     Ok(())
 }
@@ -60,9 +60,7 @@ fn gap_of(input: &str) -> Option<(u16, &str)> {
 
 /// `gap GAP: TABLE ADDRESS TYPE; ..`, and the reads, if all of the points can be read.
 pub(crate) fn plan_of(alloc: Global, input: &str) -> Result<String, Trouble> {
-    let Some((gap, points)) = gap_of(input) else {
-        return Err(Trouble::Page("no gap and points"));
-    };
+    let (gap, points) = gap_of(input).ok_or(Trouble::Page("no gap and points"))?;
     let reads = planned(alloc, &points_of(alloc, points)?, gap)?;
     Ok(shown(alloc, &reads)?)
 }

@@ -40,12 +40,10 @@ impl Simulator {
             Err(MapError::Memory) => Sim::from_toml(alloc, text.as_bytes()),
             other => other,
         };
-        let sim = read.map_err(trouble)?;
-        let replies = None;
         Ok(Simulator {
             alloc,
-            sim,
-            replies,
+            sim: read.map_err(trouble)?,
+            replies: None,
         })
     }
 
@@ -53,13 +51,10 @@ impl Simulator {
         if input == "rest" {
             return self.sim.rest().map_err(trouble);
         }
-        let Some((head, unit)) = input.split_once(": ") else {
-            return Err(Trouble::Page("no frame"));
-        };
-        match frame_of(head, &hex_of(self.alloc, unit)?) {
-            Some(frame) => self.sim.take(&frame).map_err(trouble),
-            None => Err(Trouble::Page("no frame")),
-        }
+        let (head, unit) = input.split_once(": ").ok_or(Trouble::Page("no unit"))?;
+        let unit = hex_of(self.alloc, unit)?;
+        let frame = frame_of(head, &unit).ok_or(Trouble::Page("no frame"))?;
+        self.sim.take(&frame).map_err(trouble)
     }
 }
 

@@ -98,8 +98,7 @@ pub(crate) fn stream(alloc: Global, input: &str) -> Result<String, Trouble> {
         stream.extend_from_slice(&bytes)?;
     }
     let is_same = is_same_however_cut(alloc, &stream)?;
-    text.push_str(unless(is_same, ", and SOMETHING ELSE in other pieces"))?;
-    Ok(text)
+    unless(is_same, ", and SOMETHING ELSE in other pieces", text)
 }
 
 fn decoded(bytes: &[u8]) -> Result<Frame, FrameFault> {
@@ -115,9 +114,8 @@ pub(crate) fn frame(alloc: Global, input: &str) -> Result<String, Trouble> {
     let bytes = hex_of(alloc, input)?;
     match decoded(&bytes) {
         Ok(frame) => {
-            let mut text = frame_text(alloc, &frame)?;
-            text.push_str(unless(is_spelled(&frame, &bytes), OTHERWISE))?;
-            Ok(text)
+            let text = frame_text(alloc, &frame)?;
+            unless(is_spelled(&frame, &bytes), OTHERWISE, text)
         }
         Err(fault) => refusal(alloc, &fault),
     }

@@ -7,11 +7,8 @@ use mb_pdu::{Table, Unit};
 use std::alloc::Global;
 
 fn numbers_of(alloc: Global, text: &str) -> Result<Vec<u32>, Trouble> {
-    Ok(
-        text.split(' ')
-            .filter_map(|word| word.parse::<u32>().ok())
-            .collect(alloc)?,
-    )
+    let numbers = text.split(' ').filter_map(|word| word.parse::<u32>().ok());
+    Ok(numbers.collect(alloc)?)
 }
 
 fn tables_of(alloc: Global, sizes: &[u32]) -> Option<Result<Mapping, MapError>> {
@@ -30,10 +27,7 @@ fn tables_of(alloc: Global, sizes: &[u32]) -> Option<Result<Mapping, MapError>> 
 /// Two tables of bits and two of registers: `BITS REGISTERS` says how many there are of each, from address 0 on,
 /// `START BITS REGISTERS` from which address on, and eight numbers the start and the size of each.
 fn mapping_of(alloc: Global, sizes: &str) -> Result<Result<Mapping, MapError>, Trouble> {
-    match tables_of(alloc, &numbers_of(alloc, sizes)?) {
-        Some(made) => Ok(made),
-        None => Err(Trouble::Page("no sizes of tables")),
-    }
+    tables_of(alloc, &numbers_of(alloc, sizes)?).ok_or(Trouble::Page("no sizes of tables"))
 }
 
 /// That tables were made.
@@ -59,10 +53,8 @@ impl Tables {
             Err(MapError::Memory) => mapping_of(alloc, sizes)?,
             other => other,
         };
-        match made {
-            Ok(mapping) => Ok(Tables { alloc, mapping }),
-            Err(_) => Err(Trouble::Page("no tables")),
-        }
+        let mapping = made.map_err(|_| Trouble::Page("no tables"))?;
+        Ok(Tables { alloc, mapping })
     }
 }
 

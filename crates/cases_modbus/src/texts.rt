@@ -26,9 +26,12 @@ pub(crate) fn outcome<T: Debug + Drop, E: Display + Drop>(
     }
 }
 
-/// What stands behind the outcome of a case of which something else holds than should.
-pub(crate) fn unless(holds: bool, otherwise: &str) -> &str {
-    if holds { "" } else { otherwise }
+/// An outcome, behind which something stands where something else holds than should.
+pub(crate) fn unless(holds: bool, otherwise: &str, mut text: String) -> Result<String, Trouble> {
+    if !holds {
+        text.push_str(otherwise)?;
+    }
+    Ok(text)
 }
 
 /// A value as `Debug` shows it, but for items that repeat.

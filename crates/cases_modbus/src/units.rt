@@ -30,11 +30,11 @@ fn is_reply_spelled(request: &Request, reply: &Reply, bytes: &[u8]) -> bool {
 pub(crate) fn request(alloc: Global, input: &str) -> Result<String, Trouble> {
     let bytes = hex_of(alloc, input)?;
     match request_of(&bytes) {
-        Ok(request) => {
-            let mut text = shown(alloc, &request)?;
-            text.push_str(unless(is_spelled(&request, &bytes), OTHERWISE))?;
-            Ok(text)
-        }
+        Ok(request) => unless(
+            is_spelled(&request, &bytes),
+            OTHERWISE,
+            shown(alloc, &request)?,
+        ),
         Err(error) => refusal(alloc, &error),
     }
 }
@@ -50,10 +50,8 @@ pub(crate) fn reply(alloc: Global, input: &str) -> Result<String, Trouble> {
     };
     match reply_of(&request, &answered) {
         Ok(reply) => {
-            let mut text = shown(alloc, &reply)?;
             let is_spelled = is_reply_spelled(&request, &reply, &answered);
-            text.push_str(unless(is_spelled, OTHERWISE))?;
-            Ok(text)
+            unless(is_spelled, OTHERWISE, shown(alloc, &reply)?)
         }
         Err(error) => refusal(alloc, &error),
     }

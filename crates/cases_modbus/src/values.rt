@@ -39,17 +39,12 @@ fn scale_of(word: &str) -> Result<i32, Trouble> {
 /// A type's word, and what stands behind it.
 fn typed(input: &str) -> Result<(PointType, &str), Trouble> {
     let (word, rest) = split(input)?;
-    match type_of(word) {
-        Some(kind) => Ok((kind, rest)),
-        None => Err(Trouble::Page("no type")),
-    }
+    let kind = type_of(word).ok_or(Trouble::Page("no type"))?;
+    Ok((kind, rest))
 }
 
 fn split(input: &str) -> Result<(&str, &str), Trouble> {
-    match input.split_once(' ') {
-        Some(parts) => Ok(parts),
-        None => Err(Trouble::Page("a word alone")),
-    }
+    input.split_once(' ').ok_or(Trouble::Page("a word alone"))
 }
 
 /// The registers that bytes in hexadecimal digits are.
@@ -59,9 +54,7 @@ fn registers_of(alloc: Global, text: &str) -> Result<Vec<u16>, Trouble> {
         let [high, low] = pair else {
             return Err(Trouble::Page("half a register"));
         };
-        words
-            .push(u16::from_be_bytes([*high, *low]))
-            .map_err(AllocError::from)?;
+        words.push(u16::from_be_bytes([*high, *low]))?;
     }
     Ok(words)
 }
@@ -94,10 +87,12 @@ pub(crate) fn write(alloc: Global, input: &str) -> Result<String, Trouble> {
     match written(&kind, number) {
         Ok(registers) => {
             let words = registers.as_slice();
-            let mut text = bytes_text(alloc, words)?;
             let is_same = value_of(&kind, words) == Some(Value::Number(number));
-            text.push_str(unless(is_same, ", read as ANOTHER NUMBER"))?;
-            Ok(text)
+            unless(
+                is_same,
+                ", read as ANOTHER NUMBER",
+                bytes_text(alloc, words)?,
+            )
         }
         Err(error) => refusal(alloc, &error),
     }

@@ -1,6 +1,5 @@
 //! How bytes are cut that are read.
-ghost use Rattle.std.specs.Prelude.{◌≤◌, length};
-
+use std::alloc::AllocError;
 use std::io::{self, ErrorKind, Read};
 
 /// How many of the bytes that are there a read gives.
@@ -14,8 +13,6 @@ pub(crate) enum Cut {
 }
 
 impl Cut {
-    pub(crate) const ALL: [Cut; 3] = [Cut::Whole, Cut::Halves, Cut::Bytes];
-
     /// How many bytes of so many come next.
     pub(crate) fn next(self, there: usize) -> usize {
         match self {
@@ -26,7 +23,7 @@ impl Cut {
     }
 }
 
-/// Bytes to be read.
+/// Bytes to be read, to which more may be added.
 #[derive(Drop)]
 pub(crate) struct Bytes {
     bytes: Vec<u8>,
@@ -37,32 +34,19 @@ pub(crate) struct Bytes {
 }
 
 impl Bytes {
-    pub(crate) fn new(bytes: Vec<u8>, cut: Cut) -> Bytes {
+    /// Behind them a read fails, or they end.
+    pub(crate) fn new(bytes: Vec<u8>, cut: Cut, fails: bool) -> Bytes {
         Bytes {
             bytes,
             taken: 0,
             cut,
-            fails: false,
+            fails,
         }
     }
 
-    /// Bytes behind which a read fails.
-    pub(crate) fn failing(bytes: Vec<u8>, cut: Cut) -> Bytes {
-        Bytes {
-            fails: true,
-            ..Bytes::new(bytes, cut)
-        }
+    pub(crate) fn add(&mut self, bytes: &[u8]) -> Result<(), AllocError> {
+        self.bytes.extend_from_slice(bytes)
     }
-}
-
-/// Copies the next of these bytes into a room, and gives how many they were.
-pub(crate) fn give(bytes: &[u8], cut: Cut, room: &mut [u8]) -> usize
-    ensures within { result ≤ length room.old }
-    ensures some { result ≤ length bytes.now }
-{
-    let count = cut.next(bytes.len()).min(bytes.len()).min(room.len());
-    room[..count].copy_from_slice(&bytes[..count]);
-    count
 }
 
 impl Read for Bytes {
@@ -75,7 +59,9 @@ impl Read for Bytes {
         if rest.is_empty() && self.fails {
             return Err(io::Error::from(ErrorKind::ConnectionReset));
         }
-        let count = give(rest, self.cut, buf);
+        let next = self.cut.next(rest.len());
+        let count = next.min(rest.len()).min(buf.len());
+        buf[..count].copy_from_slice(&rest[..count]);
         self.taken = self.taken.saturating_add(count);
         Ok(count)
     }

@@ -1,8 +1,8 @@
 //! Parts of files, as a page shows them.
 use crate::console::judge;
+use crate::shell::{file, text_of};
 use crate::world::World;
 use case_pages::{Block, Tally, Trouble};
-use std::str;
 
 /// Whether a text has these lines in this order, perhaps with others between them.
 fn has_lines(text: &str, part: &str) -> bool {
@@ -22,10 +22,8 @@ pub(crate) fn play<R: Print>(
     block: &Block<'_>,
     name: &str,
 ) -> Result<(), Trouble> {
-    let Ok(bytes) = world.file(name) else {
-        return Err(Trouble::Page("no file of this name"));
-    };
-    let told = if has_lines(str::from_utf8(&bytes).unwrap_or(""), block.text) {
+    let bytes = file(world, name)?;
+    let told = if has_lines(text_of(&bytes), block.text) {
         block.text
     } else {
         "not these lines\n"

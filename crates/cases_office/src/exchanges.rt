@@ -2,11 +2,10 @@
 //! lines of a head end with a carriage return and a line feed, unless a `\` ends them; those behind the head's empty
 //! line are a body, and stand side by side.
 use crate::console::{is_refused, judge};
-use crate::shell::serve;
+use crate::shell::{serve, text_of};
 use crate::world::World;
 use case_pages::{Block, Tally, Trouble, bytes_of};
 use std::alloc::Global;
-use std::str;
 
 /// What is sent one way.
 #[derive(Drop)]
@@ -61,10 +60,6 @@ fn message_of<'b>(alloc: Global, part: &'b str, mark: char) -> Result<(Message, 
     Ok((message, part.get(passed..).unwrap_or("")))
 }
 
-fn shown(bytes: &[u8]) -> &str {
-    str::from_utf8(bytes).unwrap_or("bytes that are no text")
-}
-
 fn answer_to(world: &mut World<'_>, request: &[u8]) -> Result<String, Trouble> {
     serve(world, Vec::from_slice(world.rt.alloc(), request)?)
 }
@@ -109,7 +104,7 @@ pub(crate) fn play<R: Print>(
         if behind.len() == rest.len() {
             return Err(Trouble::Page("a line of neither a request nor an answer"));
         }
-        let wanted = shown(&answer.bytes);
+        let wanted = text_of(&answer.bytes);
         let told = told(world, &request.bytes, wanted)?;
         judge(world, tally, line, told.as_str(), wanted)?;
         line = line

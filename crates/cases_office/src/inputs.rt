@@ -1,9 +1,8 @@
 //! Rows of standard inputs.
-use crate::shell::office;
+use crate::shell::{file, office, text_of};
 use crate::world::World;
 use case_pages::{Outcomes, Trouble, bytes_of};
 use std::alloc::{AllocError, Global};
-use std::str;
 
 /// The lines of a text on one line.
 fn joined(alloc: Global, text: &str) -> Result<String, AllocError> {
@@ -34,11 +33,8 @@ impl World<'_> {
         if self.frame.is_empty() {
             return Ok(bytes);
         }
-        let Ok(frame) = self.file(self.frame.as_str()) else {
-            return Err(Trouble::Page("no file of this name"));
-        };
-        let frame = str::from_utf8(&frame).unwrap_or("");
-        framed(self.rt.alloc(), frame, &bytes)
+        let frame = file(self, self.frame.as_str())?;
+        framed(self.rt.alloc(), text_of(&frame), &bytes)
     }
 }
 

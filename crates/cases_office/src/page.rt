@@ -1,17 +1,34 @@
 //! The blocks of a page, in their order, in one world.
 use crate::cut::Cut;
-use crate::requests::{Beginnings, Requests};
-use crate::sources::Reads;
 use crate::wire::Devices;
-use crate::words::Lines;
 use crate::world::{Play, World};
-use crate::{console, excerpts, exchanges, peers};
-use case_pages::{Block, Player, Tally, Trouble, play_rows};
+use crate::{console, excerpts, exchanges, peers, requests, sources, words};
+use case_pages::{Block, Outcomes, Player, Tally, Trouble, play_rows};
+use std::alloc::Global;
 use std::cell::RefCell;
 
 #[derive(Clone, Copy)]
 pub(crate) struct Pages<'a> {
     pub(crate) rt: &'a HostRuntime,
+}
+
+/// Rows whose outcome comes of the row alone: of a kind, which is a word behind a fence's `rows`.
+#[derive(Clone, Copy)]
+struct Rows<'a> {
+    alloc: Global,
+    kind: &'a str,
+}
+
+impl Outcomes for Rows<'_> {
+    fn outcome(&mut self, input: &str) -> Result<String, Trouble> {
+        match self.kind {
+            "words" => words::job(self.alloc, input),
+            "requests" => requests::request(self.alloc, input),
+            "beginnings" => requests::beginnings(self.alloc, input),
+            "source" => sources::reads(self.alloc, input),
+            _ => Err(Trouble::Page("no rows of this kind")),
+        }
+    }
 }
 
 /// Plays rows. They are no bytes that come over a connection, so they are played once.
@@ -22,30 +39,16 @@ fn play_row_block<R: Print>(
     kind: &str,
 ) -> Result<(), Trouble> {
     let alloc = world.rt.alloc();
-    match kind {
-        _ if !world.play.is_first() => Ok(()),
-        "words" => play_rows(tally, block, &mut Lines { alloc }),
-        "requests" => play_rows(tally, block, &mut Requests { alloc }),
-        "source" => play_rows(tally, block, &mut Reads { alloc }),
-        "beginnings" => play_rows(tally, block, &mut Beginnings { alloc }),
-        _ => play_inputs(world, tally, block, kind),
-    }
-}
-
-fn play_inputs<R: Print>(
-    world: &mut World<'_>,
-    tally: &mut Tally<'_, R>,
-    block: &Block<'_>,
-    kind: &str,
-) -> Result<(), Trouble> {
     let (words, frame) = match kind.strip_prefix("replay ") {
         Some(frame) => ("replay", frame),
         None => (kind.strip_prefix("office ").unwrap_or(""), ""),
     };
-    if words.is_empty() {
-        return Err(Trouble::Page("no rows of this kind"));
+    if !world.play.is_first() {
+        return Ok(());
     }
-    let alloc = world.rt.alloc();
+    if words.is_empty() {
+        return play_rows(tally, block, &mut Rows { alloc, kind });
+    }
     world.words = String::from_str(alloc, words)?;
     world.frame = String::from_str(alloc, frame)?;
     play_rows(tally, block, world)

@@ -65,10 +65,7 @@ impl Script {
             }
         }
         let bytes = Vec::from_slice(alloc, bytes)?;
-        match self.parts.push(Part { behind, bytes }) {
-            Ok(()) => Ok(()),
-            Err(_) => Err(Trouble::Memory),
-        }
+        Ok(self.parts.push(Part { behind, bytes })?)
     }
 
     fn add_lines(&mut self, alloc: Global, text: &str) -> Result<(), Trouble> {

@@ -1,9 +1,9 @@
 //! What bytes of HTTP ask for.
 use crate::cut::Cut;
-use case_pages::{Outcomes, Trouble, bytes_of};
+use crate::shell::text_of;
+use case_pages::{Trouble, bytes_of};
 use office_http::{Exchange, Heard, Methods, Refusal};
 use std::alloc::{AllocError, Global};
-use std::str;
 
 /// A list of more bytes is told by their number.
 const MOST_SHOWN: usize = 100;
@@ -26,21 +26,17 @@ fn refusal(refusal: Refusal) -> &'static str {
     }
 }
 
-fn text(bytes: &[u8]) -> &str {
-    str::from_utf8(bytes).unwrap_or("?")
-}
-
 /// What is asked for, in words.
 fn told(alloc: Global, asked: &Heard) -> Result<String, AllocError> {
     match asked {
         Heard::Nothing => String::from_str(alloc, "nothing"),
         Heard::Refused(why) => String::from_str(alloc, refusal(*why)),
         Heard::Load { caller, key, list } => {
-            let (caller, key) = (text(caller.as_bytes()), text(key.as_bytes()));
+            let (caller, key) = (text_of(caller.as_bytes()), text_of(key.as_bytes()));
             if list.len() > MOST_SHOWN {
                 format!(in alloc; "load {caller} {key} of {} bytes", list.len())
             } else {
-                format!(in alloc; "load {caller} {key} {}", text(list))
+                format!(in alloc; "load {caller} {key} {}", text_of(list))
             }
         }
         Heard::Order {
@@ -51,15 +47,15 @@ fn told(alloc: Global, asked: &Heard) -> Result<String, AllocError> {
         } => {
             format!(in alloc;
                 "order {} {} {point} {value}",
-                text(caller.as_bytes()),
-                text(key.as_bytes())
+                text_of(caller.as_bytes()),
+                text_of(key.as_bytes())
             )
         }
         Heard::OrderUnder { caller, key } => {
             format!(in alloc;
                 "under {} {}",
-                text(caller.as_bytes()),
-                text(key.as_bytes())
+                text_of(caller.as_bytes()),
+                text_of(key.as_bytes())
             )
         }
         Heard::Readings { point, from, to } => { format!(in alloc; "readings {point} {from} {to}") }
@@ -93,47 +89,30 @@ fn taken(alloc: Global, bytes: &[u8], cut: Cut) -> Result<Heard, AllocError> {
 }
 
 /// What is asked for, in words, by bytes that are whole, and cut.
-#[derive(Clone, Copy)]
-pub(crate) struct Requests {
-    pub(crate) alloc: Global,
-}
-
-impl Outcomes for Requests {
-    fn outcome(&mut self, input: &str) -> Result<String, Trouble> {
-        let alloc = self.alloc;
-        let bytes = bytes_of(alloc, input)?;
-        let whole = told(alloc, &taken(alloc, &bytes, Cut::Whole)?)?;
-        for cut in [Cut::Halves, Cut::Bytes] {
-            let asked = told(alloc, &taken(alloc, &bytes, cut)?)?;
-            if asked.as_str() != whole.as_str() {
-                return Ok(format!(in alloc; "{whole}, but cut {asked}")?);
-            }
+pub(crate) fn request(alloc: Global, input: &str) -> Result<String, Trouble> {
+    let bytes = bytes_of(alloc, input)?;
+    let whole = told(alloc, &taken(alloc, &bytes, Cut::Whole)?)?;
+    for cut in [Cut::Halves, Cut::Bytes] {
+        let asked = told(alloc, &taken(alloc, &bytes, cut)?)?;
+        if asked.as_str() != whole.as_str() {
+            return Ok(format!(in alloc; "{whole}, but cut {asked}")?);
         }
-        Ok(whole)
     }
+    Ok(whole)
 }
 
 /// What is asked for by the beginnings of a request that are shorter than it: from which length on, and what.
-#[derive(Clone, Copy)]
-pub(crate) struct Beginnings {
-    pub(crate) alloc: Global,
-}
-
-impl Outcomes for Beginnings {
-    fn outcome(&mut self, input: &str) -> Result<String, Trouble> {
-        let alloc = self.alloc;
-        let bytes = bytes_of(alloc, input)?;
-        let mut all = String::new(alloc);
-        let mut last = String::new(alloc);
-        for length in 0..bytes.len() {
-            let beginning = bytes.get(..length).unwrap_or(&[]);
-            let now = told(alloc, &taken(alloc, beginning, Cut::Whole)?)?;
-            if now.as_str() != last.as_str() {
-                let change = format!(in alloc; "; from {length} {now}")?;
-                all.push_str(change.as_str())?;
-                last = now;
-            }
+pub(crate) fn beginnings(alloc: Global, input: &str) -> Result<String, Trouble> {
+    let bytes = bytes_of(alloc, input)?;
+    let mut all = String::new(alloc);
+    let mut last = String::new(alloc);
+    for length in 0..bytes.len() {
+        let beginning = bytes.get(..length).unwrap_or(&[]);
+        let now = told(alloc, &taken(alloc, beginning, Cut::Whole)?)?;
+        if now.as_str() != last.as_str() {
+            write!(all, "; from {length} {now}")?;
+            last = now;
         }
-        Ok(String::from_str(alloc, all.as_str().trim_start_matches("; "))?)
     }
+    Ok(String::from_str(alloc, all.as_str().trim_start_matches("; "))?)
 }

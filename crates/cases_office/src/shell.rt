@@ -35,11 +35,8 @@ pub(crate) fn words_of(alloc: Global, line: &str) -> Result<Vec<String>, AllocEr
     Ok(words)
 }
 
-fn text_of(alloc: Global, bytes: &[u8]) -> Result<String, AllocError> {
-    String::from_str(
-        alloc,
-        str::from_utf8(bytes).unwrap_or("bytes that are no text\n"),
-    )
+pub(crate) fn text_of(bytes: &[u8]) -> &str {
+    str::from_utf8(bytes).unwrap_or("bytes that are no text")
 }
 
 /// What the program prints for the words behind its name, and its status where that isn't 0.
@@ -47,15 +44,15 @@ pub(crate) fn office(world: &mut World<'_>, line: &str) -> Result<String, Troubl
     let alloc = world.rt.alloc();
     world.output = Vec::new(alloc);
     let status = run(world, words_of(alloc, line)?)?;
-    let mut text = text_of(alloc, &world.output)?;
+    let mut text = String::from_str(alloc, text_of(&world.output))?;
     if status != 0 {
-        let status = format!(in alloc; "status {status}\n")?;
-        text.push_str(status.as_str())?;
+        writeln!(text, "status {status}")?;
     }
     Ok(text)
 }
 
-fn file(world: &World<'_>, name: &str) -> Result<Vec<u8>, Trouble> {
+/// The file of a page.
+pub(crate) fn file(world: &World<'_>, name: &str) -> Result<Vec<u8>, Trouble> {
     match world.file(name) {
         Ok(bytes) => Ok(bytes),
         Err(failure) if failure.fault == Fault::Memory => Err(Trouble::Memory),
@@ -126,8 +123,18 @@ fn change_folder(world: &mut World<'_>, path: &str) -> Result<(), AllocError> {
     Ok(())
 }
 
-/// What a command prints: `cd` to a folder below, `office` with words, with a file as standard input behind ` < `, or going on behind the
-/// others with ` &` at its end, and `curl` of the server that goes on.
+/// What the program prints for words, behind which ` < ` and the file of its standard input may stand.
+fn redirected(world: &mut World<'_>, line: &str) -> Result<String, Trouble> {
+    let (line, input) = match line.split_once(" < ") {
+        Some((line, name)) => (line, file(world, name)?),
+        None => (line, Vec::new(world.rt.alloc())),
+    };
+    world.input = input;
+    office(world, line)
+}
+
+/// What a command prints: `cd` to a folder below, `office` with words, with a file as standard input behind ` < `, or
+/// going on behind the others with ` &` at its end, and `curl` of the server that goes on.
 pub(crate) fn typed(world: &mut World<'_>, command: &str) -> Result<String, Trouble> {
     let alloc = world.rt.alloc();
     if let Some(path) = command.strip_prefix("cd ") {
@@ -137,17 +144,12 @@ pub(crate) fn typed(world: &mut World<'_>, command: &str) -> Result<String, Trou
     if let Some(line) = command.strip_prefix("curl ") {
         return curl(world, line);
     }
-    let Some(line) = command.strip_prefix("office") else {
-        return Err(Trouble::Page("a program other than office and curl"));
-    };
+    let line = command
+        .strip_prefix("office")
+        .ok_or(Trouble::Page("a program other than office and curl"))?;
     if let Some(line) = line.strip_suffix(" &") {
         begin(world, line)?;
         return Ok(String::new(alloc));
     }
-    let (line, input) = match line.split_once(" < ") {
-        Some((line, name)) => (line, file(world, name)?),
-        None => (line, Vec::new(alloc)),
-    };
-    world.input = input;
-    office(world, line)
+    redirected(world, line)
 }

@@ -4,7 +4,7 @@ ghost use Rattle.std.specs.Prelude.{◌≤◌};
 
 use crate::cut::{Bytes, Cut};
 use crate::peers::repeated;
-use case_pages::{Outcomes, Trouble};
+use case_pages::Trouble;
 use line_source::LineSource;
 use mb_mbap::Counted;
 use std::alloc::{AllocError, Global};
@@ -44,11 +44,9 @@ fn told<S: RegisterSource>(alloc: Global, source: &mut S, reads: &str) -> Result
             }
             _ => return Err(Trouble::Page("no read")),
         };
-        all.push_str(text.as_str())?;
-        all.push_str("; ")?;
+        write!(all, "{text}; ")?;
     }
-    let failures = format!(in alloc; "{} failed", source.failures())?;
-    all.push_str(failures.as_str())?;
+    write!(all, "{} failed", source.failures())?;
     Ok(all)
 }
 
@@ -61,37 +59,29 @@ fn said(alloc: Global, text: &str) -> Result<Vec<u8>, Trouble> {
     Ok(bytes)
 }
 
+/// What reads come to of a device that says this, cut in some way.
+fn told_cut(alloc: Global, reads: &str, text: &str, cut: Cut) -> Result<String, Trouble> {
+    let (text, fails) = match text.strip_suffix("fails") {
+        Some(text) => (text.trim_end(), true),
+        None => (text, false),
+    };
+    let reader = Counted::new(Bytes::new(said(alloc, text)?, cut, fails));
+    let writer = Counted::new(Vec::new(alloc));
+    let mut source = LineSource::new(alloc, UNIT, reader, writer);
+    told(alloc, &mut source, reads)
+}
+
 /// What reads come to, whole, and where they differ, cut.
-#[derive(Clone, Copy)]
-pub(crate) struct Reads {
-    pub(crate) alloc: Global,
-}
-
-impl Reads {
-    fn cut(self, reads: &str, text: &str, cut: Cut) -> Result<String, Trouble> {
-        let alloc = self.alloc;
-        let reader = match text.strip_suffix("fails") {
-            Some(text) => Bytes::failing(said(alloc, text.trim_end())?, cut),
-            None => Bytes::new(said(alloc, text)?, cut),
-        };
-        let (reader, writer) = (Counted::new(reader), Counted::new(Vec::new(alloc)));
-        let mut source = LineSource::new(alloc, UNIT, reader, writer);
-        told(alloc, &mut source, reads)
-    }
-}
-
-impl Outcomes for Reads {
-    fn outcome(&mut self, input: &str) -> Result<String, Trouble> {
-        let Some((reads, text)) = input.split_once(": ") else {
-            return Err(Trouble::Page("reads of no device"));
-        };
-        let mut whole = self.cut(reads, text, Cut::Whole)?;
-        for (name, cut) in [("halves", Cut::Halves), ("bytes", Cut::Bytes)] {
-            let told = self.cut(reads, text, cut)?;
-            if told.as_str() != whole.as_str() {
-                whole = format!(in self.alloc; "{whole}, in {name} {told}")?;
-            }
+pub(crate) fn reads(alloc: Global, input: &str) -> Result<String, Trouble> {
+    let (reads, text) = input
+        .split_once(": ")
+        .ok_or(Trouble::Page("reads of no device"))?;
+    let mut whole = told_cut(alloc, reads, text, Cut::Whole)?;
+    for (name, cut) in [("halves", Cut::Halves), ("bytes", Cut::Bytes)] {
+        let told = told_cut(alloc, reads, text, cut)?;
+        if told.as_str() != whole.as_str() {
+            whole = format!(in alloc; "{whole}, in {name} {told}")?;
         }
-        Ok(whole)
     }
+    Ok(whole)
 }

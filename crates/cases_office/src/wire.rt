@@ -1,7 +1,7 @@
 //! What waits at the addresses of a page, devices of images and a peer with a script, and a connection to it.
 ghost use Rattle.std.specs.Prelude.{◌≤◌, IfOk, length};
 
-use crate::cut::{Cut, give};
+use crate::cut::{Bytes, Cut};
 use crate::peers::Script;
 use mb_map::Sim;
 use mb_mbap::{Frame, FrameReader};
@@ -21,12 +21,10 @@ struct Waiting {
 struct Line {
     sim: Option<Sim>,
     stream: FrameReader,
-    said: Vec<u8>,
-    read: usize,
+    said: Bytes,
     /// The frames that the peer heard, a line each.
     heard: String,
     frames: usize,
-    cut: Cut,
 }
 
 /// All that waits for connections in a page. One connection is open at a time.
@@ -51,10 +49,7 @@ impl Devices {
 
     /// Has devices wait at an address.
     pub(crate) fn wait(&mut self, address: String, sim: Sim) -> Result<(), AllocError> {
-        match self.waiting.push(Waiting { address, sim }) {
-            Ok(()) => Ok(()),
-            Err(_) => Err(AllocError),
-        }
+        Ok(self.waiting.push(Waiting { address, sim })?)
     }
 
     /// Has a peer wait in the place of the former one.
@@ -74,38 +69,37 @@ impl Devices {
         Some(self.waiting.remove(place).sim)
     }
 
-    /// What the peer at an address says at once; `None` where it waits at another one.
-    fn greeting(&self, address: &str) -> Result<Option<Vec<u8>>, AllocError> {
+    /// What the peer at an address says at once, and then; `None` where it waits at another one.
+    fn greeting(&self, address: &str, cut: Cut) -> Result<Option<Bytes>, AllocError> {
         match &self.peer {
             Some(peer) if peer.address.as_str() == address => {
-                Ok(Some(Vec::from_slice(self.alloc, peer.said_behind(0))?))
+                let said = Vec::from_slice(self.alloc, peer.said_behind(0))?;
+                Ok(Some(Bytes::new(said, cut, peer.fails)))
             }
             _ => Ok(None),
         }
     }
 
-    fn open(&mut self, sim: Option<Sim>, said: Vec<u8>, cut: Cut) {
+    fn open(&mut self, sim: Option<Sim>, said: Bytes) {
         self.line = Some(Line {
             sim,
             stream: FrameReader::new(self.alloc),
             said,
-            read: 0,
             heard: String::new(self.alloc),
             frames: 0,
-            cut,
         });
     }
 
     /// Connects to the peer at an address, or else to devices there; whether something waits there.
     pub(crate) fn connect(&mut self, address: &str, cut: Cut) -> Result<bool, AllocError> {
-        if let Some(said) = self.greeting(address)? {
-            self.open(None, said, cut);
+        if let Some(said) = self.greeting(address, cut)? {
+            self.open(None, said);
             return Ok(true);
         }
         let Some(sim) = self.take_devices(address) else {
             return Ok(false);
         };
-        self.open(Some(sim), Vec::new(self.alloc), cut);
+        self.open(Some(sim), Bytes::new(Vec::new(self.alloc), cut, false));
         Ok(true)
     }
 
@@ -125,43 +119,26 @@ impl Devices {
 
     /// The frames that the peer is to hear, and the line of its block.
     pub(crate) fn wanted(&self) -> Option<(&str, usize)> {
-        match &self.peer {
-            Some(peer) => Some((peer.wanted.as_str(), peer.line)),
-            None => None,
-        }
+        let peer = self.peer.as_ref()?;
+        Some((peer.wanted.as_str(), peer.line))
     }
 
     fn hear(&mut self, bytes: &[u8]) -> io::Result<()> {
         let Some(line) = &mut self.line else {
             return Err(io::Error::from(ErrorKind::NotConnected));
         };
-        let Ok(fed) = line.stream.feed(bytes) else {
-            return Err(memory());
-        };
+        let fed = line.stream.feed(bytes)?;
         for frame in &fed.frames {
-            if line.answer(self.alloc, &self.peer, frame).is_err() {
-                return Err(memory());
-            }
+            line.answer(&self.peer, frame)?;
         }
         Ok(())
-    }
-
-    fn fails(&self) -> bool {
-        match &self.peer {
-            Some(peer) => peer.fails,
-            None => false,
-        }
     }
 
     fn say(&mut self, room: &mut [u8]) -> io::Result<usize>
         ensures { IfOk result (λ count. count ≤ length room.old) }
     {
-        let fails = self.fails();
         match &mut self.line {
-            Some(line) if line.is_read() && line.sim.is_none() && fails => {
-                Err(io::Error::from(ErrorKind::ConnectionReset))
-            }
-            Some(line) => Ok(line.say(room)),
+            Some(line) => line.said.read(room),
             None => Err(io::Error::from(ErrorKind::NotConnected)),
         }
     }
@@ -173,44 +150,22 @@ fn memory() -> io::Error {
 
 impl Line {
     /// Takes a frame, and says what the devices or the peer reply.
-    fn answer(
-        &mut self,
-        alloc: Global,
-        peer: &Option<Script>,
-        frame: &Frame,
-    ) -> Result<(), AllocError> {
+    fn answer(&mut self, peer: &Option<Script>, frame: &Frame) -> Result<(), AllocError> {
         if let Some(sim) = &mut self.sim {
-            let Ok(replies) = sim.take(frame) else {
-                return Err(AllocError);
-            };
-            for reply in &replies {
-                self.said.extend_from_slice(reply.encode().as_bytes())?;
+            for reply in &sim.take(frame).map_err(|_| AllocError)? {
+                self.said.add(reply.encode().as_bytes())?;
             }
             return Ok(());
         }
         self.frames = self.frames.saturating_add(1);
         for byte in frame.encode().as_bytes() {
-            let digits = format!(in alloc; "{byte:02X} ")?;
-            self.heard.push_str(digits.as_str())?;
+            write!(self.heard, "{byte:02X} ")?;
         }
         self.heard.push_str("\n")?;
         if let Some(peer) = peer {
-            self.said.extend_from_slice(peer.said_behind(self.frames))?;
+            self.said.add(peer.said_behind(self.frames))?;
         }
         Ok(())
-    }
-
-    fn is_read(&self) -> bool {
-        self.read >= self.said.len()
-    }
-
-    fn say(&mut self, room: &mut [u8]) -> usize
-        ensures { result ≤ length room.old }
-    {
-        let rest = self.said.get(self.read..).unwrap_or(&[]);
-        let count = give(rest, self.cut, room);
-        self.read = self.read.saturating_add(count);
-        count
     }
 }
 

@@ -1,19 +1,14 @@
 //! Rows of command lines: the job that words ask for.
-use crate::shell::words_of;
-use case_pages::{Outcomes, Trouble};
+use crate::shell::{text_of, words_of};
+use case_pages::Trouble;
 use office_words::{Errand, Job, WordFault, read_words};
 use std::alloc::{AllocError, Global};
-use std::str;
-
-fn shown(bytes: &[u8]) -> &str {
-    str::from_utf8(bytes).unwrap_or("?")
-}
 
 /// An errand, with its values in the order of its fields.
 fn errand_text(alloc: Global, errand: &Errand) -> Result<String, AllocError> {
     match errand {
         Errand::Load { caller, key, list } => {
-            let (caller, key) = (shown(caller.as_bytes()), shown(key.as_bytes()));
+            let (caller, key) = (text_of(caller.as_bytes()), text_of(key.as_bytes()));
             format!(in alloc; "load {caller} {key} {list}")
         }
         Errand::Poll {
@@ -27,7 +22,7 @@ fn errand_text(alloc: Global, errand: &Errand) -> Result<String, AllocError> {
             point,
             value,
         } => {
-            let (caller, key) = (shown(caller.as_bytes()), shown(key.as_bytes()));
+            let (caller, key) = (text_of(caller.as_bytes()), text_of(key.as_bytes()));
             format!(in alloc; "order {caller} {key} {point} {value}")
         }
         Errand::Report { point, from, to } => format!(in alloc; "report {point} {from} {to}"),
@@ -60,19 +55,11 @@ fn job_text(alloc: Global, job: &Job) -> Result<String, AllocError> {
     }
 }
 
-/// What lines ask for: a job with its values, for an office behind its store and its site, or `command`.
-#[derive(Clone, Copy)]
-pub(crate) struct Lines {
-    pub(crate) alloc: Global,
-}
-
-impl Outcomes for Lines {
-    fn outcome(&mut self, input: &str) -> Result<String, Trouble> {
-        let alloc = self.alloc;
-        match read_words(alloc, words_of(alloc, input)?) {
-            Ok(job) => Ok(job_text(alloc, &job)?),
-            Err(WordFault::Words) => Ok(String::from_str(alloc, "command")?),
-            Err(WordFault::Memory) => Err(Trouble::Memory),
-        }
+/// What a line asks for: a job with its values, for an office behind its store and its site, or `command`.
+pub(crate) fn job(alloc: Global, input: &str) -> Result<String, Trouble> {
+    match read_words(alloc, words_of(alloc, input)?) {
+        Ok(job) => Ok(job_text(alloc, &job)?),
+        Err(WordFault::Words) => Ok(String::from_str(alloc, "command")?),
+        Err(WordFault::Memory) => Err(Trouble::Memory),
     }
 }

@@ -139,10 +139,7 @@ impl<'a> World<'a> {
 
     fn put_keeper(&mut self, name: String, keeper: Refusing) -> Result<(), AllocError> {
         self.calls = keeper.calls;
-        match self.stores.push(Store { name, keeper }) {
-            Ok(()) => Ok(()),
-            Err(_) => Err(AllocError),
-        }
+        Ok(self.stores.push(Store { name, keeper })?)
     }
 }
 
@@ -153,7 +150,7 @@ fn answered<K: Keeper>(
     request: Vec<u8>,
     cut: Cut,
 ) -> Option<Vec<u8>> {
-    let mut reader = Counted::new(Bytes::new(request, cut));
+    let mut reader = Counted::new(Bytes::new(request, cut, false));
     let mut writer = Counted::new(Vec::new(alloc));
     match serve_one(alloc, office, &mut reader, &mut writer) {
         Ok(_) => Some(writer.into_inner()),
@@ -168,10 +165,7 @@ fn office_over(
 ) -> Result<Office<Refusing>, (Fault, Refusing)>
     requires { IsSound site }
 {
-    match Office::new(alloc, keeper, site) {
-        Ok(office) => Ok(office),
-        Err((error, keeper)) => Err((Fault::from(error), keeper)),
-    }
+    Office::new(alloc, keeper, site).map_err(|(error, keeper)| (Fault::from(error), keeper))
 }
 
 /// Does a task over a keeper, and gives it back.
@@ -205,14 +199,15 @@ impl<'a> Host for World<'a> {
 
     fn input(&mut self) -> Bytes {
         let none = Vec::new(self.rt.alloc());
-        Bytes::new(std::mem::replace(&mut self.input, none), self.play.cut)
+        Bytes::new(
+            std::mem::replace(&mut self.input, none),
+            self.play.cut,
+            false,
+        )
     }
 
     fn print(&mut self, bytes: &[u8]) -> io::Result<()> {
-        match self.output.extend_from_slice(bytes) {
-            Ok(()) => Ok(()),
-            Err(_) => Err(io::Error::from(ErrorKind::OutOfMemory)),
-        }
+        Ok(self.output.extend_from_slice(bytes)?)
     }
 
     fn complain(&mut self, failure: &Failure) -> io::Result<()> {

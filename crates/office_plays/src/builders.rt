@@ -2,7 +2,7 @@
 ghost use Rattle.std.specs.Prelude.{IfOk};
 ghost use Rattle.point_list.specs.Sites.{IsSound};
 
-use crate::steps::{Happens, rows, states, total};
+use crate::steps::{Happens, rows, states, take_happening, total};
 use mb_mbap::Frame;
 use mb_pdu::{Span, Unit};
 use office_core::{Event, Office, OfficeError};
@@ -14,7 +14,7 @@ use std::alloc::Global;
 
 pub const MEMORY: OfficeError = OfficeError::Store(StoreFault::Memory);
 
-const HEADER: &str = "name,device,table,address,type,length,scale,role,roll\n";
+pub const HEADER: &str = "name,device,table,address,type,length,scale,role,roll\n";
 
 /// Two lines, each with a device of its own, of which the first has a chain of models.
 pub const TWO: &str =
@@ -24,7 +24,7 @@ pub const TWO: &str =
 pub const BARE: &str =
     "[[line]]\nname = \"roof\"\naddress = \"127.0.0.1:502\"\n[[device]]\nname = \"m2\"\nline = \"roof\"\nunit = 17\n";
 
-fn site(alloc: Global, text: &str) -> Result<Site, OfficeError>
+pub fn site(alloc: Global, text: &str) -> Result<Site, OfficeError>
     ensures { IfOk result (λ site. IsSound site) }
 {
     match read_site(alloc, text.as_bytes()) {
@@ -48,6 +48,29 @@ pub fn office_over<K: Keeper + Drop>(alloc: Global, keeper: K) -> Result<Office<
     begun(alloc, keeper, TWO)?.map_err(|(error, _)| error)
 }
 
+/// Takes what happens, in its order.
+fn take_all<K: Keeper>(
+    alloc: Global,
+    office: &mut Office<K>,
+    all: &[Happens],
+) -> Result<(), OfficeError> {
+    for happens in all {
+        take_happening(alloc, office, happens)?;
+    }
+    Ok(())
+}
+
+/// An office of the two lines over a keeper, to which this has happened.
+pub fn office_after<K: Keeper + Drop>(
+    alloc: Global,
+    keeper: K,
+    all: &[Happens],
+) -> Result<Office<K>, OfficeError> {
+    let mut office = office_over(alloc, keeper)?;
+    take_all(alloc, &mut office, all)?;
+    Ok(office)
+}
+
 /// The caller of all requests, and a key of it.
 pub fn named(key: &str) -> Result<(Caller, Key), OfficeError> {
     match (Caller::new("ann"), Key::new(key)) {
@@ -56,14 +79,16 @@ pub fn named(key: &str) -> Result<(Caller, Key), OfficeError> {
     }
 }
 
-fn list(alloc: Global, key: &str, records: &str) -> Result<Event, OfficeError> {
+/// A list of these records, under a key.
+pub fn list(alloc: Global, key: &str, records: &str) -> Result<Event, OfficeError> {
     let (caller, key) = named(key)?;
     let mut bytes = Vec::from_slice(alloc, HEADER.as_bytes())?;
     bytes.extend_from_slice(records.as_bytes())?;
     Ok(Event::Load(caller, key, Items::from_vec(bytes)))
 }
 
-fn order(alloc: Global, key: &str, point: &str, value: i128) -> Result<Event, OfficeError> {
+/// An order of a value for a point, under a key.
+pub fn order(alloc: Global, key: &str, point: &str, value: i128) -> Result<Event, OfficeError> {
     let (caller, key) = named(key)?;
     Ok(Event::Order(caller, key, text(alloc, point)?, value))
 }
@@ -109,20 +134,24 @@ pub fn events_of(alloc: Global, all: &[Happens]) -> Result<Vec<Event>, OfficeErr
     Ok(events)
 }
 
+fn add_point<K: Keeper>(
+    text: &mut String,
+    office: &mut Office<K>,
+    point: &str,
+) -> Result<(), OfficeError> {
+    let rows = rows(office, point, 0, u32::MAX)?;
+    let total = total(office, point)?;
+    Ok(writeln!(text, "{point} {rows:?} {total:?}")?)
+}
+
 /// An office's points, readings, totals and orders as text.
 pub fn shown<K: Keeper>(alloc: Global, office: &mut Office<K>) -> Result<String, OfficeError> {
     let mut text = String::new(alloc);
     for point in ["a", "b", "c", "e", "f"] {
-        let rows = rows(office, point, 0, u32::MAX)?;
-        let total = total(office, point)?;
-        let line = format!(in alloc; "{point} {rows:?} {total:?}\n")?;
-        text.push_str(line.as_str())?;
+        add_point(&mut text, office, point)?;
     }
     let states = states(alloc, office)?;
-    let line = format!(in alloc; "{states:?}\n")?;
-    text.push_str(line.as_str())?;
-    let count = office.points().len();
-    let line = format!(in alloc; "{count} points")?;
-    text.push_str(line.as_str())?;
+    writeln!(text, "{states:?}")?;
+    write!(text, "{} points", office.points().len())?;
     Ok(text)
 }

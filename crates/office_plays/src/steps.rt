@@ -57,10 +57,7 @@ pub fn state<K: Keeper>(
 
 /// Puts an item behind the others.
 pub fn push<T: Drop>(items: &mut Vec<T>, item: T) -> Result<(), OfficeError> {
-    match items.push(item) {
-        Ok(()) => Ok(()),
-        Err(_) => Err(MEMORY),
-    }
+    items.push(item).map_err(|_| MEMORY)
 }
 
 /// How the orders stand, by their numbers.

@@ -48,6 +48,18 @@ pub fn opened<S: Alter>(
     }
 }
 
+/// The keeper of tables, which are made first where they are new.
+pub fn kept<S: Alter>(
+    connection: Connection<S>,
+    is_new: bool,
+) -> Result<SqlKeeper<S>, (OfficeError, Connection<S>)> {
+    if is_new {
+        begin(connection)
+    } else {
+        opened(connection)
+    }
+}
+
 /// A keeper of new tables in memory.
 pub fn stored(alloc: Global) -> Result<SqlKeeper<MemStore>, OfficeError> {
     begin(empty(alloc)?).map_err(|(error, _)| error)

@@ -6,7 +6,7 @@ use office_core::OfficeError;
 use office_net::PollFault;
 use office_script::ReplayFault;
 use poll_book::StoreFault;
-use std::alloc::{AllocError, Global};
+use std::alloc::AllocError;
 use std::test::Fail;
 use sunspec::SunError;
 use telling::{Trial, twice};
@@ -35,20 +35,10 @@ const FAULTS: &[(Fault, &str, u8)] = &[
     (Fault::SiteDiffers, "site differs", 1),
 ];
 
-fn assert_fault(
-    trial: &Trial<'_>,
-    alloc: Global,
-    (fault, text, status): (Fault, &str, u8),
-) -> Result<(), AllocError> {
-    let told = format!(in alloc; "{fault}")?;
-    trial.told(&fault, &told.as_str(), &text);
-    trial.told(&fault, &fault.status(), &status);
-    Ok(())
-}
-
 fn faults_are_told(trial: &Trial<'_>) -> Result<(), AllocError> {
-    for fault in FAULTS {
-        assert_fault(trial, trial.alloc(), *fault)?;
+    for (fault, text, status) in FAULTS {
+        let told = fault.to_string(trial.alloc())?;
+        trial.told(fault, &(told.as_str(), fault.status()), &(*text, *status));
     }
     Ok(())
 }

@@ -1,10 +1,9 @@
 //! Reports that aren't written, or not to their end.
 use mb_mbap::Counted;
 use office_core::{Office, OfficeError};
-use office_plays::builders::office_over;
+use office_plays::builders::office_after;
 use office_plays::refusing::Refusing;
 use office_plays::steps::Happens::{self, Arrive, Ask, Load, Open};
-use office_plays::steps::take_happening;
 use office_report::{ReportFault, write_report};
 use poll_book::{Keeper, MemKeeper, StoreFault};
 use std::alloc::{AllocError, Global};
@@ -25,18 +24,9 @@ const HAPPENINGS: &[Happens] = &[
 
 const REPORT: &str = "point e\n         1  65000\n         2  64000\ntotal 66572\n";
 
-fn happen_all<K: Keeper>(alloc: Global, office: &mut Office<K>) -> Result<(), OfficeError> {
-    for happens in HAPPENINGS {
-        let _ = take_happening(alloc, office, happens)?;
-    }
-    Ok(())
-}
-
 /// An office over a keeper, with its readings.
 fn read_office<K: Keeper + Drop>(alloc: Global, keeper: K) -> Result<Office<K>, OfficeError> {
-    let mut office = office_over(alloc, keeper)?;
-    happen_all(alloc, &mut office)?;
-    Ok(office)
+    office_after(alloc, keeper, HAPPENINGS)
 }
 
 /// What a report came to, and what was written of it.

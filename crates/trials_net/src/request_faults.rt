@@ -2,9 +2,9 @@
 use mb_mbap::Counted;
 use office_core::{Office, OfficeError};
 use office_net::{ServeFault, Served, serve_one};
-use office_plays::builders::{MEMORY, office_over, shown};
-use office_plays::steps::Happens::Load;
-use office_plays::steps::{state, take_happening};
+use office_plays::builders::{MEMORY, office_after, shown};
+use office_plays::steps::Happens::{self, Load};
+use office_plays::steps::state;
 use poll_book::{MemKeeper, OrderState};
 use std::alloc::Global;
 use std::test::Fail;
@@ -17,6 +17,8 @@ const ORDER: &[u8] =
 /// Its answer, of 124 bytes.
 const ANSWER: &[u8] =
     b"HTTP/1.1 201 Created\r\nContent-Type: application/json\r\nContent-Length: 29\r\nConnection: close\r\n\r\n{\"order\":1,\"state\":\"waiting\"}";
+
+const SETTING: &[Happens] = &[Load("l1", "lim,m1,holding,40,uint16,,,setting,\n")];
 
 /// Each read and each write takes so many bytes at most: six reads and nine writes.
 const MOST: usize = 15;
@@ -45,10 +47,7 @@ fn ordered(
 
 /// An office whose setting can be ordered.
 fn office_of(alloc: Global) -> Result<Office<MemKeeper>, OfficeError> {
-    let mut office = office_over(alloc, MemKeeper::new(alloc))?;
-    let load = Load("l1", "lim,m1,holding,40,uint16,,,setting,\n");
-    let _ = take_happening(alloc, &mut office, &load)?;
-    Ok(office)
+    office_after(alloc, MemKeeper::new(alloc), SETTING)
 }
 
 fn readers_fail(trial: &Trial<'_>, office: &mut Office<MemKeeper>) -> Result<(), OfficeError> {

@@ -3,9 +3,8 @@ use crate::noise::Noise;
 use mb_mbap::Counted;
 use office_core::{Office, OfficeError};
 use office_net::{PollFault, Round, poll_round};
-use office_plays::builders::office_over;
+use office_plays::builders::office_after;
 use office_plays::steps::Happens::{self, Load, Order};
-use office_plays::steps::take_happening;
 use poll_book::MemKeeper;
 use poll_match::Conn;
 use std::alloc::Global;
@@ -21,17 +20,8 @@ const HAPPENINGS: &[Happens] = &[
     Order("k1", "lim", 80),
 ];
 
-fn happen_all(alloc: Global, office: &mut Office<MemKeeper>) -> Result<(), OfficeError> {
-    for happens in HAPPENINGS {
-        let _ = take_happening(alloc, office, happens)?;
-    }
-    Ok(())
-}
-
 fn office_of(alloc: Global) -> Result<Office<MemKeeper>, OfficeError> {
-    let mut office = office_over(alloc, MemKeeper::new(alloc))?;
-    happen_all(alloc, &mut office)?;
-    Ok(office)
+    office_after(alloc, MemKeeper::new(alloc), HAPPENINGS)
 }
 
 /// How a round ends over these replies, of which a read gives 5,000 bytes at most, and of whose writes so many succeed.
@@ -106,12 +96,16 @@ fn noise_ends_a_round(
     Ok(())
 }
 
+/// What breaks off changes nothing for the round that doesn't.
+fn break_off(trial: &Trial<'_>, office: &mut Office<MemKeeper>) -> Result<(), OfficeError> {
+    closed_connections_are_told(trial, office)?;
+    writers_fail(trial, office)?;
+    noise_ends_a_round(trial, office)?;
+    one_piece_is_taken_whole(trial, office)
+}
+
 fn all(trial: &Trial<'_>) -> Result<(), OfficeError> {
-    let alloc = trial.alloc();
-    one_piece_is_taken_whole(trial, &mut office_of(alloc)?)?;
-    writers_fail(trial, &mut office_of(alloc)?)?;
-    closed_connections_are_told(trial, &mut office_of(alloc)?)?;
-    noise_ends_a_round(trial, &mut office_of(alloc)?)
+    break_off(trial, &mut office_of(trial.alloc())?)
 }
 
 #[test]

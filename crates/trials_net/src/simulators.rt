@@ -4,17 +4,12 @@ use mb_map::Sim;
 use mb_mbap::Counted;
 use office_commands::{Failure, Fault, answer_lines, answer_stream};
 use std::alloc::Global;
-use std::io;
+use std::io::{self, Write};
 use std::test::Fail;
 use telling::{Outgoing, Trial, twice};
 
 /// A device of three registers.
 const IMAGE: &[u8] = b"[[unit]]\nid = 17\nholding_start = 107\nholding = [555, 0, 100]\n";
-
-fn sim(alloc: Global) -> Result<Sim, Fault> {
-    let sim = Sim::from_toml(alloc, IMAGE)?;
-    Ok(sim)
-}
 
 /// Refused memory ends the attempt.
 fn is_ended(trial: &Trial<'_>, ended: Result<(), Failure>, expected: Fault) -> Result<(), Fault> {
@@ -33,32 +28,25 @@ fn unprinted(alloc: Global, sim: &mut Sim) -> Result<(), Failure> {
     answer_lines(alloc, sim, &mut line, &mut full).map_err(Failure::from)
 }
 
-/// How a stream without end ends.
-fn noise(alloc: Global, sim: &mut Sim) -> Result<(), Failure> {
-    let mut noisy = Counted::new(Noise);
-    answer_stream(alloc, sim, &mut noisy, &mut Counted::new(io::sink()))
-}
-
-/// How a stream ends whose replies can't be written.
-fn unsent(alloc: Global, sim: &mut Sim) -> Result<(), Failure> {
-    let mut noisy = Counted::new(Noise);
-    answer_stream(
-        alloc,
-        sim,
-        &mut noisy,
-        &mut Counted::new(Outgoing::new(alloc, 0)),
-    )
+/// How a stream without end ends, whose replies are written.
+fn streamed<W: Write + Drop>(alloc: Global, sim: &mut Sim, writer: W) -> Result<(), Failure> {
+    let (mut noisy, mut writer) = (Counted::new(Noise), Counted::new(writer));
+    answer_stream(alloc, sim, &mut noisy, &mut writer)
 }
 
 fn are_ended(trial: &Trial<'_>, sim: &mut Sim) -> Result<(), Fault> {
-    is_ended(trial, unprinted(trial.alloc(), sim), Fault::File)?;
-    is_ended(trial, noise(trial.alloc(), sim), Fault::Noise)?;
-    is_ended(trial, unsent(trial.alloc(), sim), Fault::Line)
+    let alloc = trial.alloc();
+    is_ended(trial, unprinted(alloc, sim), Fault::File)?;
+    is_ended(trial, streamed(alloc, sim, io::sink()), Fault::Noise)?;
+    is_ended(
+        trial,
+        streamed(alloc, sim, Outgoing::new(alloc, 0)),
+        Fault::Line,
+    )
 }
 
 fn all(trial: &Trial<'_>) -> Result<(), Fault> {
-    let mut sim = sim(trial.alloc())?;
-    are_ended(trial, &mut sim)
+    are_ended(trial, &mut Sim::from_toml(trial.alloc(), IMAGE)?)
 }
 
 #[test]

@@ -1,15 +1,13 @@
 //! Poll rounds over sockets, whose devices answered beforehand.
 use crate::sockets::{connected, listen, say};
-use office_commands::{Fault, connect, poll};
+use office_commands::{Fault, poll};
 use office_core::Office;
-use office_plays::builders::office_over;
-use office_plays::steps::Happens::Load;
-use office_plays::steps::take_happening;
+use office_plays::builders::office_after;
+use office_plays::steps::Happens::{self, Load};
 use poll_book::{MemKeeper, StoreFault};
 use std::io::Read;
 use std::net::TcpStream;
 use std::test::Fail;
-use std::time::Duration;
 use telling::{Trial, twice};
 
 const QUERY: [u8; 12] = [0, 0, 0, 0, 0, 6, 17, 3, 0, 107, 0, 1];
@@ -26,33 +24,22 @@ const CASES: &[(&[u8], bool, Result<&str, Fault>)] = &[
     (&[], false, Err(Fault::Line)),
 ];
 
-/// An office of one point.
-fn office_of(rt: &HostRuntime) -> Result<Office<MemKeeper>, Fault> {
-    let alloc = rt.alloc();
-    let mut office = office_over(alloc, MemKeeper::new(alloc))?;
-    let load = Load("l1", "e,m1,holding,107,uint16,,,counter,\n");
-    let _ = take_happening(alloc, &mut office, &load)?;
-    Ok(office)
-}
+const COUNTER: &[Happens] = &[Load("l1", "e,m1,holding,107,uint16,,,counter,\n")];
 
 /// A stream to a device, and the device's end.
 fn ends(rt: &HostRuntime) -> Result<(TcpStream, TcpStream), Fault> {
     let (listener, address) = listen(rt)?;
     let near = connected(rt, address.as_str())?;
-    match listener.accept() {
-        Ok((far, _)) => Ok((near, far)),
-        Err(_) => Err(Fault::Line),
-    }
+    let (far, _) = listener.accept().map_err(|_| Fault::Line)?;
+    Ok((near, far))
 }
 
 /// The query that came to the device.
 fn heard(far: &TcpStream) -> Result<[u8; 12], Fault> {
     let mut query = [0; 12];
     let mut reader = far;
-    match reader.read_exact(&mut query) {
-        Ok(()) => Ok(query),
-        Err(_) => Err(Fault::Line),
-    }
+    reader.read_exact(&mut query).map_err(|_| Fault::Line)?;
+    Ok(query)
 }
 
 fn assert_poll(
@@ -77,7 +64,8 @@ fn assert_poll(
 }
 
 fn assert_polls(trial: &Trial<'_>) -> Result<(), Fault> {
-    let mut office = office_of(trial.runtime())?;
+    let keeper = MemKeeper::new(trial.alloc());
+    let mut office = office_after(trial.alloc(), keeper, COUNTER)?;
     for (slot, case) in (0u32..).zip(CASES) {
         assert_poll(trial, &mut office, slot, case)?;
     }
@@ -86,26 +74,16 @@ fn assert_polls(trial: &Trial<'_>) -> Result<(), Fault> {
 
 /// How connecting ends, without the stream.
 fn fault_of(rt: &HostRuntime, address: &str) -> Option<Fault> {
-    match connect(rt, address, Duration::from_secs(1)) {
-        Ok(_) => None,
-        Err(failure) => Some(failure.fault),
-    }
+    connected(rt, address).err()
 }
 
 fn assert_heard(trial: &Trial<'_>) -> Result<(), Fault> {
-    let (listener, address) = listen(trial.runtime())?;
-    trial.told(
-        &"heard",
-        &fault_of(trial.runtime(), address.as_str()),
-        &None,
-    );
+    let rt = trial.runtime();
+    let (listener, address) = listen(rt)?;
+    trial.told(&"heard", &fault_of(rt, address.as_str()), &None);
     drop(listener);
     for address in [address.as_str(), "127.0.0.1", "127.0.0.1:65536", ""] {
-        trial.told(
-            &address,
-            &fault_of(trial.runtime(), address),
-            &Some(Fault::Line),
-        );
+        trial.told(&address, &fault_of(rt, address), &Some(Fault::Line));
     }
     Ok(())
 }

@@ -2,9 +2,8 @@
 use crate::sockets::{connected, listen, say};
 use office_commands::{Fault, serve};
 use office_core::Office;
-use office_plays::builders::office_over;
-use office_plays::steps::Happens::Load;
-use office_plays::steps::take_happening;
+use office_plays::builders::office_after;
+use office_plays::steps::Happens::{self, Load};
 use poll_book::MemKeeper;
 use std::io;
 use std::net::{TcpListener, TcpStream};
@@ -33,14 +32,7 @@ const CALLERS: &[(&str, bool, &str)] = &[
     ),
 ];
 
-/// An office of one setting.
-fn office_of(rt: &HostRuntime) -> Result<Office<MemKeeper>, Fault> {
-    let alloc = rt.alloc();
-    let mut office = office_over(alloc, MemKeeper::new(alloc))?;
-    let load = Load("l1", "lim,m1,holding,40,uint16,,,setting,\n");
-    let _ = take_happening(alloc, &mut office, &load)?;
-    Ok(office)
-}
+const SETTING: &[Happens] = &[Load("l1", "lim,m1,holding,40,uint16,,,setting,\n")];
 
 /// A caller that wrote this.
 fn caller(rt: &HostRuntime, address: &str, bytes: &str, ends: bool) -> Result<TcpStream, Fault> {
@@ -67,9 +59,7 @@ fn assert_answer(
     bytes: &str,
     expected: &str,
 ) -> Result<(), Fault> {
-    let Ok(answer) = io::read_to_string(trial.alloc(), end) else {
-        return Err(Fault::Line);
-    };
+    let answer = io::read_to_string(trial.alloc(), end).map_err(|_| Fault::Line)?;
     if !expected.starts_with(answer.as_str().get(..12).unwrap_or("")) {
         return Err(Fault::Memory);
     }
@@ -83,13 +73,8 @@ fn assert_served(
     listener: &TcpListener,
     callers: &[TcpStream],
 ) -> Result<(), Fault> {
-    serve(
-        trial.runtime(),
-        office,
-        listener,
-        Some(7),
-        Duration::from_secs(1),
-    )?;
+    let second = Duration::from_secs(1);
+    serve(trial.runtime(), office, listener, Some(7), second)?;
     for (end, (bytes, _, expected)) in callers.iter().zip(CALLERS) {
         assert_answer(trial, end, bytes, expected)?;
     }
@@ -98,7 +83,7 @@ fn assert_served(
 
 fn all(trial: &Trial<'_>) -> Result<(), Fault> {
     let rt = trial.runtime();
-    let mut office = office_of(rt)?;
+    let mut office = office_after(rt.alloc(), MemKeeper::new(rt.alloc()), SETTING)?;
     let (listener, address) = listen(rt)?;
     let callers = callers(rt, address.as_str())?;
     assert_served(trial, &mut office, &listener, &callers)

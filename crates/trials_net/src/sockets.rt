@@ -6,12 +6,8 @@ use std::time::Duration;
 
 /// A listener, and its address.
 pub(crate) fn listen(rt: &HostRuntime) -> Result<(TcpListener, String), Fault> {
-    let Ok(listener) = TcpListener::bind(rt, ("127.0.0.1", 0u16)) else {
-        return Err(Fault::Line);
-    };
-    let Ok(address) = listener.local_addr() else {
-        return Err(Fault::Line);
-    };
+    let listener = TcpListener::bind(rt, ("127.0.0.1", 0u16)).map_err(|_| Fault::Line)?;
+    let address = listener.local_addr().map_err(|_| Fault::Line)?;
     let address = format!(in rt.alloc(); "{address}")?;
     Ok((listener, address))
 }
@@ -24,11 +20,9 @@ pub(crate) fn connected(rt: &HostRuntime, address: &str) -> Result<TcpStream, Fa
 /// Writes all that an end of a connection has to say, after which it may end its side.
 pub(crate) fn say(end: &TcpStream, bytes: &[u8], ends: bool) -> Result<(), Fault> {
     let mut writer = end;
-    if writer.write_all(bytes).is_err() {
-        return Err(Fault::Line);
-    }
-    if ends && end.shutdown(Shutdown::Write).is_err() {
-        return Err(Fault::Line);
+    writer.write_all(bytes).map_err(|_| Fault::Line)?;
+    if ends {
+        end.shutdown(Shutdown::Write).map_err(|_| Fault::Line)?;
     }
     Ok(())
 }

@@ -1,5 +1,5 @@
 //! Events drawn by chance, of which most come to something.
-use crate::model::{Asked, Book, Brought, Happened, Query, Wanted};
+use crate::model::{Asked, Book, Brought, Happened, Query, Read, Reply, Wanted};
 use office_core::OfficeError;
 use std::alloc::Global;
 
@@ -60,10 +60,10 @@ fn draw_brought(chance: &mut Chance, query: Option<&Query>) -> Brought {
         (Asked::Read { .. }, 0) => Brought::Exception(3, 2),
         (Asked::Write { .. }, 0 | 1 | 2) => Brought::Exception(6, draw_code(chance)),
         (_, 1) => Brought::Other,
-        (Asked::Read { quantity, .. }, 2) => {
-            Brought::Words(draw_number(chance), quantity.saturating_add(1))
+        (Asked::Read { read, .. }, 2) => {
+            Brought::Words(draw_number(chance), read.quantity.saturating_add(1))
         }
-        (Asked::Read { quantity, .. }, _) => Brought::Words(draw_number(chance), quantity),
+        (Asked::Read { read, .. }, _) => Brought::Words(draw_number(chance), read.quantity),
         (Asked::Write { address, value, .. }, 3) => Brought::Echo(address, value ^ 1),
         (Asked::Write { address, value, .. }, _) => Brought::Echo(address, value),
     }
@@ -81,12 +81,12 @@ fn draw_arrival(alloc: Global, chance: &mut Chance, book: &Book) -> Result<Happe
     };
     let unit_id = if chance.below(10) == 0 { 18 } else { 17 };
     let brought = draw_brought(chance, queries.get(transaction as usize));
-    Ok(Happened::Arrive {
+    Ok(Happened::Arrive(Reply {
         conn,
         transaction,
         unit_id,
         brought,
-    })
+    }))
 }
 
 fn draw_wanted(chance: &mut Chance) -> Wanted {
@@ -108,6 +108,17 @@ fn draw_request(chance: &mut Chance) -> Happened {
     Happened::Request {
         key: chance.below(24) as u32,
         wanted: draw_wanted(chance),
+    }
+}
+
+fn draw_ask(chance: &mut Chance, book: &Book) -> Happened {
+    Happened::Ask {
+        conn: draw_conn(chance, book),
+        read: Read {
+            slot: chance.below(SLOTS as u16) as u32,
+            start: 105u16.wrapping_add(chance.below(5)),
+            quantity: 1u16.wrapping_add(chance.below(8)),
+        },
     }
 }
 
@@ -144,12 +155,7 @@ pub(crate) fn draw(
         7 => Ok(Happened::Open(chance.below(3) as u32)),
         8 => Ok(Happened::Open(0)),
         9 => Ok(Happened::Restart),
-        10..18 => Ok(Happened::Ask {
-            conn: draw_conn(chance, book),
-            slot: chance.below(SLOTS as u16) as u32,
-            start: 105u16.wrapping_add(chance.below(5)),
-            quantity: 1u16.wrapping_add(chance.below(8)),
-        }),
+        10..18 => Ok(draw_ask(chance, book)),
         18..23 => Ok(draw_send(chance, book)),
         _ => draw_arrival(alloc, chance, book),
     }

@@ -1,21 +1,16 @@
 //! What happened, as events of an office.
-use crate::model::{Brought, Happened, Wanted, is_faulty, rows_of};
-use mb_pdu::Span;
+use crate::model::{Brought, Happened, Reply, Wanted, is_faulty, rows_of};
 use office_core::{Event, OfficeError};
-use office_plays::builders::{frame, text};
-use point_list::{Items, Role};
-use poll_book::{Caller, Key};
+use office_plays::builders::{self, frame, list, order};
+use office_plays::steps::Happens;
+use point_list::Role;
 use poll_match::Conn;
-use read_planner::Read;
-use std::alloc::Global;
+use std::alloc::{AllocError, Global};
 
-const HEADER: &str = "name,device,table,address,type,length,scale,role,roll\n";
-
-fn list_bytes(alloc: Global, list: u32) -> Result<Items<u8>, OfficeError> {
-    let mut text = String::from_str(alloc, HEADER)?;
+fn records(alloc: Global, list: u32) -> Result<String, AllocError> {
+    let mut text = String::new(alloc);
     for row in rows_of(list) {
-        let name = row.name;
-        let address = row.address;
+        let (name, address) = (row.name, row.address);
         let kind = if row.registers == 1 {
             "uint16"
         } else {
@@ -26,36 +21,28 @@ fn list_bytes(alloc: Global, list: u32) -> Result<Items<u8>, OfficeError> {
             Role::Gauge => "gauge,",
             Role::Setting => "setting,",
         };
-        let record = format!(in alloc; "{name},m1,holding,{address},{kind},,,{role}\n")?;
-        text.push_str(record.as_str())?;
+        writeln!(text, "{name},m1,holding,{address},{kind},,,{role}")?;
     }
     if is_faulty(list) {
         text.push_str("g,m9,holding,1,uint16,,,gauge,\n")?;
     }
-    let bytes = Vec::from_slice(alloc, text.as_bytes())?;
-    Ok(Items::from_vec(bytes))
+    Ok(text)
 }
 
 fn request_event(alloc: Global, key: u32, wanted: Wanted) -> Result<Event, OfficeError> {
-    let name = format!(in alloc; "k{key}")?;
-    let (Some(caller), Some(key)) = (Caller::new("ann"), Key::new(name.as_str())) else {
-        return Err(OfficeError::NoRead);
-    };
+    let key = format!(in alloc; "k{key}")?;
     match wanted {
-        Wanted::List(list) => Ok(Event::Load(caller, key, list_bytes(alloc, list)?)),
-        Wanted::Value(point, value) => {
-            Ok(Event::Order(caller, key, text(alloc, point)?, value as i128))
-        }
+        Wanted::List(number) => list(alloc, key.as_str(), records(alloc, number)?.as_str()),
+        Wanted::Value(point, value) => order(alloc, key.as_str(), point, value as i128),
     }
 }
 
-fn open_event(alloc: Global, line: u32) -> Result<Event, OfficeError> {
-    let name = match line {
+fn line_name(line: u32) -> &'static str {
+    match line {
         0 => "roof",
         1 => "cellar",
         _ => "attic",
-    };
-    Ok(Event::Open(text(alloc, name)?))
+    }
 }
 
 fn words_of(alloc: Global, first: u16, count: u16) -> Result<Vec<u8>, OfficeError> {
@@ -82,31 +69,22 @@ fn unit_of(alloc: Global, brought: Brought) -> Result<Vec<u8>, OfficeError> {
     }
 }
 
+fn arrival(alloc: Global, reply: Reply) -> Result<Event, OfficeError> {
+    let unit = unit_of(alloc, reply.brought)?;
+    let frame = frame(reply.transaction, reply.unit_id, &unit)?;
+    Ok(Event::Arrive(Conn::new(reply.conn), frame))
+}
+
 pub(crate) fn event_of(alloc: Global, happened: Happened) -> Result<Event, OfficeError> {
-    match happened {
-        Happened::Request { key, wanted } => request_event(alloc, key, wanted),
-        Happened::Open(line) => open_event(alloc, line),
-        Happened::Ask {
-            conn,
-            slot,
-            start,
-            quantity,
-        } => {
-            let span = Span { start, quantity };
-            let read = Read { function: 3, span };
-            Ok(Event::Ask(Conn::new(conn), text(alloc, "m1")?, slot, read))
+    let happens = match happened {
+        Happened::Request { key, wanted } => return request_event(alloc, key, wanted),
+        Happened::Arrive(reply) => return arrival(alloc, reply),
+        Happened::Open(line) => Happens::Open(line_name(line)),
+        Happened::Ask { conn, read } => {
+            Happens::Ask(conn, "m1", read.slot, (3, read.start, read.quantity))
         }
-        Happened::Send { conn, order } => Ok(Event::Send(Conn::new(conn), order)),
-        Happened::Arrive {
-            conn,
-            transaction,
-            unit_id,
-            brought,
-        } => {
-            let unit = unit_of(alloc, brought)?;
-            let frame = frame(transaction, unit_id, &unit)?;
-            Ok(Event::Arrive(Conn::new(conn), frame))
-        }
-        Happened::Restart => Ok(Event::Restart),
-    }
+        Happened::Send { conn, order } => Happens::Send(conn, order),
+        Happened::Restart => Happens::Restart,
+    };
+    builders::event_of(alloc, &happens)
 }

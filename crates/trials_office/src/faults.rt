@@ -1,6 +1,8 @@
 //! A keeper that refuses, each call in turn, by each fault; and an office begun anew over a keeper.
 use office_core::{Event, EventAnswer, Office, OfficeError};
-use office_plays::builders::{BARE, MEMORY, TWO, begun, events_of, office_over, shown};
+use office_plays::builders::{
+    BARE, MEMORY, TWO, begun, events_of, office_after, office_over, shown,
+};
 use office_plays::refusing::Refusing;
 use office_plays::steps::Happens::{self, Arrive, Ask, Load, Open, Order, Send};
 use office_plays::steps::{answered, has_words, is_refused, opened, state, take, take_happening};
@@ -163,18 +165,9 @@ fn each_call_refused_once(rt: HostRuntime) -> Result<(), Fail> {
     Ok(twice!(rt, calls_refused)?)
 }
 
-fn take_all(alloc: Global, office: &mut Office<MemKeeper>) -> Result<(), OfficeError> {
-    for happens in HAPPENINGS {
-        take_happening(alloc, office, happens)?;
-    }
-    Ok(())
-}
-
 /// A keeper to which all has happened.
 fn used_keeper(alloc: Global) -> Result<MemKeeper, OfficeError> {
-    let mut office = office_over(alloc, MemKeeper::new(alloc))?;
-    take_all(alloc, &mut office)?;
-    Ok(office.into_keeper())
+    Ok(office_after(alloc, MemKeeper::new(alloc), HAPPENINGS)?.into_keeper())
 }
 
 fn is_refused_for(

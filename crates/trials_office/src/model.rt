@@ -36,31 +36,32 @@ pub(crate) enum Wanted {
     Value(&'static str, u32),
 }
 
+/// A read of so many registers, for a slot.
+#[derive(Clone, Copy, Debug)]
+pub(crate) struct Read {
+    pub(crate) slot: u32,
+    pub(crate) start: u16,
+    pub(crate) quantity: u16,
+}
+
+/// A frame that comes over a connection.
+#[derive(Clone, Copy, Debug)]
+pub(crate) struct Reply {
+    pub(crate) conn: u32,
+    pub(crate) transaction: u16,
+    pub(crate) unit_id: u8,
+    pub(crate) brought: Brought,
+}
+
 #[derive(Clone, Copy, Debug)]
 pub(crate) enum Happened {
     /// Under a key by its number.
-    Request {
-        key: u32,
-        wanted: Wanted,
-    },
+    Request { key: u32, wanted: Wanted },
     /// A line by its place; there are two.
     Open(u32),
-    Ask {
-        conn: u32,
-        slot: u32,
-        start: u16,
-        quantity: u16,
-    },
-    Send {
-        conn: u32,
-        order: u32,
-    },
-    Arrive {
-        conn: u32,
-        transaction: u16,
-        unit_id: u8,
-        brought: Brought,
-    },
+    Ask { conn: u32, read: Read },
+    Send { conn: u32, order: u32 },
+    Arrive(Reply),
     Restart,
 }
 
@@ -113,9 +114,7 @@ pub(crate) struct Placed {
 pub(crate) enum Asked {
     /// How many points were known then.
     Read {
-        slot: u32,
-        start: u16,
-        quantity: u16,
+        read: Read,
         known: usize,
     },
     /// The place of an order, and what is written for it.
@@ -177,14 +176,14 @@ fn list_outcome(known: &[Row], list: u32) -> Outcome {
     Outcome::Loaded(4)
 }
 
-fn covers(start: u16, quantity: u16, row: &Row) -> bool {
-    let end = start as u32 + quantity as u32;
-    start <= row.address && row.address as u32 + row.registers as u32 <= end
+fn covers(read: Read, row: &Row) -> bool {
+    let end = read.start as u32 + read.quantity as u32;
+    read.start <= row.address && row.address as u32 + row.registers as u32 <= end
 }
 
 fn fits(asked: Asked, brought: Brought) -> bool {
     match (asked, brought) {
-        (Asked::Read { quantity, .. }, Brought::Words(_, count)) => count == quantity,
+        (Asked::Read { read, .. }, Brought::Words(_, count)) => count == read.quantity,
         (Asked::Read { .. }, Brought::Exception(function, _)) => function == 3,
         (Asked::Write { .. }, Brought::Exception(function, _)) => function == 6,
         (Asked::Write { address, value, .. }, Brought::Echo(at, number)) => {
@@ -364,11 +363,7 @@ impl Book {
         };
         push(&mut self.queries, query)?;
         let (function, first, second) = match asked {
-            Asked::Read {
-                start,
-                quantity,
-                ..
-            } => (3, start, quantity),
+            Asked::Read { read, .. } => (3, read.start, read.quantity),
             Asked::Write { address, value, .. } => (6, address, value),
         };
         let [high, low] = first.to_be_bytes();
@@ -377,25 +372,13 @@ impl Book {
         Ok(EventAnswer::Query(sent))
     }
 
-    fn ask(
-        &mut self,
-        conn: u32,
-        slot: u32,
-        start: u16,
-        quantity: u16,
-    ) -> Result<EventAnswer, OfficeError> {
-        let some = self.known.iter().any(|row| covers(start, quantity, row));
+    fn ask(&mut self, conn: u32, read: Read) -> Result<EventAnswer, OfficeError> {
+        let some = self.known.iter().any(|row| covers(read, row));
         let refusal = match self.line_of(conn) {
             None => OfficeError::NoConnection,
             Some(0) if some => {
                 let known = self.known.len();
-                let asked = Asked::Read {
-                    slot,
-                    start,
-                    quantity,
-                    known,
-                };
-                return self.make_query(conn, asked);
+                return self.make_query(conn, Asked::Read { read, known });
             }
             Some(0) => OfficeError::NoRead,
             Some(_) => OfficeError::WrongLine,
@@ -433,23 +416,18 @@ impl Book {
 
     /// Adds what the first reply to a read gives, but for what is there, and counts it.
     fn give(&mut self, asked: Asked, number: u16) -> Result<u32, OfficeError> {
-        let Asked::Read {
-            slot,
-            start,
-            quantity,
-            known,
-        } = asked
-        else {
+        let Asked::Read { read, known } = asked else {
             return Ok(0);
         };
+        let slot = read.slot;
         let mut count = 0u32;
         for (point, row) in self.known.iter().take(known).enumerate() {
             let is_there = self
                 .given
                 .iter()
                 .any(|there| there.point == point && there.slot == slot);
-            if covers(start, quantity, row) && !is_there {
-                let first = number.wrapping_add(row.address.wrapping_sub(start));
+            if covers(read, row) && !is_there {
+                let first = number.wrapping_add(row.address.wrapping_sub(read.start));
                 push(&mut self.given, Given { point, slot, first })?;
                 count = count.saturating_add(1);
             }
@@ -498,37 +476,26 @@ impl Book {
     }
 
     /// The place of the query that a frame answers, or its refusal.
-    fn answered(
-        &self,
-        conn: u32,
-        transaction: u16,
-        unit_id: u8,
-        brought: Brought,
-    ) -> Result<usize, OfficeError> {
-        if self.line_of(conn).is_none() {
+    fn answered(&self, reply: Reply) -> Result<usize, OfficeError> {
+        if self.line_of(reply.conn).is_none() {
             return Err(OfficeError::NoConnection);
         }
-        let place = self.place(conn, transaction).ok_or(OfficeError::NoQuery)?;
+        let place = self.place(reply.conn, reply.transaction);
+        let place = place.ok_or(OfficeError::NoQuery)?;
         let query = self.queries.get(place).ok_or(OfficeError::NoQuery)?;
-        if unit_id != 17 {
+        if reply.unit_id != 17 {
             Err(OfficeError::WrongUnit)
         } else if query.is_answered {
             Err(OfficeError::Repeat)
-        } else if !fits(query.asked, brought) {
+        } else if !fits(query.asked, reply.brought) {
             Err(OfficeError::WrongReply)
         } else {
             Ok(place)
         }
     }
 
-    fn arrive(
-        &mut self,
-        conn: u32,
-        transaction: u16,
-        unit_id: u8,
-        brought: Brought,
-    ) -> Result<EventAnswer, OfficeError> {
-        let place = match self.answered(conn, transaction, unit_id, brought) {
+    fn arrive(&mut self, reply: Reply) -> Result<EventAnswer, OfficeError> {
+        let place = match self.answered(reply) {
             Ok(place) => place,
             Err(error) => return Ok(EventAnswer::Refused(error)),
         };
@@ -537,7 +504,7 @@ impl Book {
         };
         query.is_answered = true;
         let asked = query.asked;
-        Ok(EventAnswer::Arrived(self.bring(asked, brought)?))
+        Ok(EventAnswer::Arrived(self.bring(asked, reply.brought)?))
     }
 
     fn restart(&mut self) {
@@ -553,19 +520,9 @@ impl Book {
                 Ok(EventAnswer::Request(self.take_request(key, wanted)?))
             }
             Happened::Open(line) => self.open(line),
-            Happened::Ask {
-                conn,
-                slot,
-                start,
-                quantity,
-            } => self.ask(conn, slot, start, quantity),
+            Happened::Ask { conn, read } => self.ask(conn, read),
             Happened::Send { conn, order } => self.send(conn, order),
-            Happened::Arrive {
-                conn,
-                transaction,
-                unit_id,
-                brought,
-            } => self.arrive(conn, transaction, unit_id, brought),
+            Happened::Arrive(reply) => self.arrive(reply),
             Happened::Restart => {
                 self.restart();
                 Ok(EventAnswer::Restarted)

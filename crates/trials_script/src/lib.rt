@@ -1,10 +1,7 @@
-//! Tests of scripts that no page can show: readers and writers that fail, refused memory, scripts without a last
-//! line feed, the greatest ones.
+//! Tests of scripts that no page can show: readers and writers that fail, refused memory, the greatest script.
 #![tactic(auto)]
 
 #[cfg(test)]
 mod playing;
-#[cfg(test)]
-mod scripts;
 #[cfg(test)]
 mod streams;

@@ -65,14 +65,3 @@ pub(crate) fn comes<R: Read + Drop>(
     trial.told(&calls, &(written, told, failed), &(text, ended, failures));
     Ok(())
 }
-
-/// Expects that a script prints a text and ends so.
-pub(crate) fn prints(
-    trial: &Trial<'_>,
-    script: &str,
-    text: &str,
-    ended: Replayed,
-) -> Result<(), ReplayFault> {
-    let writer = Outgoing::with_room(trial.alloc(), text.len(), usize::MAX, usize::MAX)?;
-    comes(trial, script.as_bytes(), writer, text, Ok(ended), 0)
-}

@@ -1,12 +1,14 @@
-//! Readers and writers that give and take little at a time, and that fail.
+//! Readers and writers that give and take little at a time, and that fail; and what is shown of endings.
 use crate::playing::{COUNTER, COUNTER_TEXT, comes};
 use office_script::ReplayFault;
 use office_script::Replayed::{Done, FaultLine};
+use std::alloc::AllocError;
 use std::io::{self, Read};
 use std::test::Fail;
 use telling::{Incoming, Outgoing, Trial, twice};
 
-/// Each read of seven bytes fails once, of which the last finds the end.
+/// Each read of seven bytes fails once, of which the last finds the end. Run under `rt try --test --fail-alloc N`,
+/// this one sees each allocation of a script refused.
 fn reads(trial: &Trial<'_>) -> Result<(), ReplayFault> {
     let calls = COUNTER.len().div_ceil(7).saturating_add(1);
     for reads in 0..=calls {
@@ -136,4 +138,18 @@ fn greatest(trial: &Trial<'_>) -> Result<(), ReplayFault> {
 #[test]
 fn scripts_of_the_greatest_length_and_a_byte_more(rt: HostRuntime) -> Result<(), Fail> {
     Ok(twice!(rt, greatest)?)
+}
+
+fn endings(trial: &Trial<'_>) -> Result<(), AllocError> {
+    use ReplayFault::*;
+    let (alloc, fault) = (trial.alloc(), FaultLine(3));
+    let shown = format!(in alloc; "{Done}, {fault}, {Read}, {Write}, {Memory}")?;
+    let expected = "done, fault line 3, file, file, memory";
+    trial.told(&"shown", &shown.as_str(), &expected);
+    Ok(())
+}
+
+#[test]
+fn endings_are_shown(rt: HostRuntime) -> Result<(), Fail> {
+    Ok(twice!(rt, endings)?)
 }
