@@ -12,6 +12,7 @@ mod fault;
 mod histories;
 mod history;
 mod keeper;
+pub mod laws;
 mod marks;
 mod mem_keeper;
 mod mem_tables;
@@ -23,7 +24,7 @@ mod rows;
 mod words;
 
 pub use caller::{Caller, Key};
-pub use counting::{counted_number, step_to};
+pub use counting::{counted_number, repaired, step_between, step_to};
 pub use fault::StoreFault;
 pub use keeper::{Keeper, Neighbours};
 pub use mem_keeper::MemKeeper;

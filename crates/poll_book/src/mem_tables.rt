@@ -3,12 +3,12 @@ ghost use Rattle.std.specs.Prelude.{◌≡◌, ◌≤◌, ℕ, IfOk, IfSome, OnE
 ghost use Rattle.poll_book.specs.Tables as table;
 ghost use Rattle.poll_book.specs.Tables.{no_tables, readings_between};
 ghost use Rattle.poll_book.specs.Changes.{applied, as_rows};
-ghost use Rattle.poll_book.specs.Histories.{IsRising, counted_in, reading_number, slot_of, slots_of};
+ghost use Rattle.poll_book.specs.Histories.{IsRising, counted_in, slot_of, slots_of};
 ghost use Rattle.poll_book.specs.Orders as book;
 ghost use Rattle.poll_book.specs.Orders.{as_setting, last_order, oldest_waiting};
 ghost use Rattle.poll_book.specs.Requests as asked;
 ghost use Rattle.poll_book.specs.Totals as totals;
-ghost use Rattle.poll_book.specs.Totals.{steps};
+ghost use Rattle.poll_book.specs.Totals.{reading_number, steps};
 
 use crate::asked::{copy_of_request, put_request, request_at};
 use crate::caller::{Caller, Key};
