@@ -6,6 +6,7 @@ pub mod Rooms
 pub mod Tabled
 pub mod Steps
 pub mod Sides
+pub mod Slots
 pub mod Bounds
 pub mod Repairs
 pub mod Numbers

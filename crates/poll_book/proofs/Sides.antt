@@ -69,16 +69,16 @@ ltb_no a b le = grind (arith, nat_tests)
 
 -- where a list parts at the point's slot, its numbers before and after the slot are those of the two parts
 module _ (known : PointRow) (slot : ℕ) where
-  abbrev IsLower : Key × Reading → Type 0
+  abbrev pub IsLower : Key × Reading → Type 0
   IsLower row = row.0.0 ≡ known.number → row.0.1 < slot
 
-  abbrev IsHigher : Key × Reading → Type 0
+  abbrev pub IsHigher : Key × Reading → Type 0
   IsHigher row = row.0.0 ≡ known.number → slot < row.0.1
 
-  abbrev IsNotLower : Key × Reading → Type 0
+  abbrev pub IsNotLower : Key × Reading → Type 0
   IsNotLower row = row.0.0 ≡ known.number → slot ≤ row.0.1
 
-  abbrev IsNotHigher : Key × Reading → Type 0
+  abbrev pub IsNotHigher : Key × Reading → Type 0
   IsNotHigher row = row.0.0 ≡ known.number → row.0.1 ≤ slot
 
   pub before_parts : (lows highs : Readings) → All IsLower lows → All IsNotLower highs → numbers_before known slot (lows ++ highs) ≡ counted_numbers known lows

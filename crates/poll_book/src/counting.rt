@@ -1,6 +1,7 @@
 ghost use Rattle.std.specs.Prelude.{◌≡◌, ◌≤◌, ◌<◌, ◌+◌, ◌-◌, ◌%◌, ◌^◌, IfSome};
 ghost use Rattle.poll_book.specs.Totals as counting;
 
+use crate::rows::Reading;
 use point_list::{Point, Role};
 use sunspec::{Value, read_value};
 
@@ -20,6 +21,18 @@ pub fn counted_number(point: &Point, words: &[u16]) -> Option<u64>
     match read_value(&point.kind, words) {
         Value::Number(number) if 0 <= number && number <= point.roll as i128 => Some(number as u64),
         _ => None,
+    }
+}
+
+/// The number of a reading, if it is marked as counted.
+pub(crate) fn number_of(point: &Point, reading: &Reading) -> Option<u64>
+    ensures number { result ≡ counting.reading_number point.now reading.now }
+    ensures bound { IfSome result (λ number. number ≤ point.now.roll) }
+{
+    if reading.counted {
+        counted_number(point, reading.words.as_slice())
+    } else {
+        None
     }
 }
 

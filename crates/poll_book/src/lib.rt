@@ -16,6 +16,7 @@ pub mod laws;
 mod marks;
 mod mem_keeper;
 mod mem_tables;
+mod nearest;
 mod orders;
 mod points;
 mod recording;
