@@ -159,7 +159,8 @@ pub(crate) fn total<S: Alter>(
 
 /// The value of the reading that the rows of an answer show, which is marked as counted, if they show one.
 fn value_shown(alloc: Global, point: &Point, rows: &[Row]) -> Result<Option<u64>, StoreFault>
-    ensures { IfOk result (λ value. ShowValue point.now rows.now value) }
+    ensures value { IfOk result (λ value. ShowValue point.now rows.now value) }
+    ensures bound { IfOk result (λ value. IfSome value (λ number. number ≤ point.now.roll)) }
 {
     match rows {
         [] => Ok(None),
@@ -184,6 +185,7 @@ pub(crate) fn value_before<S: Alter>(
     requires { connection.old.in_transaction ≡ false }
     ensures value { HasCleanDisk (state S.Store connection.new) → (kept : Tables) → Holds (state S.Store connection.old) kept
         → IfOk result (λ found. found ≡ value_before point.now slot kept.readings) }
+    ensures bound { IfOk result (λ found. IfSome found (λ number. number ≤ point.now.point.roll)) }
     ensures keeps { Keeps (state S.Store connection.old) (state S.Store connection.new) }
     ensures idle { connection.new.in_transaction ≡ false }
 {
@@ -207,6 +209,7 @@ pub(crate) fn value_after<S: Alter>(
     requires { connection.old.in_transaction ≡ false }
     ensures value { HasCleanDisk (state S.Store connection.new) → (kept : Tables) → Holds (state S.Store connection.old) kept
         → IfOk result (λ found. found ≡ value_after point.now slot kept.readings) }
+    ensures bound { IfOk result (λ found. IfSome found (λ number. number ≤ point.now.point.roll)) }
     ensures keeps { Keeps (state S.Store connection.old) (state S.Store connection.new) }
     ensures idle { connection.new.in_transaction ≡ false }
 {

@@ -1,5 +1,5 @@
 ghost use Rattle.poll_book.specs.declared.fault.StoreFault.{StoreFault};
-ghost use Rattle.std.specs.Prelude.{◌≡◌, ◌⊎◌, ℕ, IfErr, IfOk, OnOk, OnErr, is_some, option_map};
+ghost use Rattle.std.specs.Prelude.{◌≡◌, ◌⊎◌, ◌≤◌, ℕ, IfErr, IfOk, IfSome, OnOk, OnErr, is_some, option_map};
 ghost use Rattle.poll_book.specs.Fault.{CountsRefusal, IsCountedOn};
 ghost use Rattle.poll_book.specs.Looks.{CountsRows};
 ghost use Rattle.poll_book.specs.Tables.{Tables, Within, reading_at, readings_between};
@@ -61,6 +61,7 @@ pub trait Neighbours {
     fn before(&mut self, point: &PointRow, slot: u32) -> Result<Option<u64>, StoreFault>
         ensures value { is_clean self.new → (kept : Tables) → holds self.old kept
             → IfOk result (λ found. found ≡ value_before point.now slot kept.readings) }
+        ensures bound { IfOk result (λ found. IfSome found (λ number. number ≤ point.now.point.roll)) }
         ensures cause { IfErr result (λ fault. may_refuse fault) }
         ensures counted { CountsRefusal (refused self.old) (refused self.new) result }
         ensures looked { IsCountedOn (looked self.old) (looked self.new) }
@@ -72,6 +73,7 @@ pub trait Neighbours {
     fn after(&mut self, point: &PointRow, slot: u32) -> Result<Option<u64>, StoreFault>
         ensures value { is_clean self.new → (kept : Tables) → holds self.old kept
             → IfOk result (λ found. found ≡ value_after point.now slot kept.readings) }
+        ensures bound { IfOk result (λ found. IfSome found (λ number. number ≤ point.now.point.roll)) }
         ensures cause { IfErr result (λ fault. may_refuse fault) }
         ensures counted { CountsRefusal (refused self.old) (refused self.new) result }
         ensures looked { IsCountedOn (looked self.old) (looked self.new) }

@@ -1,5 +1,5 @@
 //! Tables in memory.
-ghost use Rattle.std.specs.Prelude.{◌≡◌, ℕ, IfOk, OnErr, OnOk, is_some, option_map};
+ghost use Rattle.std.specs.Prelude.{◌≡◌, ◌≤◌, ℕ, IfOk, IfSome, OnErr, OnOk, is_some, option_map};
 ghost use Rattle.poll_book.specs.Tables as table;
 ghost use Rattle.poll_book.specs.Tables.{no_tables, readings_between};
 ghost use Rattle.poll_book.specs.Changes.{applied, as_rows};
@@ -95,7 +95,8 @@ impl MemTables {
 
     /// The value of the nearest counted reading of a point before a slot, if there is one.
     pub(crate) fn before(&self, point: &PointRow, slot: u32) -> Option<u64>
-        ensures { result ≡ value_before point.now slot self.now.readings }
+        ensures value { result ≡ value_before point.now slot self.now.readings }
+        ensures bound { IfSome result (λ number. number ≤ point.now.point.roll) }
     {
         let slots = slots_in(&self.histories, point.number);
         last_counted(&point.point, slots_before(slots, slot))
@@ -103,7 +104,8 @@ impl MemTables {
 
     /// The value of the nearest counted reading of a point after a slot, if there is one.
     pub(crate) fn after(&self, point: &PointRow, slot: u32) -> Option<u64>
-        ensures { result ≡ value_after point.now slot self.now.readings }
+        ensures value { result ≡ value_after point.now slot self.now.readings }
+        ensures bound { IfSome result (λ number. number ≤ point.now.point.roll) }
     {
         let slots = slots_in(&self.histories, point.number);
         first_counted(&point.point, slots_after(slots, slot))

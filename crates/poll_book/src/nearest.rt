@@ -1,4 +1,4 @@
-ghost use Rattle.std.specs.Prelude.{◌≡◌};
+ghost use Rattle.std.specs.Prelude.{◌≡◌, ◌≤◌, IfSome};
 ghost use Rattle.poll_book.specs.declared.rows.PointRow.{PointRow};
 ghost use Rattle.poll_book.specs.Histories.{IsRising, counted_in, slot_of, slots_of};
 ghost use Rattle.poll_book.specs.Totals.{first_of, last_of, numbers_after, numbers_before};
@@ -31,7 +31,8 @@ pub(crate) fn slots_after(slots: &[SlotRow], slot: u32) -> &[SlotRow]
 
 /// The number of the first reading of these that counts.
 pub(crate) fn first_counted(point: &Point, slots: &[SlotRow]) -> Option<u64>
-    ensures { result ≡ first_of (counted_in point.now slots.now) }
+    ensures value { result ≡ first_of (counted_in point.now slots.now) }
+    ensures bound { IfSome result (λ number. number ≤ point.now.roll) }
 {
     for row in slots {
         if let Some(number) = number_of(point, &row.reading) {
@@ -43,7 +44,8 @@ pub(crate) fn first_counted(point: &Point, slots: &[SlotRow]) -> Option<u64>
 
 /// The number of the last reading of these that counts.
 pub(crate) fn last_counted(point: &Point, slots: &[SlotRow]) -> Option<u64>
-    ensures { result ≡ last_of (counted_in point.now slots.now) }
+    ensures value { result ≡ last_of (counted_in point.now slots.now) }
+    ensures bound { IfSome result (λ number. number ≤ point.now.roll) }
 {
     let mut place = slots.len();
     while 0 < place {

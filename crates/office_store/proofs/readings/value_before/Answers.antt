@@ -18,4 +18,4 @@ returns-in-Ok-clause-value g c clean kept holds =
     let rows = c.in-Ok.rows.items in
     let shown = rw (c.params-to_sql.ensures, c.params-to_sql-2.ensures) at (c.in-Ok.ensures.rows clean) in
     let held = holds (c.ask.ensures.keeps.clean clean) (after_ok value_before_text (given known.number c.args.slot) old new value_before_is_query rows shown).0.was_open in
-    each_value c.value_shown.result (λ value is. before_shown known c.args.slot old new kept held rows shown value (subst (λ l. ShowValue known.point l value) c.deref.ensures.value is)) c.value_shown.ensures
+    each_value c.value_shown.result (λ value is. before_shown known c.args.slot old new kept held rows shown value (subst (λ l. ShowValue known.point l value) c.deref.ensures.value is)) c.value_shown.ensures.value

@@ -7,8 +7,8 @@ use Rattle.poll_book.proofs.Slots.{first_here}
 use Rattle.poll_book.proofs.Steps.{counted_more}
 use Rattle.poll_book.proofs.nearest.first_counted.Goals as goal
 
-pub returns-in-Some : goal.returns-in-Some
-returns-in-Some c =
+pub returns-in-Some-clause-value : goal.returns-in-Some-clause-value
+returns-in-Some-clause-value c =
     let point = c.args.point.now in
     first_here point c.args.slots.now c.loop-row.row-index c.row-item.result (omega (arith, c.loop-row-test.true)) c.in-Some.number c.loop-row.invariant
     (ap (λ (row : SlotRow). reading_number point row.reading) (sym c.row-item.is) ∙ sym c.number_of.ensures.number ∙ c.in-Some.is)
