@@ -37,3 +37,4 @@ pub mod Messages
 pub mod Forms
 pub mod Fitting
 pub mod ByName
+pub mod Looked
