@@ -37,8 +37,12 @@ pub mod Messages
 pub mod Forms
 pub mod Fitting
 pub mod ByName
+<<<<<<< HEAD
 pub mod StepsLost
 pub mod SlotsLost
 pub mod LostReadings
 pub mod Calls
 pub mod SameArrivals
+=======
+pub mod Looked
+>>>>>>> fd5178a16ab5ae834695c24d787cf1456975e44f

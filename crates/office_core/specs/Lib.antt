@@ -22,3 +22,4 @@ pub mod Fitting
 pub mod Messages
 pub mod ByName
 pub mod Lacking
+pub mod Looking

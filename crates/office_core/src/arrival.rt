@@ -1,12 +1,14 @@
 //! What a reply to a query brings.
-ghost use Rattle.std.specs.Prelude.{◌≡◌, ◌≤◌, IfOk, OnErr, MatchResult, is_err, length};
+ghost use Rattle.std.specs.Prelude.{◌≡◌, ◌≤◌, ◌*◌, IfOk, OnErr, MatchResult, is_err, length};
 ghost use Rattle.poll_book.specs.Tables.{Tables, Within};
 ghost use Rattle.poll_book.specs.Fault.{Accounts};
+ghost use Rattle.poll_book.specs.Looks.{IsRaisedAtMost};
 ghost use Rattle.office_core.specs.Orders as orders;
 ghost use Rattle.office_core.specs.Queries.{Answers, AnswersRead};
 ghost use Rattle.office_core.specs.Keeping as keeping;
 ghost use Rattle.office_core.specs.Keeping.{IsCopy, arrival_of, brought, brought_read, read_arrival, with_state, write_arrival};
 ghost use Rattle.office_core.specs.Leavings.{LeftAfter};
+ghost use Rattle.office_core.specs.Looking.{covered_at, covered_by};
 
 use crate::commit::{keep_readings, keep_state};
 use crate::cover::{Asking, covered_by};
@@ -35,6 +37,7 @@ fn bring_readings<K: Keeper>(
     ensures leaves { K.is_clean keeper.new → (kept : Tables) → K.holds keeper.old kept → IsCopy known.now kept
         → Within (K.may_leave keeper.new) (LeftAfter (K.may_leave keeper.old) kept (brought_read site.now known.now asking.now reply.now kept) (is_err result)) }
     ensures cause { Accounts K.may_refuse (K.refused keeper.old) (K.refused keeper.new) result }
+    ensures looks { IsRaisedAtMost (4 * length (covered_at site.now known.now asking.now)) (K.looked keeper.old) (K.looked keeper.new) }
     ensures err { OnErr result (Within (K.holds keeper.old) (K.holds keeper.new)) }
     ensures clean { K.is_clean keeper.new → K.is_clean keeper.old }
 {
@@ -96,6 +99,7 @@ pub(crate) fn bring<K: Keeper>(
     ensures leaves { K.is_clean keeper.new → (kept : Tables) → K.holds keeper.old kept → IsCopy known.now kept
         → Within (K.may_leave keeper.new) (LeftAfter (K.may_leave keeper.old) kept (brought site.now known.now asked.now reply.now kept) (is_err result)) }
     ensures cause { Accounts K.may_refuse (K.refused keeper.old) (K.refused keeper.new) result }
+    ensures looks { IsRaisedAtMost (4 * length (covered_by site.now known.now asked.now)) (K.looked keeper.old) (K.looked keeper.new) }
     ensures err { OnErr result (Within (K.holds keeper.old) (K.holds keeper.new)) }
     ensures clean { K.is_clean keeper.new → K.is_clean keeper.old }
 {

@@ -1,8 +1,9 @@
 //! What is written to a keeper.
-ghost use Rattle.std.specs.Prelude.{◌≡◌, ◌⊎◌, ◌≤◌, IfOk, IfSome, OnErr, MatchResult, false, is_err, length};
+ghost use Rattle.std.specs.Prelude.{◌≡◌, ◌⊎◌, ◌≤◌, ◌*◌, IfOk, IfSome, OnErr, MatchResult, false, is_err, length};
 ghost use Rattle.poll_book.specs.Tables.{Tables, Within, new_rows};
 ghost use Rattle.poll_book.specs.Changes.{IsNew, applied, keyed};
 ghost use Rattle.poll_book.specs.Fault.{Accounts};
+ghost use Rattle.poll_book.specs.Looks.{IsRaisedAtMost};
 ghost use Rattle.poll_book.specs.Orders.{is_waiting, setting_at};
 ghost use Rattle.office_core.specs.Orders.{waiting_at};
 ghost use Rattle.office_core.specs.Keeping.{IsCounted, Rises, with_given, with_state};
@@ -20,6 +21,7 @@ pub(crate) fn commit<K: Keeper>(keeper: &mut K, change: &Change) -> Result<(), S
     ensures leaves { K.is_clean keeper.new → (kept : Tables) → K.holds keeper.old kept → IsNew change.now kept → (left : Tables) → K.may_leave keeper.new left
         → MatchResult result (λ _. left ≡ applied change.now kept) (λ _. K.may_leave keeper.old left ⊎ (left ≡ applied change.now kept)) }
     ensures cause { Accounts K.may_refuse (K.refused keeper.old) (K.refused keeper.new) result }
+    ensures looked { K.looked keeper.new ≡ K.looked keeper.old }
     ensures err { OnErr result (Within (K.holds keeper.old) (K.holds keeper.new)) }
     ensures clean { K.is_clean keeper.new → K.is_clean keeper.old }
 {
@@ -34,6 +36,7 @@ pub(crate) fn write<K: Keeper>(keeper: &mut K, change: Change) -> Result<(), Sto
     ensures leaves { K.is_clean keeper.new → (kept : Tables) → K.holds keeper.old kept → IsNew change kept → (left : Tables) → K.may_leave keeper.new left
         → MatchResult result (λ _. left ≡ applied change kept) (λ _. K.may_leave keeper.old left ⊎ (left ≡ applied change kept)) }
     ensures cause { Accounts K.may_refuse (K.refused keeper.old) (K.refused keeper.new) result }
+    ensures looked { K.looked keeper.new ≡ K.looked keeper.old }
     ensures err { OnErr result (Within (K.holds keeper.old) (K.holds keeper.new)) }
     ensures clean { K.is_clean keeper.new → K.is_clean keeper.old }
 {
@@ -55,6 +58,7 @@ pub(crate) fn keep_readings<K: Keeper>(
     ensures leaves { K.is_clean keeper.new → (kept : Tables) → K.holds keeper.old kept → IsCounted kept → Rises 0 (keyed slot covered.now)
         → Within (K.may_leave keeper.new) (LeftAfter (K.may_leave keeper.old) kept (with_given (keyed slot covered.now) kept) (is_err result)) }
     ensures cause { Accounts K.may_refuse (K.refused keeper.old) (K.refused keeper.new) result }
+    ensures looks { IsRaisedAtMost (4 * length covered.now) (K.looked keeper.old) (K.looked keeper.new) }
     ensures err { OnErr result (Within (K.holds keeper.old) (K.holds keeper.new)) }
     ensures clean { K.is_clean keeper.new → K.is_clean keeper.old }
 {
@@ -72,6 +76,7 @@ fn waiting_setting<K: Keeper>(keeper: &mut K, order: u32) -> Result<Option<Setti
     ensures value { K.is_clean keeper.new → (kept : Tables) → K.holds keeper.old kept
         → IfOk result (λ found. found ≡ waiting_at (setting_at kept.settings order)) }
     ensures cause { Accounts K.may_refuse (K.refused keeper.old) (K.refused keeper.new) result }
+    ensures looked { K.looked keeper.new ≡ K.looked keeper.old }
     ensures same { Within (K.holds keeper.old) (K.holds keeper.new) }
     ensures leaves { K.is_clean keeper.new → Within (K.may_leave keeper.new) (K.may_leave keeper.old) }
     ensures clean { K.is_clean keeper.new → K.is_clean keeper.old }
@@ -95,6 +100,7 @@ pub(crate) fn keep_state<K: Keeper>(
     ensures leaves { K.is_clean keeper.new → (kept : Tables) → K.holds keeper.old kept → IsCounted kept
         → Within (K.may_leave keeper.new) (LeftAfter (K.may_leave keeper.old) kept (with_state order state kept) (is_err result)) }
     ensures cause { Accounts K.may_refuse (K.refused keeper.old) (K.refused keeper.new) result }
+    ensures looked { K.looked keeper.new ≡ K.looked keeper.old }
     ensures err { OnErr result (Within (K.holds keeper.old) (K.holds keeper.new)) }
     ensures clean { K.is_clean keeper.new → K.is_clean keeper.old }
 {

@@ -1,6 +1,7 @@
 //! The office over any keeper.
-ghost use Rattle.std.specs.Prelude.{All, ◌≡◌, ◌<◌, ◌≤◌, ◌⊎◌, ◌∷◌, ◌++◌, ◌+◌, ℕ, IfOk, IfErr, OnOk, OnErr, MatchResult, Some, None, length, false, true, option_map, vec_len, vec_capacity};
+ghost use Rattle.std.specs.Prelude.{All, ◌≡◌, ◌<◌, ◌≤◌, ◌⊎◌, ◌∷◌, ◌++◌, ◌+◌, ◌*◌, ℕ, IfOk, IfErr, OnOk, OnErr, MatchResult, Some, None, length, false, true, option_map, vec_len, vec_capacity};
 ghost use Rattle.poll_book.specs.Fault.{Accounts, HasCause};
+ghost use Rattle.poll_book.specs.Looks.{IsRaisedAtMost};
 ghost use Rattle.poll_book.specs.Tables.{Tables, Within};
 ghost use Rattle.poll_book.specs.Requests.{request_at};
 ghost use Rattle.point_list.specs.Sites.{IsSound};
@@ -131,6 +132,7 @@ impl<K: Keeper> Office<K> {
     ghost use Rattle.office_core.specs.Lacking.{lacks};
     ghost use Rattle.poll_book.specs.Orders.{as_setting, last_order, oldest_waiting};
     ghost use Rattle.office_core.specs.Errors.{IsCaused, IsOfStore};
+    ghost use Rattle.office_core.specs.Looking.{covered_of};
     ghost use Rattle.office_core.specs.Offices.{AnswerCaused, CauseFrom, IsAlike, LeavesNoMore, LeavesRun, LeavesSo, LeavesUnused, Shows, Stands, StandsUnused, arrived, asked_so, keeper_of, opened, order_state_of, points_of, readings_of, site_of, told_so, total_of};
 
     /// An office over what a keeper holds, with no connection open. A keeper that can't be read is
@@ -366,6 +368,7 @@ impl<K: Keeper> Office<K> {
         ensures leaves { K.is_clean (keeper_of self.new) → LeavesSo self.old self.new (Event.Arrive conn frame.now) (arrived result) }
         ensures cause { IfErr result (λ e. IsCaused (CauseFrom self.old self.new) e) }
         ensures counted { K.refused (keeper_of self.old) ≤ K.refused (keeper_of self.new) }
+        ensures looks { IsRaisedAtMost (4 * length (covered_of self.old conn frame.now)) (K.looked (keeper_of self.old)) (K.looked (keeper_of self.new)) }
         ensures same { OnErr result (IsAlike self.old self.new) }
         ensures clean { K.is_clean (keeper_of self.new) → K.is_clean (keeper_of self.old) }
     {

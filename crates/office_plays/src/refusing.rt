@@ -1,6 +1,7 @@
 //! A keeper in memory that refuses one of its calls.
 ghost use Rattle.std.specs.Prelude.{◌≡◌};
-ghost use Rattle.poll_book.specs.Fault.{CountsRefusal};
+ghost use Rattle.poll_book.specs.Fault.{CountsRefusal, IsCountedOn};
+ghost use Rattle.poll_book.specs.Looks.{CountsRows};
 
 use poll_book::{
     Caller, Change, Keeper, Key, MemKeeper, Neighbours, PointRow, Reading, ReadingRow, Request,
@@ -17,6 +18,8 @@ pub struct Refusing {
     pub calls: u32,
     // How many calls were refused, up to the greatest count.
     refusals: u64,
+    // How many look-ups were made, up to the greatest count.
+    lookups: u64,
 }
 
 /// What a call of the kept keeper answers. One that is refused is counted.
@@ -30,6 +33,24 @@ fn counted<T>(refusals: &mut u64, answer: Result<T, StoreFault>) -> Result<T, St
     answer
 }
 
+/// One look-up more.
+fn count_look(lookups: &mut u64)
+    ensures { IsCountedOn lookups.old lookups.new }
+{
+    *lookups = lookups.saturating_add(1);
+}
+
+/// An answer, whose rows are counted as look-ups.
+fn looked<T>(lookups: &mut u64, answer: Result<Vec<T>, StoreFault>) -> Result<Vec<T>, StoreFault>
+    ensures same { result ≡ answer }
+    ensures looked { CountsRows lookups.old lookups.new result }
+{
+    if let Ok(rows) = &answer {
+        *lookups = lookups.saturating_add(rows.len() as u64);
+    }
+    answer
+}
+
 impl Refusing {
     pub fn new(alloc: Global, at: u32, fault: StoreFault) -> Refusing {
         Refusing {
@@ -38,12 +59,14 @@ impl Refusing {
             fault,
             calls: 0,
             refusals: 0,
+            lookups: 0,
         }
     }
 
     fn count(&mut self) -> Result<(), StoreFault>
         ensures same { self.new.kept ≡ self.old.kept }
         ensures counted { CountsRefusal self.old.refusals self.new.refusals result }
+        ensures looked { self.new.lookups ≡ self.old.lookups }
     {
         let call = self.calls;
         self.calls = call.saturating_add(1);
@@ -67,22 +90,45 @@ impl Neighbours for Refusing {
 
     ghost refused = { λ k. k.refusals };
 
+    ghost looked = { λ k. k.lookups };
+
     fn reading(&mut self, point: &PointRow, slot: u32) -> Result<Option<Reading>, StoreFault> {
+        count_look(&mut self.lookups);
         self.count()?;
         let answer = self.kept.reading(point, slot);
         counted(&mut self.refusals, answer)
     }
 
     fn has_reading(&mut self, point: &PointRow, slot: u32) -> Result<bool, StoreFault> {
+        count_look(&mut self.lookups);
         self.count()?;
         let answer = self.kept.has_reading(point, slot);
         counted(&mut self.refusals, answer)
     }
 
+    fn before(&mut self, point: &PointRow, slot: u32) -> Result<Option<u64>, StoreFault> {
+        count_look(&mut self.lookups);
+        self.count()?;
+        let answer = self.kept.before(point, slot);
+        counted(&mut self.refusals, answer)
+    }
+
+    fn after(&mut self, point: &PointRow, slot: u32) -> Result<Option<u64>, StoreFault> {
+        count_look(&mut self.lookups);
+        self.count()?;
+        let answer = self.kept.after(point, slot);
+        counted(&mut self.refusals, answer)
+    }
+
     fn total(&mut self, point: &PointRow) -> Result<u128, StoreFault> {
+        count_look(&mut self.lookups);
         self.count()?;
         let answer = self.kept.total(point);
         counted(&mut self.refusals, answer)
+    }
+
+    fn lookups(&self) -> u64 {
+        self.lookups
     }
 
     fn refusals(&self) -> u64 {
@@ -106,7 +152,8 @@ impl Keeper for Refusing {
     ) -> Result<Vec<ReadingRow>, StoreFault> {
         self.count()?;
         let answer = self.kept.readings(alloc, point, from, to);
-        counted(&mut self.refusals, answer)
+        let told = counted(&mut self.refusals, answer);
+        looked(&mut self.lookups, told)
     }
 
     fn request(

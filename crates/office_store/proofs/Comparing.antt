@@ -12,7 +12,7 @@ use Rattle.sqlite_value.specs.declared.keys.Key.{Key}
 use Rattle.sqlite_value.proofs.OrderLemmas.{value_cmp-Int}
 use Rattle.sqlite_sql.specs.declared.ops.BinaryOp.TheVariants.{Compare}
 use Rattle.sqlite_sql.specs.declared.ops.CompareOp.{CompareOp}
-use Rattle.sqlite_sql.specs.declared.ops.CompareOp.TheVariants.{Eq, Le, Ge}
+use Rattle.sqlite_sql.specs.declared.ops.CompareOp.TheVariants.{Eq, Lt, Le, Gt, Ge}
 use Rattle.sqlite_sql.specs.Ops.{binary, is_true, from_truth, test}
 use Rattle.sqlite_sql.specs.Query.{key_cmp}
 use Rattle.office_store.specs.Rows.{number_below}
@@ -36,6 +36,12 @@ at_most a b = grind (arith, nat_tests)
 
 pub at_least : (a b : ℕ) → test Ge (nat_cmp a b) ≡ nat_le b a
 at_least a b = grind (arith, nat_tests)
+
+pub below : (a b : ℕ) → test Lt (nat_cmp a b) ≡ nat_lt a b
+below a b = grind (arith, nat_tests)
+
+pub above : (a b : ℕ) → test Gt (nat_cmp a b) ≡ nat_lt b a
+above a b = grind (arith, nat_tests)
 
 lt_then : (o : Ordering) → is_lt (ordering_then o Equal) ≡ is_lt o
 lt_then Less = refl

@@ -1,16 +1,9 @@
 -- What the query of the last order shows.
-use Rattle.std.proofs.Common.{take, ◌++◌, T, ◌≡◌, ℕ, pos, List, [], ◌∷◌, map, Bool, true, false, None, Some, refl, sym, ap, subst, ◌∙◌, ◌^◌}
-use Rattle.std.specs.List.{AllByRecursion}
-use Rattle.std.proofs.lemmas.List.Elements.{All-from_recursion, recursion_from_All}
-use Rattle.std.specs.declared.cmp.Ordering.{Ordering}
+use Rattle.std.proofs.Common.{take, ◌++◌, ◌≡◌, ℕ, pos, List, [], ◌∷◌, map, Bool, true, false, None, Some, refl, sym, ap, subst, ◌∙◌, ◌^◌}
 use Rattle.std.specs.List.Sorted.{IsPermutation}
-use Rattle.std.specs.declared.cmp.Ordering.TheVariants.{Less, Equal}
-use Rattle.std.specs.declared.cmp.Ordering.{Ordering}
-use Rattle.std.specs.Ordering.{is_lt, nat_cmp}
-use Rattle.std.specs.FinMap.Entries as rows
-use Rattle.std.specs.Cmp.{IsTotalOrder, nat_cmp_total}
+use Rattle.std.specs.Ordering.{nat_cmp}
+use Rattle.std.specs.Cmp.{nat_cmp_total}
 use Rattle.std.proofs.lemmas.Map.Lookups.{exact_unsigned}
-use Rattle.std.proofs.lemmas.List.Sorted.{All-permutation, IsPermutation-refl, IsPermutation-sym, IsPermutation-cons, IsPermutation-trans, IsPermutation-to_front}
 use Rattle.sqlite_tied.specs.Compute.{everything}
 use Rattle.sqlite_value.specs.declared.value.Value.TheVariants.{Null, Int}
 use Rattle.sqlite_value.specs.Order.{Row, column}
@@ -30,7 +23,7 @@ use Rattle.office_store.specs.Rows.{stored_setting, shown_setting, number_of, wo
 use Rattle.office_store.specs.Kept.{IsHeld}
 use Rattle.office_store.proofs.Comparing.{falling, sorts_down, number_is, and_then_some, map_some}
 use Rattle.office_store.proofs.Showing.{picked, answers}
-use Rattle.office_store.proofs.Sorted.{each_above, both_T, pair_T, T_true}
+use Rattle.office_store.proofs.Backward.{backward, backward_same, down, down_exact, down_total, sorted_backward, twice}
 use Rattle.office_store.proofs.ByNumber.{setting_key, setting_names, sort, all_kept}
 
 abbrev last_query : Query
@@ -50,62 +43,10 @@ last_is : (command_of (understood office_schema last_text) ≡ Select (record { 
 unfolding understood everything
 last_is = (refl, refl, (refl, refl))
 
--- ---- from the last to the first
-
-abbrev down_cmp : ℕ → ℕ → Ordering
-down_cmp a b = nat_cmp b a
-
-down_exact : (x y : ℕ) → down_cmp x y ≡ Equal → x ≡ y
-down_exact x y h = sym (exact_unsigned y x h)
-
-down_total : IsTotalOrder down_cmp
-down_total = record {
-  antisymm = λ x y. nat_cmp_total.antisymm y x;
-  trans = λ x y z p q. nat_cmp_total.trans z y x q p;
-  congr = λ x y z p. ap (nat_cmp z) (down_exact x y p);
-}
-
-backward : {X : Type 0} → List X → List X
-backward [] = []
-backward (x ∷ xs) = backward xs ++ x ∷ []
-
-backward_same : {X : Type 0} (xs : List X) → IsPermutation xs (backward xs)
-unfolding backward
-backward_same [] = IsPermutation-refl []
-backward_same (x ∷ xs) =
-    IsPermutation-trans (x ∷ xs) (x ∷ backward xs) (backward xs ++ x ∷ []) (IsPermutation-cons x xs (backward xs) (backward_same xs)) (IsPermutation-sym (backward xs ++ x ∷ []) (x ∷ backward xs) (IsPermutation-to_front (backward xs) x))
-
-below_more : (k : ℕ) (xs : List (ℕ × Setting)) (e : ℕ × Setting) → T (rows.below_all down_cmp k xs) → down_cmp k e.0 ≡ Less → T (rows.below_all down_cmp k (xs ++ e ∷ []))
-below_more k [] e h less = pair_T _ _ (T_true _ (ap is_lt less)) tt
-below_more k (x ∷ xs) e h less = let both = both_T _ _ h in pair_T _ _ both.0 (below_more k xs e both.1 less)
-
-sorted_more : (xs : List (ℕ × Setting)) (e : ℕ × Setting) → T (rows.is_sorted down_cmp xs) → AllByRecursion (λ x. down_cmp x.0 e.0 ≡ Less) xs → T (rows.is_sorted down_cmp (xs ++ e ∷ []))
-sorted_more [] e h all = tt
-sorted_more (x ∷ xs) e h all = let both = both_T _ _ h in pair_T _ _ (below_more x.0 xs e both.0 all.0) (sorted_more xs e both.1 all.1)
-
-sorted_backward : (es : List (ℕ × Setting)) → T (rows.is_sorted nat_cmp es) → T (rows.is_sorted down_cmp (backward es))
-unfolding backward
-sorted_backward [] h = tt
-sorted_backward (e ∷ es) h =
-    let both = both_T _ _ h in
-    let Above = λ (x : ℕ × Setting). nat_cmp e.0 x.0 ≡ Less in
-    let above = recursion_from_All Above (backward es) (All-permutation Above es (backward es) (backward_same es) (All-from_recursion Above es (each_above nat_cmp nat_cmp_total e.0 es both.0))) in
-    sorted_more (backward es) e (sorted_backward es both.1) above
-
 last_end : (xs : List (ℕ × Setting)) (e : ℕ × Setting) → last_order (xs ++ e ∷ []) ≡ e.0
 last_end [] e = refl
 last_end (x ∷ []) e = refl
 last_end (x ∷ y ∷ xs) e = last_end (y ∷ xs) e
-
-again : (xs : List (ℕ × Setting)) (e : ℕ × Setting) → backward (xs ++ e ∷ []) ≡ e ∷ backward xs
-unfolding backward
-again [] e = refl
-again (x ∷ xs) e = ap (λ l. l ++ x ∷ []) (again xs e)
-
-twice : (xs : List (ℕ × Setting)) → backward (backward xs) ≡ xs
-unfolding backward
-twice [] = refl
-twice (x ∷ xs) = again (backward xs) x ∙ ap (λ l. x ∷ l) (twice xs)
 
 -- the first of them is the last
 last_first : (table rest : List (ℕ × Setting)) (e : ℕ × Setting) → backward table ≡ e ∷ rest → last_order table ≡ e.0
@@ -153,7 +94,7 @@ module _ (old new : State) (kept : Tables) (held : IsHeld old kept) where
       let a = (reads_as last_text [] old new office_schema held.schema (Select (record { lets = []; body = last_query }) setting_names) last_is.0 last_is.2 last_is.1 rows shown).answer Null in
       let staged = picked stored_setting shown_setting keep sort blank (λ r. true) (λ r. [] ∷ r ∷ []) (output last_query) agree (old.now.trees setting_tree) table read.stored in
       let is : a.kept ≡ _ = a.distinct ∙ ap (map (output last_query)) a.grouped in
-      let done = answers stored_setting shown_setting keep sort blank down_cmp down_total down_exact last_query alike table (backward table) _ a.ordered (sorted_backward table read.sorted) (backward_same table) staged (subst (λ k. IsPermutation k a.ordered) is a.same) a.sorted in
+      let done = answers stored_setting shown_setting keep sort blank (down nat_cmp) (down_total nat_cmp nat_cmp_total exact_unsigned) (down_exact nat_cmp nat_cmp_total exact_unsigned) last_query alike table (backward table) _ a.ordered (sorted_backward nat_cmp nat_cmp_total table read.sorted) (backward_same table) staged (subst (λ k. IsPermutation k a.ordered) is a.same) a.sorted in
       (map (λ (o : Output). o.1) a.ordered, a.shown, done ∙ ap (map Some) (all_kept (backward table)))
 
   pub no_order : Shown last_text [] old new [] → 0 ≡ last_order kept.settings

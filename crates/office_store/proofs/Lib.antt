@@ -23,7 +23,9 @@ mod Appending
 mod PutSetting
 mod Settling
 mod SettleOrder
+mod Backward
 mod LastOrder
+mod Nearest
 mod Sixteen
 mod PutRequest
 mod Once

@@ -9,7 +9,7 @@ use Rattle.sqlite_resolve.specs.Lowering.{and_then}
 use Rattle.sqlite_resolve.specs.Compile.{compiled, first, planned, meaning, returning, command, timed, with_command, small}
 use Rattle.sqlite_resolve.specs.declared.error.CompileError.TheVariants.{NoSuchTable}
 use Rattle.sqlite_tied.specs.Compute.{everything}
-use Rattle.office_store.specs.Texts.{version_text, readings_text, reading_key_text, points_text, point_text, setting_text, connections_text, request_text, last_text, waiting_text}
+use Rattle.office_store.specs.Texts.{version_text, readings_text, reading_key_text, value_before_text, value_after_text, points_text, point_text, setting_text, connections_text, request_text, last_text, waiting_text}
 use Rattle.sqlite.specs.Listing.{understood, reads_listing, if_select, listing_schema, is_select}
 use Rattle.office_store.specs.Kept.{IsQuery}
 
@@ -63,6 +63,14 @@ readings_is_query = is_query readings_text (λ schema base. refl)
 pub reading_key_is_query : IsQuery reading_key_text
 unfolding everything
 reading_key_is_query = is_query reading_key_text (λ schema base. refl)
+
+pub value_before_is_query : IsQuery value_before_text
+unfolding everything
+value_before_is_query = is_query value_before_text (λ schema base. refl)
+
+pub value_after_is_query : IsQuery value_after_text
+unfolding everything
+value_after_is_query = is_query value_after_text (λ schema base. refl)
 
 pub points_is_query : IsQuery points_text
 unfolding everything

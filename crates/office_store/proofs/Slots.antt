@@ -47,7 +47,7 @@ readings_query = record {
   offset = lit (Int (pos 0));
 }
 
-abbrev names : List (List ℕ)
+abbrev pub names : List (List ℕ)
 names = codes "point" ∷ codes "slot" ∷ codes "words" ∷ codes "counted" ∷ []
 
 readings_are : (command_of (understood office_schema readings_text) ≡ Select (record { lets = []; body = readings_query }) names) × (reads_listing office_schema readings_text ≡ false) × IsPlain (understood office_schema readings_text)
@@ -69,13 +69,13 @@ key_columns r k v h =
     let f = map_some _ (flag_of (column r 4)) _ w.2 in
     (number_is (2 ^ 32) (column r 1) k.0 (p.1 ∙ ap (λ (e : Key × Reading). Some e.0.0) f.2), number_is (2 ^ 32) (column r 2) k.1 (s.1 ∙ ap (λ (e : Key × Reading). Some e.0.1) f.2))
 
-regroup : (a b c : Bool) → (a && (b && (c && true))) ≡ ((a && b) && c)
+pub regroup : (a b c : Bool) → (a && (b && (c && true))) ≡ ((a && b) && c)
 regroup true true true = refl
 regroup true true false = refl
 regroup true false c = refl
 regroup false b c = refl
 
-all_true : (a b c : Bool) → ((a && b) && c) ≡ true → a ≡ true
+pub all_true : (a b c : Bool) → ((a && b) && c) ≡ true → a ≡ true
 all_true true b c h = refl
 all_true false b c h = h
 

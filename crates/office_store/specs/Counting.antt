@@ -1,11 +1,20 @@
 -- The numbers that count of a point's readings.
-use Rattle.std.specs.Prelude.{ℕ, List, filter_map, Option, None, if◌then◌else◌}
+use Rattle.std.specs.Prelude.{◌≡◌, ℕ, List, [], ◌∷◌, filter_map, Option, Some, None, if◌then◌else◌}
 use Rattle.point_list.specs.declared.point.Point.{Point}
+use Rattle.sqlite_value.specs.Order.{Row}
+use Rattle.poll_book.specs.declared.rows.Reading.{Reading}
 use Rattle.poll_book.specs.declared.rows.ReadingRow.{ReadingRow}
-use Rattle.poll_book.specs.Totals.{counted_number}
+use Rattle.poll_book.specs.Tables.{Key}
+use Rattle.poll_book.specs.Totals.{counted_number, reading_number}
+use Rattle.office_store.specs.Rows.{shown_reading}
 
 abbrev pub number_in : Point → ReadingRow → Option ℕ
 number_in point row = if row.counted then counted_number point row.words else None
 
 abbrev pub numbers_in : Point → List ReadingRow → List ℕ
 numbers_in point rows = filter_map (number_in point) rows
+
+-- an answer shows no reading, or this one, which counts
+abbrev pub ShowValue : Point → List Row → Option ℕ → Type 0
+ShowValue point shown None = shown ≡ []
+ShowValue point shown (Some number) = (row : Row) × (entry : Key × Reading) × (shown ≡ row ∷ []) × (shown_reading row ≡ Some entry) × (reading_number point entry.1 ≡ Some number)

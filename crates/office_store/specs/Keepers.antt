@@ -12,6 +12,9 @@ connection_of keeper = keeper.connection
 abbrev pub refused_by : {S : Type 0} {g : Ghosts S} → SqlKeeper S g → ℕ
 refused_by keeper = keeper.refusals
 
+abbrev pub looked_by : {S : Type 0} {g : Ghosts S} → SqlKeeper S g → ℕ
+looked_by keeper = keeper.lookups
+
 -- as far as its database can still be read, it holds these tables
 abbrev pub IsKeptBy : {S : Type 0} {g : Ghosts S} → SqlKeeper S g → Tables → Type 0
 IsKeptBy {g = g} keeper kept = HoldsBy (state g keeper.connection) keeper.waiting kept

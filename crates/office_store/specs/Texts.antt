@@ -10,6 +10,12 @@ readings_text = codes "SELECT point, slot, words, counted FROM reading WHERE poi
 abbrev pub reading_key_text : List ℕ
 reading_key_text = codes "SELECT point, slot FROM reading WHERE point = ?1 AND slot = ?2"
 
+abbrev pub value_before_text : List ℕ
+value_before_text = codes "SELECT point, slot, words, counted FROM reading WHERE point = ?1 AND slot < ?2 AND counted = 1 ORDER BY slot DESC LIMIT 1"
+
+abbrev pub value_after_text : List ℕ
+value_after_text = codes "SELECT point, slot, words, counted FROM reading WHERE point = ?1 AND slot > ?2 AND counted = 1 ORDER BY slot LIMIT 1"
+
 abbrev pub points_text : List ℕ
 points_text = codes "SELECT number, name, device, tab, addr, kind, len, scale, role, roll FROM point ORDER BY number"
 

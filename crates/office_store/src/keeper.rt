@@ -10,7 +10,8 @@ ghost use Rattle.office_store.specs.Kept.{Holds, Keeps};
 ghost use Rattle.poll_book.specs.Tables.{Tables};
 ghost use Rattle.office_store.specs.Rows.{number_of};
 ghost use Rattle.office_store.specs.Texts.{version_text};
-ghost use Rattle.poll_book.specs.Fault.{CountsRefusal};
+ghost use Rattle.poll_book.specs.Fault.{CountsRefusal, IsCountedOn};
+ghost use Rattle.poll_book.specs.Looks.{CountsRows};
 
 use crate::apply::apply;
 use crate::ask::ask;
@@ -33,11 +34,13 @@ pub struct SqlKeeper<S: Alter> {
     waiting: Option<Vec<SettingRow>>,
     // How many calls were refused, up to the greatest count.
     refusals: u64,
+    // How many look-ups were made, up to the greatest count.
+    lookups: u64,
     ghost idle: { connection.in_transaction ≡ false },
 }
 
 impl<S: Alter> SqlKeeper<S> {
-    ghost use Rattle.office_store.specs.Keepers.{IsKeptBy, connection_of, refused_by};
+    ghost use Rattle.office_store.specs.Keepers.{IsKeptBy, connection_of, looked_by, refused_by};
 
     /// The keeper of the tables, if they are of version 1. It reads the version alone and changes
     /// nothing. An error gives the connection back.
@@ -47,7 +50,7 @@ impl<S: Alter> SqlKeeper<S> {
         ensures was_open { IfOk result (λ keeper. HasCleanDisk (state S.Store (connection_of keeper)) → IsTrue (state S.Store connection).is_open) }
         ensures settled { IfOk result (λ _. IsTrue (state S.Store connection).is_open → (state S.Store connection).now ≡ (state S.Store connection).committed) }
         ensures given_back { IfErr result (λ error. Keeps (state S.Store connection) (state S.Store error.1)) }
-        ensures counted { IfOk result (λ keeper. refused_by keeper ≡ 0) }
+        ensures counted { IfOk result (λ keeper. (refused_by keeper ≡ 0) × (looked_by keeper ≡ 0)) }
         ensures known { IfOk result (λ keeper. HasCleanDisk (state S.Store (connection_of keeper))
             → (row : Row) × Shown version_text [] (state S.Store connection) (state S.Store (connection_of keeper)) (row ∷ []) × (number_of (column row 0) ≡ Some 1)) }
         ensures bad_version { IfErr result (λ error. error.0 ≡ StoreError.BadVersion → HasCleanDisk (state S.Store error.1)
@@ -85,6 +88,7 @@ impl<S: Alter> SqlKeeper<S> {
                         connection,
                         waiting: None,
                         refusals: 0,
+                        lookups: 0,
                     })
                 } else {
                     Err((StoreError::BadVersion, connection))
@@ -113,11 +117,29 @@ fn counted<T>(refusals: &mut u64, answer: Result<T, StoreFault>) -> Result<T, St
     answer
 }
 
+/// One look-up more.
+fn count_look(lookups: &mut u64)
+    ensures { IsCountedOn lookups.old lookups.new }
+{
+    *lookups = lookups.saturating_add(1);
+}
+
+/// An answer, whose rows are counted as look-ups.
+fn looked<T>(lookups: &mut u64, answer: Result<Vec<T>, StoreFault>) -> Result<Vec<T>, StoreFault>
+    ensures answer { result ≡ answer }
+    ensures looked { CountsRows lookups.old lookups.new result }
+{
+    if let Ok(rows) = &answer {
+        *lookups = lookups.saturating_add(rows.len() as u64);
+    }
+    answer
+}
+
 impl<S: Alter> Neighbours for SqlKeeper<S> {
     ghost use Rattle.sqlite.specs.Held.{state};
     ghost use Rattle.sqlite.specs.State.{HasCleanDisk};
     ghost use Rattle.office_store.specs.Kept.{MayLeave};
-    ghost use Rattle.office_store.specs.Keepers.{IsKeptBy, connection_of, refused_by};
+    ghost use Rattle.office_store.specs.Keepers.{IsKeptBy, connection_of, looked_by, refused_by};
 
     ghost holds = { IsKeptBy };
 
@@ -129,19 +151,40 @@ impl<S: Alter> Neighbours for SqlKeeper<S> {
 
     ghost refused = { refused_by };
 
+    ghost looked = { looked_by };
+
     fn reading(&mut self, point: &PointRow, slot: u32) -> Result<Option<Reading>, StoreFault> {
+        count_look(&mut self.lookups);
         let found = readings::reading_at(self.alloc, &mut self.connection, point.number, slot);
         counted(&mut self.refusals, found)
     }
 
     fn has_reading(&mut self, point: &PointRow, slot: u32) -> Result<bool, StoreFault> {
+        count_look(&mut self.lookups);
         let has = readings::has_reading(&mut self.connection, point.number, slot);
         counted(&mut self.refusals, has)
     }
 
+    fn before(&mut self, point: &PointRow, slot: u32) -> Result<Option<u64>, StoreFault> {
+        count_look(&mut self.lookups);
+        let found = readings::value_before(self.alloc, &mut self.connection, point, slot);
+        counted(&mut self.refusals, found)
+    }
+
+    fn after(&mut self, point: &PointRow, slot: u32) -> Result<Option<u64>, StoreFault> {
+        count_look(&mut self.lookups);
+        let found = readings::value_after(self.alloc, &mut self.connection, point, slot);
+        counted(&mut self.refusals, found)
+    }
+
     fn total(&mut self, point: &PointRow) -> Result<u128, StoreFault> {
+        count_look(&mut self.lookups);
         let sum = readings::total(self.alloc, &mut self.connection, point);
         counted(&mut self.refusals, sum)
+    }
+
+    fn lookups(&self) -> u64 {
+        self.lookups
     }
 
     fn refusals(&self) -> u64 {
@@ -163,7 +206,8 @@ impl<S: Alter> Keeper for SqlKeeper<S> {
         to: u32,
     ) -> Result<Vec<ReadingRow>, StoreFault> {
         let found = readings::readings_between(alloc, &mut self.connection, point, from, to);
-        counted(&mut self.refusals, found)
+        let told = counted(&mut self.refusals, found);
+        looked(&mut self.lookups, told)
     }
 
     fn request(

@@ -4,10 +4,10 @@ ghost use Rattle.std.specs.Prelude.{◌≡◌, ◌≤◌, false, IfOk, IfSome, I
 ghost use Rattle.sqlite.specs.Held.{state};
 ghost use Rattle.sqlite.specs.State.{HasCleanDisk};
 ghost use Rattle.poll_book.specs.Tables.{Tables, reading_at, readings_between};
-ghost use Rattle.poll_book.specs.Totals.{steps, total};
+ghost use Rattle.poll_book.specs.Totals.{steps, total, value_after, value_before};
 ghost use Rattle.poll_book.specs.Changes.{as_rows};
 ghost use Rattle.office_store.specs.Kept.{Holds, Keeps};
-ghost use Rattle.office_store.specs.Counting.{number_in, numbers_in};
+ghost use Rattle.office_store.specs.Counting.{ShowValue, number_in, numbers_in};
 
 use crate::ask::ask;
 use crate::error::fault_of;
@@ -155,4 +155,70 @@ pub(crate) fn total<S: Alter>(
 {
     let rows = readings_between(alloc, connection, point.number, 0, u32::MAX)?;
     Ok(total_of(&point.point, &rows))
+}
+
+/// The value of the reading that the rows of an answer show, which is marked as counted, if they show one.
+fn value_shown(alloc: Global, point: &Point, rows: &[Row]) -> Result<Option<u64>, StoreFault>
+    ensures value { IfOk result (λ value. ShowValue point.now rows.now value) }
+    ensures bound { IfOk result (λ value. IfSome value (λ number. number ≤ point.now.roll)) }
+{
+    match rows {
+        [] => Ok(None),
+        [row] => {
+            let reading = ReadingRow::from_row(alloc, row)?;
+            match number_in(point, &reading) {
+                Some(number) => Ok(Some(number)),
+                None => Err(StoreFault::Other),
+            }
+        }
+        _ => Err(StoreFault::Other),
+    }
+}
+
+/// The value of the nearest counted reading of a point before a slot, if there is one.
+pub(crate) fn value_before<S: Alter>(
+    alloc: Global,
+    connection: &mut Connection<S>,
+    point: &PointRow,
+    slot: u32,
+) -> Result<Option<u64>, StoreFault>
+    requires { connection.old.in_transaction ≡ false }
+    ensures value { HasCleanDisk (state S.Store connection.new) → (kept : Tables) → Holds (state S.Store connection.old) kept
+        → IfOk result (λ found. found ≡ value_before point.now slot kept.readings) }
+    ensures bound { IfOk result (λ found. IfSome found (λ number. number ≤ point.now.point.roll)) }
+    ensures keeps { Keeps (state S.Store connection.old) (state S.Store connection.new) }
+    ensures idle { connection.new.in_transaction ≡ false }
+{
+    match ask(
+        connection,
+        "SELECT point, slot, words, counted FROM reading WHERE point = ?1 AND slot < ?2 AND counted = 1 ORDER BY slot DESC LIMIT 1",
+        params![point.number, slot],
+    ) {
+        Ok(rows) => value_shown(alloc, &point.point, &rows),
+        Err(error) => Err(fault_of(error)),
+    }
+}
+
+/// The value of the nearest counted reading of a point after a slot, if there is one.
+pub(crate) fn value_after<S: Alter>(
+    alloc: Global,
+    connection: &mut Connection<S>,
+    point: &PointRow,
+    slot: u32,
+) -> Result<Option<u64>, StoreFault>
+    requires { connection.old.in_transaction ≡ false }
+    ensures value { HasCleanDisk (state S.Store connection.new) → (kept : Tables) → Holds (state S.Store connection.old) kept
+        → IfOk result (λ found. found ≡ value_after point.now slot kept.readings) }
+    ensures bound { IfOk result (λ found. IfSome found (λ number. number ≤ point.now.point.roll)) }
+    ensures keeps { Keeps (state S.Store connection.old) (state S.Store connection.new) }
+    ensures idle { connection.new.in_transaction ≡ false }
+{
+    match ask(
+        connection,
+        "SELECT point, slot, words, counted FROM reading WHERE point = ?1 AND slot > ?2 AND counted = 1 ORDER BY slot LIMIT 1",
+        params![point.number, slot],
+    ) {
+        Ok(rows) => value_shown(alloc, &point.point, &rows),
+        Err(error) => Err(fault_of(error)),
+    }
 }

@@ -5,6 +5,10 @@ pub mod Puts
 pub mod Rooms
 pub mod Tabled
 pub mod Steps
+pub mod Sides
+pub mod Slots
+pub mod Bounds
+pub mod Repairs
 pub mod Numbers
 pub mod Counted
 pub mod Marked

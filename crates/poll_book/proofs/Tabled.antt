@@ -10,9 +10,9 @@ use Rattle.std.proofs.lemmas.Map.Lookups.{CmpEqualImpliesEq, exact_pairs, exact_
 use Rattle.std.specs.FinMap.Entries as rows
 use Rattle.poll_book.specs.declared.rows.PointRow.{PointRow}
 use Rattle.poll_book.specs.declared.history.SlotRow.{SlotRow}
-use Rattle.poll_book.specs.Totals.{counted_number, counted_numbers}
+use Rattle.poll_book.specs.Totals.{counted_number, counted_numbers, reading_number}
 use Rattle.poll_book.specs.Tables.{Key, key_cmp, Readings, is_between, readings_between, reading_at, with_rows}
-use Rattle.poll_book.specs.Histories.{own, slots_of, reading_number, counted_in}
+use Rattle.poll_book.specs.Histories.{own, slots_of, counted_in}
 
 pub keys_total : IsTotalOrder key_cmp
 keys_total = then_total (on_total (λ (k : Key). k.0) nat_cmp_total) (on_total (λ (k : Key). k.1) nat_cmp_total)

@@ -1,7 +1,7 @@
 -- Readings by points and slots: of each point a list by slot.
-use Rattle.std.specs.Prelude.{◌≡◌, ℕ, suc, ◌+◌, ◌<◌, ◌≤◌, ◌==◌, List, [], ◌∷◌, ◌++◌, All, Contains, map, filter, filter_map, take, drop, length, get_or, count_by, if◌then◌else◌, Option, None, vec_len, vec_capacity}
+use Rattle.std.specs.Prelude.{◌≡◌, ℕ, suc, ◌+◌, ◌<◌, ◌≤◌, ◌==◌, List, [], ◌∷◌, ◌++◌, All, Contains, map, filter, filter_map, take, drop, length, get_or, count_by, vec_len, vec_capacity}
 use Rattle.poll_book.specs.Tables.{Key, Readings}
-use Rattle.poll_book.specs.Totals.{counted_number}
+use Rattle.poll_book.specs.Totals.{reading_number}
 use Rattle.point_list.specs.declared.point.Point.{Point}
 use Rattle.poll_book.specs.declared.rows.Reading.{Reading}
 use Rattle.poll_book.specs.declared.rows.ReadingRow.{ReadingRow}
@@ -60,10 +60,6 @@ HaveRoom histories added =
 -- each of these rows has a history
 abbrev pub HaveHistories : List History → List ReadingRow → Type 0
 HaveHistories histories added = All (λ row. Contains (map point_of histories) row.point) added
-
--- the number of a counted reading
-abbrev pub reading_number : Point → Reading → Option ℕ
-reading_number point reading = if reading.counted then counted_number point reading.words else None
 
 -- the numbers of a point's counted readings
 abbrev pub counted_in : Point → List SlotRow → List ℕ

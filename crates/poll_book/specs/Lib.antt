@@ -1,5 +1,6 @@
 pub mod Words
 pub mod Fault
+pub mod Looks
 pub mod Callers
 pub mod Orders
 pub mod Requests

@@ -1,5 +1,5 @@
 -- The tables of an office. Readings, settings and requests are finite maps: the list of the rows in the order of their keys.
-use Rattle.std.specs.Prelude.{ℕ, Bool, ◌&&◌, ◌==◌, nat_le, List, [], ◌∷◌, filter, Option, is_none}
+use Rattle.std.specs.Prelude.{ℕ, Bool, T, ◌&&◌, ◌==◌, nat_le, List, [], ◌∷◌, filter, Option, is_none}
 use Rattle.std.specs.Ordering.{nat_cmp, ordering_then}
 use Rattle.std.specs.declared.cmp.Ordering.{Ordering}
 use Rattle.std.specs.FinMap.Entries as rows
@@ -18,6 +18,10 @@ key_cmp a b = ordering_then (nat_cmp a.0 b.0) (nat_cmp a.1 b.1)
 
 abbrev pub Readings : Type 0
 Readings = List (Key × Reading)
+
+-- the rows stand in the order of their keys, each under a key of its own
+abbrev pub AreByKey : Readings → Type 0
+AreByKey table = T (rows.is_sorted key_cmp table)
 
 -- what is there of a point in a slot
 abbrev pub reading_at : Readings → Key → Option Reading

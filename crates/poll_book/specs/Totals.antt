@@ -1,5 +1,6 @@
 -- Which readings count, and how far a counter went by them.
-use Rattle.std.specs.Prelude.{ℕ, ◌+◌, ◌-◌, ◌%◌, Bool, true, false, ◌&&◌, if◌then◌else◌, ◌==◌, nat_le, List, [], ◌∷◌, filter_map, length, Option, Some, None, is_some, pos, negsuc}
+use Rattle.std.specs.Prelude.{ℕ, ◌+◌, ◌-◌, ◌%◌, ◌^◌, Bool, true, false, ◌&&◌, if◌then◌else◌, ◌==◌, nat_le, nat_lt, min, List, [], ◌∷◌, filter, filter_map, length, slice_get, Option, Some, None, is_some, pos, negsuc}
+use Rattle.std.specs.List.{last_or}
 use Rattle.sunspec.specs.PointType.{row}
 use Rattle.sunspec.specs.Value.{value, register_sum}
 use Rattle.sunspec.specs.declared.point_type.PointType.{PointType}
@@ -11,6 +12,7 @@ use Rattle.point_list.specs.declared.point.Point.{Point}
 use Rattle.point_list.specs.declared.point.Role.{Role}
 use Rattle.point_list.specs.declared.point.Role.TheVariants.{Gauge, Counter, Setting}
 use Rattle.poll_book.specs.declared.rows.PointRow.{PointRow}
+use Rattle.poll_book.specs.declared.rows.Reading.{Reading}
 use Rattle.poll_book.specs.Tables.{Readings}
 
 abbrev pub is_counter : Role → Bool
@@ -45,6 +47,10 @@ counted_number point words =
 abbrev pub is_counted : Point → List ℕ → Bool
 is_counted point words = is_some (counted_number point words)
 
+-- the number of a counted reading
+abbrev pub reading_number : Point → Reading → Option ℕ
+reading_number point reading = if reading.counted then counted_number point reading.words else None
+
 -- the numbers of a point's counted readings, by slot
 abbrev pub counted_numbers : PointRow → Readings → List ℕ
 counted_numbers known table =
@@ -64,3 +70,38 @@ step_from roll (Some v) w = (w + (roll + 1) - v) % (roll + 1)
 -- how far a counter went by its readings
 abbrev pub total : PointRow → Readings → ℕ
 total known table = steps known.point.roll (counted_numbers known table)
+
+-- the numbers of a point's counted readings before a slot, and after it
+abbrev pub numbers_before : PointRow → ℕ → Readings → List ℕ
+numbers_before known slot table = counted_numbers known (filter (λ row. nat_lt row.0.1 slot) table)
+
+abbrev pub numbers_after : PointRow → ℕ → Readings → List ℕ
+numbers_after known slot table = counted_numbers known (filter (λ row. nat_lt slot row.0.1) table)
+
+abbrev pub first_of : List ℕ → Option ℕ
+first_of numbers = slice_get numbers 0
+
+abbrev pub last_of : List ℕ → Option ℕ
+last_of numbers = last_or None numbers
+
+-- the nearest of them on either side of the slot
+abbrev pub value_before : PointRow → ℕ → Readings → Option ℕ
+value_before known slot table = last_of (numbers_before known slot table)
+
+abbrev pub value_after : PointRow → ℕ → Readings → Option ℕ
+value_after known slot table = first_of (numbers_after known slot table)
+
+-- the step from one side to the other; a side that is missing gives none
+abbrev pub step_across : ℕ → Option ℕ → Option ℕ → ℕ
+step_across roll None w = 0
+step_across roll (Some v) None = 0
+step_across roll (Some v) (Some w) = (w + (roll + 1) - v) % (roll + 1)
+
+-- the two steps by way of a value between the sides
+abbrev pub steps_by_way : ℕ → Option ℕ → ℕ → Option ℕ → ℕ
+steps_by_way roll before value after = step_across roll before (Some value) + step_across roll (Some value) after
+
+-- a total with a value put in between two sides: the step between them is taken out, and then the two
+-- steps by way of the value are put in. It stays from 0 to the greatest total
+abbrev pub repaired : ℕ → Option ℕ → ℕ → Option ℕ → ℕ → ℕ
+repaired total before value after roll = min (total - step_across roll before after + steps_by_way roll before value after) (2 ^ 127 - 1)

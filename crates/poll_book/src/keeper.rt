@@ -1,11 +1,12 @@
 ghost use Rattle.poll_book.specs.declared.fault.StoreFault.{StoreFault};
-ghost use Rattle.std.specs.Prelude.{◌≡◌, ◌⊎◌, ℕ, IfErr, IfOk, OnOk, OnErr, is_some, option_map};
-ghost use Rattle.poll_book.specs.Fault.{CountsRefusal};
+ghost use Rattle.std.specs.Prelude.{◌≡◌, ◌⊎◌, ◌≤◌, ℕ, IfErr, IfOk, IfSome, OnOk, OnErr, is_some, option_map};
+ghost use Rattle.poll_book.specs.Fault.{CountsRefusal, IsCountedOn};
+ghost use Rattle.poll_book.specs.Looks.{CountsRows};
 ghost use Rattle.poll_book.specs.Tables.{Tables, Within, reading_at, readings_between};
 ghost use Rattle.poll_book.specs.Orders.{as_setting, last_order, oldest_waiting, setting_at};
 ghost use Rattle.poll_book.specs.Requests.{request_at};
 ghost use Rattle.poll_book.specs.Changes.{IsNew, applied, as_rows};
-ghost use Rattle.poll_book.specs.Totals.{total};
+ghost use Rattle.poll_book.specs.Totals.{total, value_after, value_before};
 
 use crate::caller::{Caller, Key};
 use crate::fault::StoreFault;
@@ -30,12 +31,17 @@ pub trait Neighbours {
     /// How many of its calls were refused.
     ghost refused: { Self → ℕ };
 
+    /// How many look-ups it made: one for each of the calls of a point here, and one for each row that
+    /// `readings` gives.
+    ghost looked: { Self → ℕ };
+
     /// The reading of a point in a slot, if there is one.
     fn reading(&mut self, point: &PointRow, slot: u32) -> Result<Option<Reading>, StoreFault>
         ensures value { is_clean self.new → (kept : Tables) → holds self.old kept
             → IfOk result (λ found. found ≡ reading_at kept.readings (point.now.number, slot)) }
         ensures cause { IfErr result (λ fault. may_refuse fault) }
         ensures counted { CountsRefusal (refused self.old) (refused self.new) result }
+        ensures looked { IsCountedOn (looked self.old) (looked self.new) }
         ensures same { Within (holds self.old) (holds self.new) }
         ensures clean { is_clean self.new → is_clean self.old }
         ensures crash { is_clean self.new → Within (may_leave self.new) (may_leave self.old) };
@@ -46,6 +52,31 @@ pub trait Neighbours {
             → IfOk result (λ has. has ≡ is_some (reading_at kept.readings (point.now.number, slot))) }
         ensures cause { IfErr result (λ fault. may_refuse fault) }
         ensures counted { CountsRefusal (refused self.old) (refused self.new) result }
+        ensures looked { IsCountedOn (looked self.old) (looked self.new) }
+        ensures same { Within (holds self.old) (holds self.new) }
+        ensures clean { is_clean self.new → is_clean self.old }
+        ensures crash { is_clean self.new → Within (may_leave self.new) (may_leave self.old) };
+
+    /// The value of the nearest counted reading of a point before a slot, if there is one.
+    fn before(&mut self, point: &PointRow, slot: u32) -> Result<Option<u64>, StoreFault>
+        ensures value { is_clean self.new → (kept : Tables) → holds self.old kept
+            → IfOk result (λ found. found ≡ value_before point.now slot kept.readings) }
+        ensures bound { IfOk result (λ found. IfSome found (λ number. number ≤ point.now.point.roll)) }
+        ensures cause { IfErr result (λ fault. may_refuse fault) }
+        ensures counted { CountsRefusal (refused self.old) (refused self.new) result }
+        ensures looked { IsCountedOn (looked self.old) (looked self.new) }
+        ensures same { Within (holds self.old) (holds self.new) }
+        ensures clean { is_clean self.new → is_clean self.old }
+        ensures crash { is_clean self.new → Within (may_leave self.new) (may_leave self.old) };
+
+    /// The value of the nearest counted reading of a point after a slot, if there is one.
+    fn after(&mut self, point: &PointRow, slot: u32) -> Result<Option<u64>, StoreFault>
+        ensures value { is_clean self.new → (kept : Tables) → holds self.old kept
+            → IfOk result (λ found. found ≡ value_after point.now slot kept.readings) }
+        ensures bound { IfOk result (λ found. IfSome found (λ number. number ≤ point.now.point.roll)) }
+        ensures cause { IfErr result (λ fault. may_refuse fault) }
+        ensures counted { CountsRefusal (refused self.old) (refused self.new) result }
+        ensures looked { IsCountedOn (looked self.old) (looked self.new) }
         ensures same { Within (holds self.old) (holds self.new) }
         ensures clean { is_clean self.new → is_clean self.old }
         ensures crash { is_clean self.new → Within (may_leave self.new) (may_leave self.old) };
@@ -56,9 +87,14 @@ pub trait Neighbours {
             → IfOk result (λ sum. sum ≡ total point.now kept.readings) }
         ensures cause { IfErr result (λ fault. may_refuse fault) }
         ensures counted { CountsRefusal (refused self.old) (refused self.new) result }
+        ensures looked { IsCountedOn (looked self.old) (looked self.new) }
         ensures same { Within (holds self.old) (holds self.new) }
         ensures clean { is_clean self.new → is_clean self.old }
         ensures crash { is_clean self.new → Within (may_leave self.new) (may_leave self.old) };
+
+    /// How many look-ups were made, up to the greatest count.
+    fn lookups(&self) -> u64
+        ensures { result ≡ looked self.now };
 
     /// How many calls were refused, up to the greatest count.
     fn refusals(&self) -> u64
@@ -73,6 +109,7 @@ pub trait Keeper: Neighbours {
             → IfOk result (λ points. points.items ≡ kept.points) }
         ensures cause { IfErr result (λ fault. Self.may_refuse fault) }
         ensures counted { CountsRefusal (Self.refused self.old) (Self.refused self.new) result }
+        ensures looked { Self.looked self.new ≡ Self.looked self.old }
         ensures same { Within (Self.holds self.old) (Self.holds self.new) }
         ensures clean { Self.is_clean self.new → Self.is_clean self.old }
         ensures crash { Self.is_clean self.new
@@ -90,6 +127,7 @@ pub trait Keeper: Neighbours {
             → IfOk result (λ rows. as_rows rows.items ≡ readings_between point from to kept.readings) }
         ensures cause { IfErr result (λ fault. Self.may_refuse fault) }
         ensures counted { CountsRefusal (Self.refused self.old) (Self.refused self.new) result }
+        ensures looked { CountsRows (Self.looked self.old) (Self.looked self.new) result }
         ensures same { Within (Self.holds self.old) (Self.holds self.new) }
         ensures clean { Self.is_clean self.new → Self.is_clean self.old }
         ensures crash { Self.is_clean self.new
@@ -106,6 +144,7 @@ pub trait Keeper: Neighbours {
             → IfOk result (λ found. found ≡ request_at kept.requests (caller.now, key.now)) }
         ensures cause { IfErr result (λ fault. Self.may_refuse fault) }
         ensures counted { CountsRefusal (Self.refused self.old) (Self.refused self.new) result }
+        ensures looked { Self.looked self.new ≡ Self.looked self.old }
         ensures same { Within (Self.holds self.old) (Self.holds self.new) }
         ensures clean { Self.is_clean self.new → Self.is_clean self.old }
         ensures crash { Self.is_clean self.new
@@ -117,6 +156,7 @@ pub trait Keeper: Neighbours {
             → IfOk result (λ found. found ≡ setting_at kept.settings number) }
         ensures cause { IfErr result (λ fault. Self.may_refuse fault) }
         ensures counted { CountsRefusal (Self.refused self.old) (Self.refused self.new) result }
+        ensures looked { Self.looked self.new ≡ Self.looked self.old }
         ensures same { Within (Self.holds self.old) (Self.holds self.new) }
         ensures clean { Self.is_clean self.new → Self.is_clean self.old }
         ensures crash { Self.is_clean self.new
@@ -128,6 +168,7 @@ pub trait Keeper: Neighbours {
             → IfOk result (λ found. option_map as_setting found ≡ oldest_waiting kept.points device.now kept.settings) }
         ensures cause { IfErr result (λ fault. Self.may_refuse fault) }
         ensures counted { CountsRefusal (Self.refused self.old) (Self.refused self.new) result }
+        ensures looked { Self.looked self.new ≡ Self.looked self.old }
         ensures same { Within (Self.holds self.old) (Self.holds self.new) }
         ensures clean { Self.is_clean self.new → Self.is_clean self.old }
         ensures crash { Self.is_clean self.new
@@ -139,6 +180,7 @@ pub trait Keeper: Neighbours {
             → IfOk result (λ orders. orders ≡ last_order kept.settings) }
         ensures cause { IfErr result (λ fault. Self.may_refuse fault) }
         ensures counted { CountsRefusal (Self.refused self.old) (Self.refused self.new) result }
+        ensures looked { Self.looked self.new ≡ Self.looked self.old }
         ensures same { Within (Self.holds self.old) (Self.holds self.new) }
         ensures clean { Self.is_clean self.new → Self.is_clean self.old }
         ensures crash { Self.is_clean self.new
@@ -150,6 +192,7 @@ pub trait Keeper: Neighbours {
             → IfOk result (λ connections. connections ≡ kept.connections) }
         ensures cause { IfErr result (λ fault. Self.may_refuse fault) }
         ensures counted { CountsRefusal (Self.refused self.old) (Self.refused self.new) result }
+        ensures looked { Self.looked self.new ≡ Self.looked self.old }
         ensures same { Within (Self.holds self.old) (Self.holds self.new) }
         ensures clean { Self.is_clean self.new → Self.is_clean self.old }
         ensures crash { Self.is_clean self.new
@@ -161,6 +204,7 @@ pub trait Keeper: Neighbours {
             → OnOk result (Self.holds self.new (applied change.now kept)) }
         ensures cause { IfErr result (λ fault. Self.may_refuse fault) }
         ensures counted { CountsRefusal (Self.refused self.old) (Self.refused self.new) result }
+        ensures looked { Self.looked self.new ≡ Self.looked self.old }
         ensures err { OnErr result (Within (Self.holds self.old) (Self.holds self.new)) }
         ensures clean { Self.is_clean self.new → Self.is_clean self.old }
 

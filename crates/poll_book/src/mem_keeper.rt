@@ -1,6 +1,7 @@
 ghost use Rattle.std.specs.Prelude.{◌≡◌, IsErr, MatchResult, Ok};
 ghost use Rattle.poll_book.specs.Tables.{no_tables};
-ghost use Rattle.poll_book.specs.Fault.{CountsRefusal};
+ghost use Rattle.poll_book.specs.Fault.{CountsRefusal, IsCountedOn};
+ghost use Rattle.poll_book.specs.Looks.{CountsRows};
 
 use crate::caller::{Caller, Key};
 use crate::fault::StoreFault;
@@ -17,26 +18,29 @@ pub struct MemKeeper {
     tables: MemTables,
     // How many calls were refused, up to the greatest count.
     refusals: u64,
+    // How many look-ups were made, up to the greatest count.
+    lookups: u64,
 }
 
 impl Model for MemKeeper {
     ghost use Rattle.std.specs.Prelude.{ℕ};
     ghost use Rattle.poll_book.specs.Tables.{Tables};
 
-    ghost Value = { Tables × ℕ };
+    ghost Value = { Tables × ℕ × ℕ };
 
-    ghost view = { λ k. (k.tables, k.refusals) };
+    ghost view = { λ k. (k.tables, k.refusals, k.lookups) };
 }
 
 impl MemKeeper {
     /// A keeper of no point, no reading, no order and no request, before the first connection, which
-    /// refused nothing.
+    /// refused nothing and looked nothing up.
     pub fn new(alloc: Global) -> MemKeeper
-        ensures { result ≡ (no_tables, 0) }
+        ensures { result ≡ (no_tables, 0, 0) }
     {
         MemKeeper {
             tables: MemTables::new(alloc),
             refusals: 0,
+            lookups: 0,
         }
     }
 }
@@ -55,6 +59,24 @@ fn counted<T>(refusals: &mut u64, answer: Result<T, AllocError>) -> Result<T, St
     }
 }
 
+/// One look-up more.
+fn count_look(lookups: &mut u64)
+    ensures { IsCountedOn lookups.old lookups.new }
+{
+    *lookups = lookups.saturating_add(1);
+}
+
+/// An answer, whose rows are counted as look-ups.
+fn looked<T>(lookups: &mut u64, answer: Result<Vec<T>, StoreFault>) -> Result<Vec<T>, StoreFault>
+    ensures answer { result ≡ answer }
+    ensures looked { CountsRows lookups.old lookups.new result }
+{
+    if let Ok(rows) = &answer {
+        *lookups = lookups.saturating_add(rows.len() as u64);
+    }
+    answer
+}
+
 impl Neighbours for MemKeeper {
     ghost use Rattle.std.specs.Prelude.{◌≡◌};
     ghost use Rattle.poll_book.specs.declared.fault.StoreFault.TheVariants.{Memory};
@@ -69,17 +91,36 @@ impl Neighbours for MemKeeper {
 
     ghost refused = { λ k. k.1 };
 
+    ghost looked = { λ k. k.2 };
+
     fn reading(&mut self, point: &PointRow, slot: u32) -> Result<Option<Reading>, StoreFault> {
+        count_look(&mut self.lookups);
         let found = self.tables.reading(point.number, slot);
         counted(&mut self.refusals, found)
     }
 
     fn has_reading(&mut self, point: &PointRow, slot: u32) -> Result<bool, StoreFault> {
+        count_look(&mut self.lookups);
         Ok(self.tables.has_reading(point.number, slot))
     }
 
+    fn before(&mut self, point: &PointRow, slot: u32) -> Result<Option<u64>, StoreFault> {
+        count_look(&mut self.lookups);
+        Ok(self.tables.before(point, slot))
+    }
+
+    fn after(&mut self, point: &PointRow, slot: u32) -> Result<Option<u64>, StoreFault> {
+        count_look(&mut self.lookups);
+        Ok(self.tables.after(point, slot))
+    }
+
     fn total(&mut self, point: &PointRow) -> Result<u128, StoreFault> {
+        count_look(&mut self.lookups);
         Ok(self.tables.total(point))
+    }
+
+    fn lookups(&self) -> u64 {
+        self.lookups
     }
 
     fn refusals(&self) -> u64 {
@@ -101,7 +142,8 @@ impl Keeper for MemKeeper {
         to: u32,
     ) -> Result<Vec<ReadingRow>, StoreFault> {
         let rows = self.tables.readings(alloc, point, from, to);
-        counted(&mut self.refusals, rows)
+        let told = counted(&mut self.refusals, rows);
+        looked(&mut self.lookups, told)
     }
 
     fn request(

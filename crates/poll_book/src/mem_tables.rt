@@ -3,19 +3,20 @@ ghost use Rattle.std.specs.Prelude.{◌≡◌, ◌≤◌, ℕ, IfOk, IfSome, OnE
 ghost use Rattle.poll_book.specs.Tables as table;
 ghost use Rattle.poll_book.specs.Tables.{no_tables, readings_between};
 ghost use Rattle.poll_book.specs.Changes.{applied, as_rows};
-ghost use Rattle.poll_book.specs.Histories.{IsRising, counted_in, reading_number, slot_of, slots_of};
+ghost use Rattle.poll_book.specs.Histories.{IsRising, counted_in, slot_of, slots_of};
 ghost use Rattle.poll_book.specs.Orders as book;
 ghost use Rattle.poll_book.specs.Orders.{as_setting, last_order, oldest_waiting};
 ghost use Rattle.poll_book.specs.Requests as asked;
 ghost use Rattle.poll_book.specs.Totals as totals;
-ghost use Rattle.poll_book.specs.Totals.{steps};
+ghost use Rattle.poll_book.specs.Totals.{steps, value_after, value_before};
 
 use crate::asked::{copy_of_request, put_request, request_at};
 use crate::caller::{Caller, Key};
-use crate::counting::{counted_number, step_to};
+use crate::counting::{number_of, step_to};
 use crate::histories::{make_histories, put_all, slots_in, staged};
 use crate::history::{History, SlotRow, slot_place};
 use crate::marks::{Mark, forget_for, next_waiting, past_of, set_mark};
+use crate::nearest::{first_counted, last_counted, slots_after, slots_before};
 use crate::orders::{copy_of_setting, last_number, order_at, put_order, setting_at};
 use crate::points::add_points;
 use crate::requests::Request;
@@ -90,6 +91,24 @@ impl MemTables {
         ensures { result ≡ is_some (table.reading_at self.now.readings (point, slot)) }
     {
         has_slot(slots_in(&self.histories, point), slot)
+    }
+
+    /// The value of the nearest counted reading of a point before a slot, if there is one.
+    pub(crate) fn before(&self, point: &PointRow, slot: u32) -> Option<u64>
+        ensures value { result ≡ value_before point.now slot self.now.readings }
+        ensures bound { IfSome result (λ number. number ≤ point.now.point.roll) }
+    {
+        let slots = slots_in(&self.histories, point.number);
+        last_counted(&point.point, slots_before(slots, slot))
+    }
+
+    /// The value of the nearest counted reading of a point after a slot, if there is one.
+    pub(crate) fn after(&self, point: &PointRow, slot: u32) -> Option<u64>
+        ensures value { result ≡ value_after point.now slot self.now.readings }
+        ensures bound { IfSome result (λ number. number ≤ point.now.point.roll) }
+    {
+        let slots = slots_in(&self.histories, point.number);
+        first_counted(&point.point, slots_after(slots, slot))
     }
 
     /// How far a counter went by its counted readings.
@@ -207,17 +226,6 @@ fn has_slot(slots: &[SlotRow], slot: u32) -> bool
     ensures { (point : ℕ) → result ≡ is_some (table.reading_at (slots_of point slots.now) (point, slot)) }
 {
     slot_place(slots, slot).is_ok()
-}
-
-fn number_of(point: &Point, reading: &Reading) -> Option<u64>
-    ensures number { result ≡ reading_number point.now reading.now }
-    ensures bound { IfSome result (λ number. number ≤ point.now.roll) }
-{
-    if reading.counted {
-        counted_number(point, reading.words.as_slice())
-    } else {
-        None
-    }
 }
 
 fn total_of(point: &Point, slots: &[SlotRow]) -> u128

@@ -1,8 +1,11 @@
-//! Tests of queries and their replies, of what a keeper in memory gives back, of orders and requests in it.
+//! Tests of queries and their replies, of what a keeper in memory gives back, of orders and requests in it,
+//! and of the values on either side of a slot.
 #![tactic(auto)]
 
 #[cfg(test)]
 mod keeping;
+#[cfg(test)]
+mod neighbours;
 #[cfg(test)]
 mod orders;
 #[cfg(test)]

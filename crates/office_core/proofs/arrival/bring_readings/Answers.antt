@@ -5,6 +5,8 @@ use Rattle.poll_book.specs.Changes.{AreNumbered, keyed}
 use Rattle.office_core.specs.declared.event.Arrival.TheVariants.{Recorded}
 use Rattle.office_core.specs.Keeping.{Rises, brought_read, rows_at, with_given}
 use Rattle.office_core.specs.Leavings.{LeftAfter}
+use Rattle.office_core.specs.Cover.{reply_cells}
+use Rattle.office_core.proofs.Looked.{looks_given}
 use Rattle.office_core.proofs.Given.{rises_at, brought_rows, arrival_rows}
 use Rattle.office_core.proofs.Newness.{left_refused, on_refusal, on_err, unmet}
 use Rattle.office_core.proofs.arrival.bring_readings.Goals as goal
@@ -27,6 +29,8 @@ returns-in_err-count-in_default g c =
           (c.in_err-count-in_default.ensures.leaves clean kept h (subst (AreNumbered 0) copy.0 copy.1)
           (subst (Rises 0) (sym is) (rises_at c.args.site.now known c.args.asking.now c.args.reply.now copy.1)) left m));
       cause = search rules;
+      looks = looks_given c.args.site.now c.args.known.now c.args.asking.now (reply_cells c.args.reply.now) c.deref.result.now
+          (g.K.Neighbours.looked c.args.keeper.now) (g.K.Neighbours.looked c.keep_readings.new.keeper) (c.deref.ensures.value ∙ c.in_ok-covered-in_default.ensures.rows) c.keep_readings.ensures.looks;
       err = on_err c.from_residual-in_err-count-in_default.result c.in_err-count-in_default.ensures.err;
       clean = c.keep_readings.ensures.clean;
     }
@@ -52,6 +56,8 @@ returns-in_ok-count-in_default g c =
           (c.in_ok-count-in_default.ensures.leaves clean kept h (subst (AreNumbered 0) copy.0 copy.1)
           (subst (Rises 0) (sym is) (rises_at site known query reply copy.1)) left m);
       cause = search rules;
+      looks = looks_given c.args.site.now c.args.known.now c.args.asking.now (reply_cells c.args.reply.now) c.deref.result.now
+          (g.K.Neighbours.looked c.args.keeper.now) (g.K.Neighbours.looked c.keep_readings.new.keeper) (c.deref.ensures.value ∙ c.in_ok-covered-in_default.ensures.rows) c.keep_readings.ensures.looks;
       err = tt;
       clean = c.keep_readings.ensures.clean;
     }

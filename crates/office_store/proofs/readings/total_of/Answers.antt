@@ -1,10 +1,10 @@
 use Rattle.std.proofs.Common.{◌≡◌, ◌+◌, ◌≤◌, ◌<◌, ◌++◌, [], Option, Some, None, ℕ, length, take, append-nil, sym, ap, subst, ◌∙◌, arith}
 use Rattle.std.specs.Prelude.{IfSome}
 use Rattle.std.specs.List.{cons_option}
-use Rattle.poll_book.specs.Totals.{steps, step_from}
+use Rattle.poll_book.specs.Totals.{last_of, steps, step_from}
 use Rattle.office_store.specs.Counting.{number_in, numbers_in}
 use Rattle.office_store.proofs.Counts.{counted_more}
-use Rattle.poll_book.proofs.Steps.{last_of, last-push, steps-push}
+use Rattle.poll_book.proofs.Steps.{last-push, steps-push}
 use Rattle.office_store.proofs.readings.total_of.Goals as goal
 use Rattle.office_store.proofs.readings.total_of.Goals.{in-Some, in_default}
 

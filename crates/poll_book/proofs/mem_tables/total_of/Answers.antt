@@ -2,9 +2,9 @@ use Rattle.std.proofs.Common.{◌≡◌, ◌+◌, ◌≤◌, ◌<◌, ◌++◌, 
 use Rattle.std.specs.Prelude.{IfSome}
 use Rattle.std.specs.List.{cons_option}
 use Rattle.poll_book.specs.declared.history.SlotRow.{SlotRow}
-use Rattle.poll_book.specs.Totals.{steps, step_from}
-use Rattle.poll_book.specs.Histories.{counted_in, reading_number}
-use Rattle.poll_book.proofs.Steps.{last_of, last-push, steps-push, counted_more}
+use Rattle.poll_book.specs.Totals.{last_of, reading_number, steps, step_from}
+use Rattle.poll_book.specs.Histories.{counted_in}
+use Rattle.poll_book.proofs.Steps.{last-push, steps-push, counted_more}
 use Rattle.poll_book.proofs.mem_tables.total_of.Goals as goal
 use Rattle.poll_book.proofs.mem_tables.total_of.Goals.{in-Some, in_default}
 

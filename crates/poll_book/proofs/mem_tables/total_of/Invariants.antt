@@ -1,8 +1,7 @@
 use Rattle.std.proofs.Common.{◌≡◌, ◌≤◌, ◌*◌, ◌^◌, take}
 use Rattle.std.specs.Prelude.{IfSome}
-use Rattle.poll_book.specs.Totals.{steps}
+use Rattle.poll_book.specs.Totals.{last_of, steps}
 use Rattle.poll_book.specs.Histories.{counted_in}
-use Rattle.poll_book.proofs.Steps.{last_of}
 use Rattle.poll_book.proofs.mem_tables.total_of.Given as goal
 
 abbrev pub invariant-loop-row : goal.invariant-loop-row

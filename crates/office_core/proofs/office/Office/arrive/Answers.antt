@@ -1,4 +1,5 @@
 use Rattle.std.proofs.Common.{◌∙◌, ◌∷◌, false, subst, sym, ap, refl}
+use Rattle.poll_match.specs.Window.{held}
 use Rattle.poll_book.specs.Tables.{Tables}
 use Rattle.office_core.specs.declared.event.Event.TheVariants.{Arrive}
 use Rattle.office_core.specs.declared.event.EventAnswer.TheVariants as answer
@@ -8,6 +9,7 @@ use Rattle.office_core.specs.Leavings.{LeftAfter}
 use Rattle.office_core.specs.Offices.{arrived}
 use Rattle.office_core.specs.Standing.{Goes, StandsFor, is_store}
 use Rattle.office_core.specs.History.{tables}
+use Rattle.office_core.proofs.Looked.{looks_named}
 use Rattle.office_core.proofs.Leaving.{At, Left, leaves_made, leaves_still, leaves_tried, tried_is}
 use Rattle.office_core.proofs.Steps.{arrival_refused_goes, arrival_goes, arrival_made, copy_of}
 use Rattle.office_core.proofs.Telling.{arrived_err}
@@ -76,3 +78,17 @@ returns-clause-leaves g c clean =
     (c.in_ok-arrival.ensures.leaves clean kept h.0 (subst (λ l. IsCopy l kept) (sym c.deref.ensures.value) copy) left m))
     c.settle.new.self c.settle.ensures c.in_ok-arrival.arrival
     (λ kept h. c.in_ok-arrival.ensures.told clean kept h.0 ∙ ap (λ l. arrival_of office.site l f.asked f.reply kept) c.deref.ensures.value))
+
+pub returns-clause-looks : goal.returns-clause-looks
+returns-clause-looks g c =
+    let office = c.args.self.now in
+    let f = c.in_ok-found.found in
+    looks_named office.site office.points.items c.deref.result.now (held c.args.conn office.matcher) c.args.frame.now f.number f.asked f.reply
+    (g.K.Neighbours.looked office.keeper) (g.K.Neighbours.looked c.bring.new.keeper) c.in_ok-found.ensures.found c.deref.ensures.value c.bring.ensures.looks
+
+pub returns-in_err-arrival-clause-looks : goal.returns-in_err-arrival-clause-looks
+returns-in_err-arrival-clause-looks g c =
+    let office = c.args.self.now in
+    let f = c.in_ok-found.found in
+    looks_named office.site office.points.items c.deref.result.now (held c.args.conn office.matcher) c.args.frame.now f.number f.asked f.reply
+    (g.K.Neighbours.looked office.keeper) (g.K.Neighbours.looked c.bring.new.keeper) c.in_ok-found.ensures.found c.deref.ensures.value c.bring.ensures.looks
