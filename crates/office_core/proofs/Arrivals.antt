@@ -12,6 +12,7 @@ use Rattle.poll_match.specs.Window.{Open as OpenOne, held, refusal, settled_at, 
 use Rattle.poll_match.proofs.Numbers.{numbered_at, numbered_is}
 use Rattle.poll_book.specs.declared.rows.PointRow.{PointRow}
 use Rattle.poll_book.specs.Tables.{Tables, Readings, with_rows}
+use Rattle.poll_book.specs.Totals.{totals_of}
 use Rattle.office_core.specs.declared.event.Event.TheVariants as event
 use Rattle.office_core.specs.declared.event.EventAnswer.TheVariants as answer
 use Rattle.office_core.specs.Errors.{refused_by}
@@ -22,7 +23,7 @@ use Rattle.office_core.specs.History.{Happening, Restart, Load, Order, Open, Ask
 use Rattle.office_core.specs.Answers.{answer_of, unit_answer, frame_answer, reply_frame}
 use Rattle.office_core.specs.Legal.{MayHappen, IsTimely, IsNoise}
 use Rattle.poll_book.specs.Orders.{Settings}
-use Rattle.office_core.specs.Keeping.{with_given, with_state}
+use Rattle.office_core.specs.Keeping.{with_given, with_readings, with_state}
 use Rattle.office_core.specs.Standing.{queries_from, queries, open_one, open_of, StandsFor, Sees}
 use Rattle.office_core.proofs.Rows.{readings_more, readings_same}
 use Rattle.office_core.proofs.Queries.{length-queries, still_open, open-settled}
@@ -36,10 +37,10 @@ recorded known (Reads q) unit kept = cond (excepts q.read unit) kept (with_given
 recorded known (Writes w) unit kept = with_state w.order (state_by w unit) kept
 
 abbrev with_more : History → Readings → Settings → Tables
-with_more before more set = record { points = points before; readings = with_rows (given before ++ more) []; settings = set; requests = requests before; connections = connections before }
+with_more before more set = record { points = points before; readings = with_rows (given before ++ more) []; totals = totals_of (points before) (with_rows (given before ++ more) []); settings = set; requests = requests before; connections = connections before }
 
 none_more : (before : History) (set : Settings) → with_more before [] set ≡ record (tables before) { settings = set }
-none_more before set = ap (λ r. record (tables before) { readings = r; settings = set }) (readings_same (given before))
+none_more before set = ap (λ r. record (tables before) { readings = r; totals = totals_of (points before) r; settings = set }) (readings_same (given before))
 
 -- a reply that doesn't fit its query gives nothing, and settles nothing
 unfit_gives : (known : List PointRow) (q : Query) (unit : List ℕ) → fits q unit ≡ false → given_by known (Some q) unit ≡ []
@@ -79,7 +80,7 @@ tables_more before c n unit q is fresh fit =
   where
     read : (rows : Readings) (b : Bool) → with_more before (cond (true && not b) rows []) (settings before) ≡ cond b (tables before) (with_given rows (tables before))
     read rows true = none_more before (settings before)
-    read rows false = ap (λ r. record (tables before) { readings = r }) (readings_more (given before) rows)
+    read rows false = ap (λ r. with_readings r (tables before)) (readings_more (given before) rows)
 
     by : (q : Query) → fits q unit ≡ true → after_reply before false (Some q) unit ≡ recorded (points before) q unit (tables before)
     by (Reads q) fit =

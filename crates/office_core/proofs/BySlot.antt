@@ -18,7 +18,8 @@ use Rattle.poll_book.specs.Histories.{IsRising}
 use Rattle.poll_book.proofs.Tabled.{keys_total}
 use Rattle.office_core.specs.History.{History, given, readings, total}
 use Rattle.office_core.specs.FirstArrivals.{AreBySlot, step, sum_of_steps, numbers_of}
-use Rattle.office_core.proofs.FirstArrivals.{among, in_none, further, foremost, same_key, own_key}
+use Rattle.office_core.proofs.Elements.{among, in_none, further, foremost}
+use Rattle.office_core.proofs.FirstArrivals.{same_key, own_key}
 
 -- ---- sums of steps
 

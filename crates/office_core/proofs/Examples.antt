@@ -177,6 +177,7 @@ abbrev three_tables : Tables
 three_tables = record {
   points = three_rows;
   readings = three_words;
+  totals = [];
   settings = [];
   requests = ((codes "ann", codes "l1"), record { body = body.List gauges; outcome = outcome.Loaded 3 }) ∷ [];
   connections = 1;

@@ -1,5 +1,5 @@
 -- Readings are what first replies bring.
-use Rattle.std.proofs.Common.{◌≡◌, ◌⊎◌, ◌<◌, ◌+◌, ℕ, zero, suc, Bool, true, false, cond, eqb, not, ◌&&◌, ◌||◌, List, [], ◌∷◌, ◌++◌, length, map, take, get_or, Option, Some, None, inl, inr, refl, sym, ap, ◌∙◌, subst, arith, append-nil, append_assoc}
+use Rattle.std.proofs.Common.{◌≡◌, ◌<◌, ◌+◌, ℕ, zero, suc, Bool, true, false, cond, eqb, not, ◌&&◌, ◌||◌, List, [], ◌∷◌, ◌++◌, length, map, take, Option, Some, None, inl, inr, refl, sym, ap, ◌∙◌, subst, arith, append-nil, append_assoc}
 use Rattle.std.specs.Prelude.{slice_get, is_none, Contains}
 use Rattle.std.specs.Option.{option_or}
 use Rattle.std.specs.Ordering.{is_eq, eq_by_cmp}
@@ -35,6 +35,7 @@ use Rattle.office_core.specs.History.{Happening, Restart, Load, Order, Open, Ask
 use Rattle.office_core.specs.Legal.{Legal}
 use Rattle.office_core.specs.FirstArrivals.{Happened, IsQuery, IsReplyTo, IsFirst, Gives, IsReadingOf}
 use Rattle.office_core.proofs.Cells.{cells_spelled, bits_plain, words_plain, no_echo}
+use Rattle.office_core.proofs.Elements.{among, in_none, further, foremost}
 use Rattle.office_core.proofs.Loaded.{numbered_points}
 use Rattle.office_core.proofs.Queries.{same_read}
 use Rattle.office_core.proofs.Standings.{step_later, legal_at, get_last, get_either, asked_stays, answers_on}
@@ -46,23 +47,6 @@ take_numbered : (k n : ℕ) (xs : List PointRow) → AreNumbered n xs → AreNum
 take_numbered zero n xs a = tt
 take_numbered (suc k) n [] a = tt
 take_numbered (suc k) n (x ∷ xs) a = (a.0, take_numbered k (n + 1) xs a.1)
-
--- an element is the first or among the others
-pub among : {X : Type 0} (x : X) (xs : List X) (y : X) → Contains (x ∷ xs) y → (x ≡ y) ⊎ Contains xs y
-among x xs y h = by h.0 h.1 h.2
-  where
-    by : (k : ℕ) → k < length (x ∷ xs) → get_or (x ∷ xs) k y ≡ y → (x ≡ y) ⊎ Contains xs y
-    by zero lt e = inl e
-    by (suc k) lt e = inr (k, omega arith, e)
-
-pub in_none : {X : Type 0} (y : X) → Contains [] y → ⊥
-in_none y h = let lt : h.0 < 0 = h.1 in omega arith
-
-pub further : {X : Type 0} (x : X) (xs : List X) (y : X) → Contains xs y → Contains (x ∷ xs) y
-further x xs y h = (suc h.0, (let lt = h.1 in omega arith), h.2)
-
-pub foremost : {X : Type 0} (x : X) (xs : List X) → Contains (x ∷ xs) x
-foremost x xs = (0, omega arith, refl)
 
 -- numbers after the first ones are greater
 numbered_past : (n : ℕ) (xs : List PointRow) (row : PointRow) → AreNumbered n xs → Contains xs row → n < row.number

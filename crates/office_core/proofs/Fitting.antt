@@ -1,14 +1,11 @@
 -- The readings of a history have the form of their points' types.
-use Rattle.std.proofs.Common.{◌≡◌, ◌≤◌, ◌<◌, ◌+◌, ℕ, zero, suc, Bool, true, false, cond, eqb, leb, not, ◌&&◌, List, [], ◌∷◌, ◌++◌, length, map, take, drop, get_or, Option, Some, None, refl, sym, ap, ◌∙◌, subst, arith}
+use Rattle.std.proofs.Common.{◌≡◌, ◌≤◌, ◌+◌, ℕ, zero, suc, Bool, true, false, cond, eqb, leb, not, ◌&&◌, List, [], ◌∷◌, ◌++◌, length, map, take, drop, get_or, Option, Some, None, refl, sym, ◌∙◌, subst, arith}
 use Rattle.std.specs.Prelude.{◌-◌, All, Contains, filter, slice_get}
 use Rattle.std.specs.Str.{bytes_eq}
-use Rattle.std.specs.FinMap.Entries as rows
 use Rattle.std.specs.Ordering.{eq_by_cmp}
-use Rattle.std.specs.declared.cmp.Ordering.{Ordering}
-use Rattle.std.specs.declared.cmp.Ordering.TheVariants.{Less, Equal, Greater}
 use Rattle.std.proofs.lemmas.Bool.{and_parts, leb-true, eqb-true}
 use Rattle.std.proofs.lemmas.List.{length-map, length-drop, length-take-le}
-use Rattle.std.proofs.lemmas.List.Elements.{All-nil, All-cons, All-head, All-tail, All-map, All-filter, All-append, All-take, All-weaker, All-contains_itself, Contains-append_left, Contains-get_or, filter_passes}
+use Rattle.std.proofs.lemmas.List.Elements.{All-nil, All-head, All-tail, All-map, All-filter, All-append, All-take, All-weaker, All-contains_itself, Contains-append_left, Contains-get_or, filter_passes}
 use Rattle.std.proofs.lemmas.Option.{none-some, same_Some}
 use Rattle.mb_pdu.specs.declared.request.Request.{Request}
 use Rattle.mb_pdu.specs.declared.request.Request.TheVariants.{ReadCoils, ReadDiscrete, ReadHolding, ReadInput}
@@ -31,10 +28,9 @@ use Rattle.read_planner.specs.declared.Read.{Read}
 use Rattle.read_planner.specs.Read.{read_request}
 use Rattle.poll_book.specs.declared.rows.PointRow.{PointRow}
 use Rattle.poll_book.specs.declared.rows.Reading.{Reading}
-use Rattle.poll_book.specs.Tables.{Key, key_cmp, Readings, reading_at, is_between, readings_between, with_rows}
-use Rattle.poll_book.specs.Changes.{keyed, AreNumbered}
+use Rattle.poll_book.specs.Tables.{Key, key_cmp, Readings, reading_at, is_between, readings_between}
+use Rattle.poll_book.specs.Changes.{keyed}
 use Rattle.poll_book.specs.Totals.{is_counted}
-use Rattle.poll_book.proofs.Tabled.{exact_keys}
 use Rattle.office_core.specs.Cover.{Question, one_or_zero, Brings, covers, reads_table, has_size, words_in, reply_cells, given_of, given_rows, excepts}
 use Rattle.office_core.specs.Queries.{Query, Reads, Writes, fits}
 use Rattle.office_core.specs.Loads.{loading, added}
@@ -44,6 +40,8 @@ use Rattle.office_core.specs.Fitting.{IsFitting}
 use Rattle.office_core.proofs.FirstArrivals.{same_key}
 use Rattle.office_core.proofs.Cells.{cells_spelled}
 use Rattle.office_core.proofs.Loaded.{numbered_points}
+use Rattle.office_core.proofs.OnePoint.{one_point}
+use Rattle.office_core.proofs.PutRows.{with_rows_all}
 use Rattle.office_core.proofs.Forms.{IsFormed, IsFormedRow, points_formed}
 
 -- ---- the words of a point in a reply
@@ -242,52 +240,6 @@ given_fit (Open line ∷ before) legal = given_fit before legal.2
 given_fit (Ask c device slot read ∷ before) legal = given_fit before legal.2
 given_fit (Send c number ∷ before) legal = given_fit before legal.2
 given_fit (Noise c frame ∷ before) legal = given_fit before legal.2
-
--- ---- rows that are put into a table
-
-module _ (P : Key × Reading → Type 0) where
-  -- what holds of each row of a table and of one more row holds of each with that put in
-  put_all : (key : Key) (reading : Reading) (table : Readings) → P (key, reading) → All P table → All P (rows.put key_cmp key reading table)
-  put_all key reading [] p all = All-cons P (key, reading) [] p all
-  put_all key reading (x ∷ table) p all = by (key_cmp key x.0) refl (put_all key reading table p (All-tail P x table all))
-    where
-      by : (o : Ordering) → key_cmp key x.0 ≡ o → All P (rows.put key_cmp key reading table)
-          → All P (rows.by_order o ((key, reading) ∷ x ∷ table) ((x.0, reading) ∷ table) (x ∷ rows.put key_cmp key reading table))
-      by Less is rest = All-cons P (key, reading) (x ∷ table) p all
-      by Equal is rest = All-cons P (x.0, reading) table (subst (λ (k : Key). P (k, reading)) (exact_keys key x.0 is) p) (All-tail P x table all)
-      by Greater is rest = All-cons P x (rows.put key_cmp key reading table) (All-head P x table all) rest
-
-  -- and with several put in
-  with_rows_all : (xs table : Readings) → All P xs → All P table → All P (with_rows xs table)
-  with_rows_all [] table new old = old
-  with_rows_all (x ∷ xs) table new old =
-      put_all x.0 x.1 (with_rows xs table) (All-head P x xs new) (with_rows_all xs table (All-tail P x xs new) old)
-
--- ---- numbers of points
-
--- the number of the point at a place
-number_at : (n : ℕ) (xs : List PointRow) (k : ℕ) (d : PointRow) → AreNumbered n xs → k < length xs → (get_or xs k d).number ≡ n + k + 1
-number_at n [] k d numbered lt = absurd (omega arith)
-number_at n (x ∷ xs) zero d numbered lt = let e = numbered.0 in omega arith
-number_at n (x ∷ xs) (suc k) d numbered lt = let e = number_at (n + 1) xs k d numbered.1 (omega arith) in omega arith
-
--- what stands in a list doesn't depend on what stands for its end
-any_default : (xs : List PointRow) (k : ℕ) (a b : PointRow) → k < length xs → get_or xs k a ≡ get_or xs k b
-any_default [] k a b lt = absurd (omega arith)
-any_default (x ∷ xs) zero a b lt = refl
-any_default (x ∷ xs) (suc k) a b lt = any_default xs k a b (omega arith)
-
--- a number names one point
-pub one_point : (n : ℕ) (xs : List PointRow) (a b : PointRow) → AreNumbered n xs → Contains xs a → Contains xs b → a.number ≡ b.number → a ≡ b
-one_point n xs a b numbered there other same =
-    let i : ℕ = there.0 in
-    let j : ℕ = other.0 in
-    let p = number_at n xs i a numbered there.1 in
-    let q = number_at n xs j b numbered other.1 in
-    let x = ap (λ (r : PointRow). r.number) there.2 in
-    let y = ap (λ (r : PointRow). r.number) other.2 in
-    let e : i ≡ j = omega arith in
-    sym there.2 ∙ any_default xs i a b there.1 ∙ ap (λ k. get_or xs k b) e ∙ other.2
 
 -- ---- the tables
 

@@ -1,6 +1,7 @@
 -- What a reply gives.
 use Rattle.std.proofs.Common.{◌≡◌, ◌≢◌, ℕ, zero, suc, ◌+◌, Bool, true, false, cond, eqb, List, [], ◌∷◌, map, take, length, Some, None, Option, refl, arith, subst, sym}
-use Rattle.std.specs.Prelude.{filter, IfSome, ◌||◌}
+use Rattle.std.specs.Prelude.{All, Contains, filter, IfSome, ◌||◌}
+use Rattle.std.proofs.lemmas.List.Elements.{All-nil, All-map, All-filter, All-take, All-contains_itself}
 use Rattle.mb_pdu.specs.declared.reply.Reply.{Reply}
 use Rattle.mb_pdu.specs.declared.reply.Reply.TheVariants.{Bits, Registers, Written, Excepted}
 use Rattle.point_list.specs.declared.site.Site.{Site}
@@ -12,9 +13,9 @@ use Rattle.poll_book.specs.Tables.{Tables, new_rows}
 use Rattle.poll_book.specs.Changes.{AreNumbered, keyed}
 use Rattle.office_core.specs.declared.event.Arrival.TheVariants.{Recorded}
 use Rattle.office_core.specs.Sites.{device_name}
-use Rattle.office_core.specs.Cover.{covers, words_in, given_of, given_named, reply_cells}
+use Rattle.office_core.specs.Cover.{covers, words_in, given_at, given_of, given_named, reply_cells}
 use Rattle.office_core.specs.declared.cover.Asking.{Asking}
-use Rattle.office_core.specs.Keeping.{Rises, with_given, rows_at, brought_read, read_arrival, reply_state}
+use Rattle.office_core.specs.Keeping.{AreCovered, IsCopy, Rises, with_given, rows_at, brought_read, read_arrival, reply_state}
 use Rattle.office_core.proofs.Newness.{rises_from}
 
 -- the points that a read covers rise with their numbers
@@ -40,6 +41,26 @@ rises_at site known asking reply numbered = by (device_name site asking.device)
     by : (o : Option (List ℕ)) → Rises 0 (keyed asking.slot (given_named (take asking.known known) o asking.read (reply_cells reply)))
     by None = tt
     by (Some device) = rises_given asking.slot device asking.read (reply_cells reply) 0 known asking.known numbered
+
+-- the points that a reply gives to are known, and rise
+given_there : (all : List PointRow) (device : List ℕ) (read : Read) (words : List ℕ) (k : ℕ) → All (λ c. Contains all c.0) (given_of (take k all) device read words)
+given_there all device read words k =
+    All-map (λ (c : PointRow × List ℕ). Contains all c.0) (λ (x : PointRow). (x, words_in read words x.point)) (filter (λ (x : PointRow). covers device read x.point) (take k all))
+    (All-filter (λ (x : PointRow). covers device read x.point) (Contains all) (take k all) (All-take (Contains all) k all (All-contains_itself all)))
+
+there_at : (site : Site) (known : List PointRow) (asking : Asking) (words : List ℕ) → All (λ c. Contains known c.0) (given_at site known asking words)
+there_at site known asking words = by (device_name site asking.device)
+  where
+    by : (o : Option (List ℕ)) → All (λ c. Contains known c.0) (given_named (take asking.known known) o asking.read words)
+    by None = All-nil (λ (c : PointRow × List ℕ). Contains known c.0)
+    by (Some device) = given_there known device asking.read words asking.known
+
+pub covered_known : (site : Site) (known : List PointRow) (asking : Asking) (reply : Reply) (kept : Tables) (covered : List (PointRow × List ℕ))
+    → covered ≡ given_at site known asking (reply_cells reply) → IsCopy known kept → AreCovered kept.points asking.slot covered
+covered_known site known asking reply kept covered is copy = subst (AreCovered kept.points asking.slot) (sym is) (record {
+  known = subst (λ (l : List PointRow). All (λ c. Contains l c.0) (given_at site known asking (reply_cells reply))) copy.0 (there_at site known asking (reply_cells reply));
+  rise = rises_at site known asking reply (subst (AreNumbered 0) (sym copy.0) copy.1.points);
+})
 
 -- a reply that is no exception
 pub brought_rows : (site : Site) (known : List PointRow) (asking : Asking) (reply : Reply) (kept : Tables) → ((code : ℕ) → reply ≢ Excepted code)

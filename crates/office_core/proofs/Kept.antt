@@ -20,6 +20,7 @@ use Rattle.poll_book.specs.declared.requests.Outcome.{Outcome}
 use Rattle.poll_book.specs.declared.requests.Request.{Request}
 use Rattle.poll_book.specs.Requests.{RequestKey, Requests, request_cmp, request_at, with_request}
 use Rattle.poll_book.specs.Tables.{Tables}
+use Rattle.poll_book.specs.Totals.{totals_of}
 use Rattle.office_core.specs.declared.event.RequestAnswer.{RequestAnswer}
 use Rattle.office_core.specs.declared.event.RequestAnswer.TheVariants.{Kept}
 use Rattle.office_core.specs.declared.event.EventAnswer.TheVariants as answer
@@ -128,6 +129,7 @@ tables_again : (before : History) (key : RequestKey) (now : Body) → is_used be
 tables_again before key now used = λ i. record {
   points = points_again before key now used i;
   readings = readings_again before key now i;
+  totals = totals_of (points_again before key now used i) (readings_again before key now i);
   settings = settings_again before key now used i;
   requests = requests_again before key now used i;
   connections = connections_again before key now i;
@@ -137,10 +139,12 @@ tables_again before key now used = λ i. record {
 pub tables_loaded : (before : History) (key : RequestKey) (list : List ℕ) → is_used before key ≡ false
     → tables (asking key (body.List list) ∷ before) ≡ record (tables before) {
       points = points before ++ added (length (points before)) (loading (site_of before) (points before) list);
+      totals = totals_of (points before ++ added (length (points before)) (loading (site_of before) (points before) list)) (readings before);
       requests = with_request key (record { body = body.List list; outcome = outcome (loading (site_of before) (points before) list) }) (requests before);
     }
 tables_loaded before key list unused = λ i. record (tables before) {
   points = cond (unused i) (points before) (points before ++ added (length (points before)) (loading (site_of before) (points before) list));
+  totals = totals_of (cond (unused i) (points before) (points before ++ added (length (points before)) (loading (site_of before) (points before) list))) (readings before);
   requests = cond (unused i) (requests before) (with_request key (record { body = body.List list; outcome = outcome (loading (site_of before) (points before) list) }) (requests before));
 }
 
@@ -194,6 +198,7 @@ module _ (holds : Tables → Type 0) (now : Site) (known : List PointRow) (all :
   pub asked_list : (key : RequestKey) (list : List ℕ) → request_at (requests before) key ≡ None → (holds' : Tables → Type 0)
       → holds' (record (tables before) {
         points = points before ++ added (length (points before)) (loading (site_of before) (points before) list);
+        totals = totals_of (points before ++ added (length (points before)) (loading (site_of before) (points before) list)) (readings before);
         requests = with_request key (record { body = body.List list; outcome = outcome (loading (site_of before) (points before) list) }) (requests before);
       })
       → (known' : List PointRow) → known' ≡ known ++ added (length known) (loading now known list)

@@ -12,6 +12,11 @@ pub mod Loading
 pub mod Newness
 pub mod Given
 pub mod Rows
+pub mod Elements
+pub mod OnePoint
+pub mod Totalled
+pub mod PutRows
+pub mod CountedTables
 pub mod Queries
 pub mod Naming
 pub mod Arrivals
@@ -37,12 +42,9 @@ pub mod Messages
 pub mod Forms
 pub mod Fitting
 pub mod ByName
-<<<<<<< HEAD
 pub mod StepsLost
 pub mod SlotsLost
 pub mod LostReadings
 pub mod Calls
 pub mod SameArrivals
-=======
 pub mod Looked
->>>>>>> fd5178a16ab5ae834695c24d787cf1456975e44f

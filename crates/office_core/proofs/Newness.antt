@@ -1,5 +1,5 @@
 -- What is written is new.
-use Rattle.std.proofs.Common.{◌≡◌, ◌⊎◌, inl, inr, ℕ, ◌+◌, ◌≤◌, Bool, true, false, cond, List, [], ◌∷◌, ◌++◌, length, Some, None, Option, Result, Ok, Err, refl, sym, ap, ◌∙◌, arith, subst}
+use Rattle.std.proofs.Common.{◌≡◌, ◌⊎◌, inl, inr, ℕ, ◌+◌, ◌≤◌, Bool, true, false, cond, List, [], ◌∷◌, ◌++◌, length, map, get_or, Some, None, Option, Result, Ok, Err, refl, sym, ap, ◌∙◌, arith, subst}
 use Rattle.std.specs.Prelude.{filter, is_none, OnOk, OnErr, IfOk, MatchResult, is_err}
 use Rattle.std.specs.Result.{IsErr}
 use Rattle.std.specs.Ordering.{eq_by_cmp}
@@ -9,7 +9,6 @@ use Rattle.std.proofs.lemmas.Option.{same_Some}
 use Rattle.point_list.specs.declared.point.Point.{Point}
 use Rattle.poll_book.specs.declared.rows.PointRow.{PointRow}
 use Rattle.poll_book.specs.declared.rows.Reading.{Reading}
-use Rattle.poll_book.specs.declared.rows.ReadingRow.{ReadingRow}
 use Rattle.poll_book.specs.declared.rows.Setting.{Setting}
 use Rattle.poll_book.specs.declared.rows.SettingRow.{SettingRow}
 use Rattle.poll_book.specs.declared.rows.OrderState.{OrderState}
@@ -18,13 +17,15 @@ use Rattle.poll_book.specs.declared.rows.Change.{Change}
 use Rattle.poll_book.specs.declared.requests.RequestRow.{RequestRow}
 use Rattle.poll_book.specs.Orders.{Settings, is_waiting, last_order, setting_at, with_setting}
 use Rattle.poll_book.specs.Requests.{request_at, with_request}
-use Rattle.poll_book.specs.Tables.{Tables, Within, Key, key_cmp, Readings, reading_at, new_rows, with_rows}
-use Rattle.poll_book.specs.Changes.{applied, as_rows, with_order, AreNumbered, AreNew, IsNew, IsNextOrSettled, IsNextOrSettledAs}
+use Rattle.poll_book.specs.Tables.{Tables, Within, Key, key_cmp, Readings, reading_at, new_rows, sum_at, with_rows, with_sums}
+use Rattle.poll_book.specs.Totals.{totals_of}
+use Rattle.poll_book.specs.Changes.{applied, HaveTotals, as_rows, as_sums, counters, keyed, new_sums, with_order, AreNumbered, AreNew, AreThere, IsNew, IsNextOrSettled, IsNextOrSettledAs}
 use Rattle.poll_book.proofs.Tabled.{exact_keys}
 use Rattle.office_core.specs.Leavings.{LeftAfter}
 use Rattle.office_core.specs.Loads.{numbered_on}
 use Rattle.office_core.specs.Orders.{Ordering, Refused as NoOrder, Taken as ATaken, ordering_row, settle, settle_at, waiting_at, with_ordered}
-use Rattle.office_core.specs.Keeping.{IsCounted, Rises, asked_change, no_change, with_given, with_state}
+use Rattle.office_core.specs.Keeping.{AreCovered, IsCounted, Rises, asked_change, no_change, with_given, with_readings, with_state}
+use Rattle.office_core.proofs.Totalled.{loaded_sums, recorded_sums, stored_sum, sum_numbers, sums_there}
 
 -- ---- points
 
@@ -80,25 +81,52 @@ rises_new table n (row ∷ rest) r = by (is_none (reading_at table row.0)) refl 
 -- ---- changes
 
 still_numbered : (kept : Tables) → IsCounted kept → AreNumbered 0 (kept.points ++ [])
-still_numbered kept counted = subst (AreNumbered 0) (sym (append-nil kept.points)) counted
+still_numbered kept counted = subst (AreNumbered 0) (sym (append-nil kept.points)) counted.points
 
--- a change that only adds readings
-pub new_readings : (rows : List ReadingRow) (kept : Tables) (given : Readings) → as_rows rows ≡ new_rows kept.readings given
-    → IsCounted kept → Rises 0 given → IsNew (record no_change { readings = rows }) kept
-new_readings rows kept given are counted rises = record {
+-- what is stored is of the counters
+of_counters : (kept : Tables) → IsCounted kept → map (λ row. row.0) kept.totals ≡ counters kept.points
+of_counters kept counted = ap (map (λ (row : ℕ × ℕ). row.0)) counted.totals ∙ sum_numbers kept.points kept.readings
+
+-- the change of a reply
+pub record IsReplied (change : Change) (kept : Tables) (slot : ℕ) (covered : List (PointRow × List ℕ)) : Type 0 where
+  pub alone : change ≡ record { points = []; readings = change.readings; totals = change.totals; setting = None; request = None; connections = None }
+  pub readings : as_rows change.readings ≡ new_rows kept.readings (keyed slot covered)
+  pub totals : as_sums change.totals ≡ new_sums kept.readings slot covered
+
+pub new_replied : (change : Change) (kept : Tables) (slot : ℕ) (covered : List (PointRow × List ℕ)) → IsReplied change kept slot covered → IsCounted kept
+    → AreCovered kept.points slot covered → IsNew change kept
+new_replied change kept slot covered is counted are = subst (λ x. IsNew x kept) (sym is.alone) (record {
   points = still_numbered kept counted;
-  readings = subst (AreNew kept.readings) (sym are) (rises_new kept.readings 0 given rises);
+  readings = subst (AreNew kept.readings) (sym is.readings) (rises_new kept.readings 0 (keyed slot covered) are.rise);
+  totals = of_counters kept counted;
+  sums = subst (AreThere kept.totals) (sym is.totals)
+      (subst (λ t. AreThere t (new_sums kept.readings slot covered)) (sym counted.totals) (sums_there kept.points kept.readings slot covered counted.points are.known));
   setting = tt;
   request = tt;
-}
+})
 
-pub applied_readings : (rows : List ReadingRow) (kept : Tables) (given : Readings) → as_rows rows ≡ new_rows kept.readings given
-    → applied (record no_change { readings = rows }) kept ≡ with_given given kept
-applied_readings rows kept given are = λ i. record kept { points = append-nil kept.points i; readings = with_rows (are i) kept.readings }
+pub applied_replied : (change : Change) (kept : Tables) (slot : ℕ) (covered : List (PointRow × List ℕ)) → IsReplied change kept slot covered → IsCounted kept
+    → AreCovered kept.points slot covered → applied change kept ≡ with_given (keyed slot covered) kept
+applied_replied change kept slot covered is counted are =
+    let totals : with_sums (as_sums change.totals) kept.totals ≡ totals_of kept.points (with_rows (new_rows kept.readings (keyed slot covered)) kept.readings) =
+    (λ i. with_sums (is.totals i) (counted.totals i)) ∙ recorded_sums kept.points kept.readings slot covered counted.points counted.by_key are in
+    ap (λ x. applied x kept) is.alone
+    ∙ (λ i. record kept { points = append-nil kept.points i; readings = with_rows (is.readings i) kept.readings; totals = totals i })
+
+-- what is stored of each covered counter is its total
+pub totals_had : (kept : Tables) (slot : ℕ) (covered : List (PointRow × List ℕ)) → IsCounted kept → AreCovered kept.points slot covered → HaveTotals kept covered
+totals_had kept slot covered counted are k d lt counts =
+    let known = (get_or covered k d).0 in
+    ap (λ t. sum_at t known.number) counted.totals ∙ stored_sum kept.points kept.readings known counted.points (are.known k d lt) counts
+
+-- a reply that brings no reading leaves the tables
+pub none_given : (kept : Tables) (rows : Readings) → IsCounted kept → new_rows kept.readings rows ≡ [] → with_given rows kept ≡ kept
+none_given kept rows counted none =
+    ap (λ l. with_readings (with_rows l kept.readings) kept) none ∙ (λ i. record kept { totals = sym counted.totals i })
 
 -- a change that only counts a connection
 pub new_connection : (n : ℕ) (kept : Tables) → IsCounted kept → IsNew (record no_change { connections = Some n }) kept
-new_connection n kept counted = record { points = still_numbered kept counted; readings = tt; setting = tt; request = tt }
+new_connection n kept counted = record { points = still_numbered kept counted; readings = tt; totals = of_counters kept counted; sums = tt; setting = tt; request = tt }
 
 pub applied_connection : (n : ℕ) (kept : Tables) → applied (record no_change { connections = Some n }) kept ≡ record kept { connections = n }
 applied_connection n kept = λ i. record kept { points = append-nil kept.points i; connections = n }
@@ -117,6 +145,8 @@ pub new_state : (order : ℕ) (setting : Setting) (state : OrderState) (kept : T
 new_state order setting state kept there waits settled counted = record {
   points = still_numbered kept counted;
   readings = tt;
+  totals = of_counters kept counted;
+  sums = tt;
   setting = by (is_waiting state) settled;
   request = tt;
 }
@@ -158,8 +188,10 @@ waiting_there (Some found) setting e = by (is_waiting found.state) refl e
 new_request : (points : List PointRow) (setting : Option SettingRow) (request : RequestRow) (kept : Tables) → IsCounted kept → AreNumbered (length kept.points) points
     → IsNextOrSettled kept.settings setting → request_at kept.requests (request.caller, request.key) ≡ None → IsNew (asked_change points setting request) kept
 new_request points setting request kept counted numbered next unused = record {
-  points = numbered-append 0 (length kept.points) kept.points points (omega arith) counted numbered;
+  points = numbered-append 0 (length kept.points) kept.points points (omega arith) counted.points numbered;
   readings = tt;
+  totals = of_counters kept counted;
+  sums = tt;
   setting = next;
   request = unused;
 }
@@ -174,9 +206,18 @@ pub new_loaded : (more : List PointRow) (request : RequestRow) (change : Change)
     → AreNumbered (length kept.points) more → request_at kept.requests (request.caller, request.key) ≡ None → IsNew change kept
 new_loaded more request change kept is counted numbered unused = subst (λ x. IsNew x kept) (sym is) (new_request more None request kept counted numbered tt unused)
 
-pub applied_loaded : (more : List PointRow) (request : RequestRow) (change : Change) (kept : Tables) → change ≡ asked_change more None request
-    → applied change kept ≡ record kept { points = kept.points ++ more; requests = with_request (request.caller, request.key) (record { body = request.body; outcome = request.outcome }) kept.requests }
-applied_loaded more request change kept is = ap (λ x. applied x kept) is
+pub applied_loaded : (more : List PointRow) (request : RequestRow) (change : Change) (kept : Tables) → change ≡ asked_change more None request → IsCounted kept
+    → AreNumbered (length kept.points) more
+    → applied change kept ≡ record kept {
+      points = kept.points ++ more;
+      totals = totals_of (kept.points ++ more) kept.readings;
+      requests = with_request (request.caller, request.key) (record { body = request.body; outcome = request.outcome }) kept.requests;
+    }
+applied_loaded more request change kept is counted numbered =
+    let all = numbered-append 0 (length kept.points) kept.points more (omega arith) counted.points numbered in
+    let totals : with_sums (totals_of more []) kept.totals ≡ totals_of (kept.points ++ more) kept.readings =
+    ap (with_sums (totals_of more [])) counted.totals ∙ loaded_sums kept.points more kept.readings counted.points numbered all counted.known in
+    ap (λ x. applied x kept) is ∙ (λ i. record (applied (asked_change more None request) kept) { totals = totals i })
 
 ordered_table : (table : Settings) (ordering : Ordering) → with_order (ordering_row (last_order table) ordering) table ≡ with_ordered ordering table
 ordered_table table (NoOrder fault) = refl

@@ -29,7 +29,7 @@ use Rattle.office_core.specs.SameArrivals.{Answered, HaveSameArrivals, HasEqualC
 use Rattle.office_core.proofs.BySlot.{readings_sorted}
 use Rattle.office_core.proofs.Calls.{waiting, same_points, same_asked, same_set}
 use Rattle.office_core.proofs.FirstArrivals.{at_made, query_there, query_asked, points_stay, points_of_query, fits_so, first_so as read_first, given_once, first_arrival}
-use Rattle.office_core.proofs.Fitting.{one_point}
+use Rattle.office_core.proofs.OnePoint.{one_point}
 use Rattle.office_core.proofs.KeptRequests.{AreOrders, numbered}
 use Rattle.office_core.proofs.Loaded.{numbered_points}
 use Rattle.office_core.proofs.SettledOrders.{send_there, write_sent, answered_by, reply_fits, first_so as write_first, settled_on, settled_so}

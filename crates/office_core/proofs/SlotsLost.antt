@@ -7,7 +7,7 @@ use Rattle.poll_book.specs.Totals.{steps}
 use Rattle.poll_book.specs.Histories.{IsRising}
 use Rattle.office_core.specs.FirstArrivals.{numbers_of}
 use Rattle.office_core.specs.Losses.{first_of, last_of, first_slot, last_slot}
-use Rattle.office_core.proofs.FirstArrivals.{among, in_none, further, foremost}
+use Rattle.office_core.proofs.Elements.{among, in_none, further, foremost}
 use Rattle.office_core.proofs.BySlot.{slot_of, rising_rest, rising_first}
 use Rattle.office_core.proofs.StepsLost.{IsPart, lost, rounds_lost}
 

@@ -14,7 +14,8 @@ use Rattle.poll_match.specs.Queries.{request_of}
 use Rattle.poll_match.specs.Window.{Open as OpenOne, held, refusal, Names, with_answer, with_query, Changes, fresh}
 use Rattle.poll_book.specs.declared.rows.PointRow.{PointRow}
 use Rattle.poll_book.specs.Tables.{Tables, Readings, new_rows}
-use Rattle.poll_book.specs.Changes.{AreNumbered, keyed}
+use Rattle.poll_book.specs.Changes.{keyed}
+use Rattle.poll_book.specs.Totals.{totals_of}
 use Rattle.office_core.specs.declared.error.OfficeError.{OfficeError}
 use Rattle.office_core.specs.declared.event.Arrival.{Arrival}
 use Rattle.office_core.specs.declared.event.Arrival.TheVariants as arrival
@@ -36,13 +37,14 @@ use Rattle.office_core.specs.Cover.{Question, cells, excepts, given_named, given
 use Rattle.office_core.specs.Queries.{Query, Reads, Writes, Writing, asked_of, exception_code, query_frame}
 use Rattle.office_core.specs.Orders.{ordered, ordering_of, send_fault, with_ordered, writing}
 use Rattle.office_core.specs.Loads.{known_named, loading, outcome, added}
-use Rattle.office_core.specs.History.{Happening, Restart, Load, Order, Open, Ask, Send, Reply, Noise, History, tables, points, site_of, settings, requests, connections, open_line, open_fault, asked, ask_fault, question}
+use Rattle.office_core.specs.History.{Happening, Restart, Load, Order, Open, Ask, Send, Reply, Noise, History, tables, points, site_of, settings, requests, connections, open_line, open_fault, asked, ask_fault, question, readings}
 use Rattle.office_core.specs.Answers.{answer_again, answer_of, unit_answer}
 use Rattle.office_core.specs.Keeping.{IsCopy, asking_of, with_given, with_state, rows_at, brought, arrival_of}
 use Rattle.office_core.specs.Standing.{StandsFor, IsFormer, Closes, Sees, Goes, is_store}
 use Rattle.office_core.specs.Legal.{MayHappen}
 use Rattle.office_core.proofs.Cells.{cells_spelled, exception_spelled, bits_plain, words_plain, no_echo}
-use Rattle.office_core.proofs.Loaded.{numbered_points, restarted}
+use Rattle.office_core.proofs.Loaded.{restarted}
+use Rattle.office_core.proofs.CountedTables.{counted_tables}
 use Rattle.office_core.proofs.Kept.{asked_again, asked_list, asked_order}
 use Rattle.office_core.proofs.Written.{state_is, written_told}
 use Rattle.office_core.proofs.Naming.{accepted, found_is}
@@ -124,7 +126,7 @@ module _ (site : Site) (known : List PointRow) (unit : List ℕ) (kept : Tables)
 module _ (holds : Tables → Type 0) (now : Site) (known : List PointRow) (all : List OpenOne) where
   -- the office's copy of the points
   pub copy_of : (before : History) → StandsFor holds now known all before → IsCopy known (tables before)
-  copy_of before stands = (stands.points, subst (AreNumbered 0) (sym stands.points) (numbered_points before))
+  copy_of before stands = (stands.points, counted_tables before)
 
   -- ---- what the store refuses
 
@@ -431,6 +433,7 @@ module _ (holds : Tables → Type 0) (now : Site) (known : List PointRow) (all :
       → ((kept : Tables) → holds kept → IsCopy known kept → request_at kept.requests (caller, key) ≡ None
       → holds' (record kept {
         points = kept.points ++ added (length known) (loading now known list);
+        totals = totals_of (kept.points ++ added (length known) (loading now known list)) kept.readings;
         requests = with_request (caller, key) (record { body = body.List list; outcome = outcome (loading now known list) }) kept.requests;
       }))
       → (known' : List PointRow) → known' ≡ known ++ added (length known) (loading now known list)
@@ -446,6 +449,7 @@ module _ (holds : Tables → Type 0) (now : Site) (known : List PointRow) (all :
       by before (Load c k l) (stands, none) sees =
           let new = subst (λ (x : List ℕ × List ℕ × List ℕ × Site × List PointRow). holds' (record (tables before) {
             points = points before ++ added (length x.4) (loading x.3 x.4 x.2);
+            totals = totals_of (points before ++ added (length x.4) (loading x.3 x.4 x.2)) (readings before);
             requests = with_request (x.0, x.1) (record { body = body.List x.2; outcome = outcome (loading x.3 x.4 x.2) }) (requests before);
           })) (λ i. (sees.0 i, sees.1 i, sees.2 i, stands.site i, stands.points i)) (kept (tables before) stands.tables (copy_of before stands) none) in
           let done = asked_list holds now known all before stands (c, k) l ((λ i. request_at (requests before) (sym sees.0 i, sym sees.1 i)) ∙ none) holds' new

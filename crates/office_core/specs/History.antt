@@ -204,6 +204,7 @@ abbrev pub tables : History → Tables
 tables before = record {
   points = points before;
   readings = readings before;
+  totals = totals.totals_of (points before) (readings before);
   settings = settings before;
   requests = requests before;
   connections = connections before;

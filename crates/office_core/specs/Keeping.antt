@@ -1,5 +1,5 @@
 -- What a keeper holds, and what is written to it.
-use Rattle.std.specs.Prelude.{◌≡◌, ℕ, ◌<◌, ⊤, List, [], ◌∷◌, length, Option, Some, None}
+use Rattle.std.specs.Prelude.{◌≡◌, ℕ, ◌<◌, ◌≤◌, All, Contains, ⊤, List, [], ◌∷◌, length, Option, Some, None}
 use Rattle.mb_pdu.specs.declared.reply.Reply.{Reply}
 use Rattle.mb_pdu.specs.declared.reply.Reply.TheVariants.{Excepted}
 use Rattle.point_list.specs.declared.site.Site.{Site}
@@ -18,31 +18,45 @@ use Rattle.office_core.specs.Cover.{given_at, reply_cells}
 use Rattle.office_core.specs.Orders.{state_after, settle}
 use Rattle.read_planner.specs.declared.Read.{Read}
 use Rattle.office_core.specs.declared.cover.Asking.{Asking}
-use Rattle.poll_book.specs.Tables.{Tables, Readings, new_rows, with_rows}
+use Rattle.poll_book.specs.Tables.{AreByKey, Tables, Readings, new_rows, with_rows}
+use Rattle.poll_book.specs.Totals.{totals_of}
 
--- the copy of the points is the keeper's, and they are numbered
+-- points are numbered, readings lie by key and are of points, and what is stored of each counter is its total
+pub record IsCounted (kept : Tables) : Type 0 where
+  pub points : AreNumbered 0 kept.points
+  pub by_key : AreByKey kept.readings
+  pub known : All (λ row. row.0.0 ≤ length kept.points) kept.readings
+  pub totals : kept.totals ≡ totals_of kept.points kept.readings
+
+-- the copy of the points is the keeper's
 abbrev pub IsCopy : List PointRow → Tables → Type 0
-IsCopy known kept = (known ≡ kept.points) × AreNumbered 0 known
-
-abbrev pub IsCounted : Tables → Type 0
-IsCounted kept = AreNumbered 0 kept.points
+IsCopy known kept = (known ≡ kept.points) × IsCounted kept
 
 -- rows of rising points above a number
 abbrev pub Rises : ℕ → Readings → Type 0
 Rises n [] = ⊤
 Rises n (row ∷ rest) = (n < row.0.0) × Rises row.0.0 rest
 
+-- covered points are points that are known, and rise
+pub record AreCovered (points : List PointRow) (slot : ℕ) (covered : List (PointRow × List ℕ)) : Type 0 where
+  pub known : All (λ c. Contains points c.0) covered
+  pub rise : Rises 0 (keyed slot covered)
+
 -- a change of nothing
 abbrev pub no_change : Change
-no_change = record { points = []; readings = []; setting = None; request = None; connections = None }
+no_change = record { points = []; readings = []; totals = []; setting = None; request = None; connections = None }
 
 -- a change that keeps a request, with points or a setting
 abbrev pub asked_change : List PointRow → Option SettingRow → RequestRow → Change
-asked_change points setting request = record { points = points; readings = []; setting = setting; request = Some request; connections = None }
+asked_change points setting request = record { points = points; readings = []; totals = []; setting = setting; request = Some request; connections = None }
+
+-- the tables with these readings, and the totals of all
+abbrev pub with_readings : Readings → Tables → Tables
+with_readings table kept = record kept { readings = table; totals = totals_of kept.points table }
 
 -- the tables with these readings, where there were none
 abbrev pub with_given : Readings → Tables → Tables
-with_given rows kept = record kept { readings = with_rows (new_rows kept.readings rows) kept.readings }
+with_given rows kept = with_readings (with_rows (new_rows kept.readings rows) kept.readings) kept
 
 -- the tables with an order settled so, where it waits
 abbrev pub with_state : ℕ → Option OrderState → Tables → Tables

@@ -3,21 +3,8 @@ ghost use Rattle.std.specs.Prelude.{◌≡◌, [], Some, None};
 ghost use Rattle.office_core.specs.Keeping.{asked_change, no_change};
 
 use point_list::Items;
-use poll_book::{Change, OrderState, PointRow, ReadingRow, RequestRow, Setting, SettingRow};
+use poll_book::{Change, OrderState, PointRow, RequestRow, Setting, SettingRow};
 use std::alloc::Global;
-
-/// The change that adds readings.
-pub(crate) fn readings_change(alloc: Global, readings: Vec<ReadingRow>) -> Change
-    ensures { result ≡ record no_change { readings = readings.items } }
-{
-    Change {
-        points: Items::from_vec(Vec::new(alloc)),
-        readings: Items::from_vec(readings),
-        setting: None,
-        request: None,
-        connections: None,
-    }
-}
 
 /// The change that counts a connection.
 pub(crate) fn connection_change(alloc: Global, connections: u32) -> Change
@@ -26,6 +13,7 @@ pub(crate) fn connection_change(alloc: Global, connections: u32) -> Change
     Change {
         points: Items::from_vec(Vec::new(alloc)),
         readings: Items::from_vec(Vec::new(alloc)),
+        totals: Items::from_vec(Vec::new(alloc)),
         setting: None,
         request: None,
         connections: Some(connections),
@@ -39,6 +27,7 @@ pub(crate) fn state_change(alloc: Global, order: u32, setting: Setting, state: O
     Change {
         points: Items::from_vec(Vec::new(alloc)),
         readings: Items::from_vec(Vec::new(alloc)),
+        totals: Items::from_vec(Vec::new(alloc)),
         setting: Some(SettingRow {
             number: order,
             point: setting.point,
@@ -62,6 +51,7 @@ pub(crate) fn request_change(
     Change {
         points: Items::from_vec(points),
         readings: Items::from_vec(Vec::new(alloc)),
+        totals: Items::from_vec(Vec::new(alloc)),
         setting,
         request: Some(request),
         connections: None,

@@ -6,10 +6,10 @@ ghost use Rattle.poll_book.specs.Fault.{Accounts};
 ghost use Rattle.poll_book.specs.Looks.{IsRaisedAtMost};
 ghost use Rattle.poll_book.specs.Orders.{is_waiting, setting_at};
 ghost use Rattle.office_core.specs.Orders.{waiting_at};
-ghost use Rattle.office_core.specs.Keeping.{IsCounted, Rises, with_given, with_state};
+ghost use Rattle.office_core.specs.Keeping.{AreCovered, IsCounted, with_given, with_state};
 ghost use Rattle.office_core.specs.Leavings.{LeftAfter};
 
-use crate::changes::{readings_change, state_change};
+use crate::changes::state_change;
 use mb_pdu::Registers;
 use poll_book::{Change, Keeper, OrderState, PointRow, Setting, StoreFault, record};
 use std::alloc::Global;
@@ -53,21 +53,21 @@ pub(crate) fn keep_readings<K: Keeper>(
     requires { length covered.now ≤ 10000 }
     ensures count { K.is_clean keeper.new → (kept : Tables) → K.holds keeper.old kept
         → IfOk result (λ count. count ≡ length (new_rows kept.readings (keyed slot covered.now))) }
-    ensures kept { K.is_clean keeper.new → (kept : Tables) → K.holds keeper.old kept → IsCounted kept → Rises 0 (keyed slot covered.now)
+    ensures kept { K.is_clean keeper.new → (kept : Tables) → K.holds keeper.old kept → IsCounted kept → AreCovered kept.points slot covered.now
         → MatchResult result (λ _. K.holds keeper.new (with_given (keyed slot covered.now) kept)) (λ _. K.holds keeper.new kept) }
-    ensures leaves { K.is_clean keeper.new → (kept : Tables) → K.holds keeper.old kept → IsCounted kept → Rises 0 (keyed slot covered.now)
+    ensures leaves { K.is_clean keeper.new → (kept : Tables) → K.holds keeper.old kept → IsCounted kept → AreCovered kept.points slot covered.now
         → Within (K.may_leave keeper.new) (LeftAfter (K.may_leave keeper.old) kept (with_given (keyed slot covered.now) kept) (is_err result)) }
     ensures cause { Accounts K.may_refuse (K.refused keeper.old) (K.refused keeper.new) result }
     ensures looks { IsRaisedAtMost (4 * length covered.now) (K.looked keeper.old) (K.looked keeper.new) }
     ensures err { OnErr result (Within (K.holds keeper.old) (K.holds keeper.new)) }
     ensures clean { K.is_clean keeper.new → K.is_clean keeper.old }
 {
-    let rows = record(alloc, keeper, covered, slot)?;
-    let count = rows.len() as u32;
+    let change = record(alloc, keeper, covered, slot)?;
+    let count = change.readings.as_slice().len() as u32;
     if count == 0 {
         return Ok(0);
     }
-    write(keeper, readings_change(alloc, rows))?;
+    write(keeper, change)?;
     Ok(count)
 }
 

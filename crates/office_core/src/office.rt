@@ -491,9 +491,9 @@ impl<K: Keeper> Office<K> {
         let Some(row) = known_named(&self.points, point.as_bytes()) else {
             return Ok(None);
         };
-        if row.point.role != Role::Counter {
+        let Role::Counter = row.point.role else {
             return Ok(None);
-        }
+        };
         Ok(Some(self.keeper.total(&row)?))
     }
 

@@ -6,8 +6,8 @@ use Rattle.point_list.specs.declared.point.Point.{Point}
 use Rattle.mb_mbap.specs.Stream.{spelled}
 use Rattle.poll_book.specs.declared.rows.PointRow.{PointRow}
 use Rattle.poll_book.specs.declared.rows.Reading.{Reading}
-use Rattle.poll_book.specs.Tables.{Key, Readings, Tables, readings_between}
-use Rattle.poll_book.specs.Totals.{is_counter, total}
+use Rattle.poll_book.specs.Tables.{Key, Readings, Sums, Tables, readings_between}
+use Rattle.poll_book.specs.Totals.{is_counter, stored_total}
 use Rattle.poll_book.specs.declared.rows.OrderState.{OrderState}
 use Rattle.poll_book.specs.declared.rows.OrderState.TheVariants.{Waiting, Done, Refused}
 use Rattle.poll_book.specs.declared.rows.Setting.{Setting}
@@ -91,11 +91,11 @@ reading_line known row =
 abbrev pub reading_lines : Readings → PointRow → List ℕ
 reading_lines table known = flat_map (reading_line known) (readings_between known.number 0 4294967295 table)
 
--- how far a counter went, with its scale; nothing for another point
-abbrev pub total_line : Readings → PointRow → List ℕ
-total_line table known =
+-- what is stored of how far a counter went, with its scale; nothing for another point
+abbrev pub total_line : Sums → PointRow → List ℕ
+total_line totals known =
     if is_counter known.point.role
-    then codes "total " ++ known.point.name ++ 32 ∷ scaled (pos (total known table)) known.point.scale ++ line_end
+    then codes "total " ++ known.point.name ++ 32 ∷ scaled (pos (stored_total totals known.number)) known.point.scale ++ line_end
     else []
 
 -- how an order stands
@@ -124,4 +124,4 @@ order_lines table = orders_to table (last_order table)
 -- the readings of all points, and then the totals of the counters, by the numbers of the points, and then the orders
 abbrev pub report_of : Tables → List ℕ
 report_of kept =
-    flat_map (reading_lines kept.readings) kept.points ++ flat_map (total_line kept.readings) kept.points ++ order_lines kept.settings
+    flat_map (reading_lines kept.readings) kept.points ++ flat_map (total_line kept.totals) kept.points ++ order_lines kept.settings

@@ -1,5 +1,5 @@
 -- The words of a line, and what a word spells.
-use Rattle.std.specs.Prelude.{ℕ, ℤ, ◌+◌, ◌*◌, List, [], ◌∷◌, Bool, ◌&&◌, Option, Some, None, option_map, if◌then◌else◌, nat_lt, length, map, ◌==◌, get_or}
+use Rattle.std.specs.Prelude.{ℕ, ℤ, ◌+◌, ◌*◌, List, [], ◌∷◌, Bool, ◌&&◌, Option, Some, None, if◌then◌else◌, nat_lt, length, map, ◌==◌, get_or}
 use Rattle.std.specs.Char.{is_ascii}
 use Rattle.std.specs.List.{list_all, slice_split}
 use Rattle.std.specs.Borrow.{Bor}

@@ -103,7 +103,7 @@ fn push_total(
     keeper: &mut MemKeeper,
     known: &PointRow,
 ) -> Result<(), AllocError>
-    ensures text { OnOk result (out.new.items ≡ out.old.items ++ total_line keeper.old.0.readings known.now) }
+    ensures text { OnOk result (out.new.items ≡ out.old.items ++ total_line keeper.old.0.totals known.now) }
     ensures same { keeper.new.0 ≡ keeper.old.0 }
 {
     if known.point.role != Role::Counter {
@@ -137,7 +137,7 @@ fn push_all_totals(
     keeper: &mut MemKeeper,
     points: &[PointRow],
 ) -> Result<(), AllocError>
-    ensures text { OnOk result (out.new.items ≡ out.old.items ++ flat_map (total_line keeper.old.0.readings) points.now) }
+    ensures text { OnOk result (out.new.items ≡ out.old.items ++ flat_map (total_line keeper.old.0.totals) points.now) }
     ensures same { keeper.new.0 ≡ keeper.old.0 }
 {
     for known in points {

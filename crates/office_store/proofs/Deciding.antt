@@ -24,13 +24,13 @@ use Rattle.sqlite_schema.specs.declared.schema.Schema.{Schema}
 use Rattle.sqlite_schema.specs.contracts.schema.Schema as schema
 use Rattle.sqlite_catalog.specs.Listing.{Lists}
 use Rattle.sqlite_catalog.proofs.ReadLemmas.{lists_once}
-use Rattle.poll_book.specs.Tables.{Tables, Readings, key_cmp}
+use Rattle.poll_book.specs.Tables.{Tables, Readings, Sums, key_cmp}
 use Rattle.poll_book.specs.Requests.{Requests, request_cmp}
 use Rattle.poll_book.specs.Orders.{Settings}
 use Rattle.poll_book.specs.declared.rows.PointRow.{PointRow}
-use Rattle.office_store.specs.Schema.{office_schema, meta_tree, point_tree, reading_tree, setting_tree, request_tree}
-use Rattle.office_store.specs.Rows.{stored_point, stored_reading, stored_setting, stored_request}
-use Rattle.office_store.specs.Kept.{AreReadings, AreRequests, ArePoints, AreSettings, AreNumbers, IsOffice, StandFor, number_rows}
+use Rattle.office_store.specs.Schema.{office_schema, meta_tree, point_tree, reading_tree, setting_tree, request_tree, total_tree}
+use Rattle.office_store.specs.Rows.{stored_point, stored_reading, stored_setting, stored_request, stored_sum}
+use Rattle.office_store.specs.Kept.{AreReadings, AreRequests, ArePoints, AreSettings, AreTotals, AreNumbers, IsOffice, StandFor, number_rows}
 use Rattle.office_store.proofs.ByKey.{requests_total}
 use Rattle.office_store.proofs.Putting.{put_same}
 use Rattle.office_store.proofs.Showing.{same_list}
@@ -179,6 +179,12 @@ settings_decided db = elim (in_order stored_setting (λ es. rows.is_sorted nat_c
   | inr not ↦ inr (λ it. not (it.0, it.1.stored, it.1.sorted))
 ]
 
+totals_decided : (db : Trees) → Decided ((kept : Sums) × AreTotals db kept)
+totals_decided db = elim (in_order stored_sum (λ es. rows.is_sorted nat_cmp es) (db total_tree)) [
+  | inl it ↦ inl (it.0, record { stored = it.1; sorted = it.2 })
+  | inr not ↦ inr (λ it. not (it.0, it.1.stored, it.1.sorted))
+]
+
 number_in : Value → ℕ
 number_in (Int (pos n)) = n
 number_in _ = 0
@@ -205,7 +211,10 @@ stands_decided db = elim (points_decided db) [
         | inr not ↦ inr (λ it. not (it.0.requests, it.1.requests))
         | inl d ↦ elim (numbers_decided db) [
           | inr not ↦ inr (λ it. not (it.0.connections, it.1.numbers))
-          | inl e ↦ inl (record { points = a.0; readings = b.0; settings = c.0; requests = d.0; connections = e.0 }, record { points = a.1; readings = b.1; settings = c.1; requests = d.1; numbers = e.1 })
+          | inl e ↦ elim (totals_decided db) [
+            | inr not ↦ inr (λ it. not (it.0.totals, it.1.totals))
+            | inl f ↦ inl (record { points = a.0; readings = b.0; totals = f.0; settings = c.0; requests = d.0; connections = e.0 }, record { points = a.1; readings = b.1; settings = c.1; requests = d.1; totals = f.1; numbers = e.1 })
+          ]
         ]
       ]
     ]

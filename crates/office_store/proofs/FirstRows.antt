@@ -25,7 +25,7 @@ use Rattle.sqlite.proofs.Callers.{runs_as, one_step, statement_of}
 use Rattle.poll_book.specs.Tables.{no_tables}
 use Rattle.office_store.specs.Schema.{meta, office_schema}
 use Rattle.office_store.specs.Blank.{AreBlank}
-use Rattle.office_store.specs.Rows.{stored_point, stored_reading, stored_setting, stored_request}
+use Rattle.office_store.specs.Rows.{stored_point, stored_reading, stored_setting, stored_request, stored_sum}
 use Rattle.office_store.specs.Kept.{StandFor, number_rows}
 use Rattle.office_store.proofs.Texts.{numbers_text, numbers_terms, numbers_are}
 use Rattle.office_store.proofs.Tables.{went, same_value}
@@ -80,13 +80,15 @@ puts_numbers old new (Ok count) blank h =
     let points = at 2 ∙ rest.0 (λ e. absurd (omega (arith, e))) ∙ blank.point in
     let readings = at 4 ∙ rest.1.0 (λ e. absurd (omega (arith, e))) ∙ blank.reading in
     let settings = at 6 ∙ rest.1.1.0 (λ e. absurd (omega (arith, e))) ∙ blank.setting in
-    let requests = at 7 ∙ rest.1.1.1.0 (λ e. absurd (omega (arith, e))) ∙ blank.request in (
+    let requests = at 7 ∙ rest.1.1.1.0 (λ e. absurd (omega (arith, e))) ∙ blank.request in
+    let totals = at 9 ∙ rest.1.1.1.1.0 (λ e. absurd (omega (arith, e))) ∙ blank.total in (
       ap (λ (d : Database). d.schema) now,
       record {
         points = record { stored = ap (map stored_point) points; sorted = tt };
         readings = record { entries = []; stored = ap (map stored_reading) readings; same = IsPermutation-refl []; sorted = tt };
         settings = record { stored = ap (map stored_setting) settings; sorted = tt };
         requests = record { entries = []; stored = ap (map stored_request) requests; same = IsPermutation-refl []; sorted = tt };
+        totals = record { stored = ap (map stored_sum) totals; sorted = tt };
         numbers = at 0 ∙ made.rows ∙ filled db blank.meta;
       },
     )

@@ -37,3 +37,8 @@ mod Deciding
 mod Keeping
 mod AllWaiting
 mod Noting
+mod Inserting
+mod PutTotal
+mod SetTotal
+mod FirstTotals
+mod ShownTotals

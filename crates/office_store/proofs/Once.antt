@@ -32,6 +32,7 @@ same_number a b h = cc
 pub once : (db : Trees) (a b : Tables) → StandFor db a → StandFor db b → a ≡ b
 once db a b x y =
     let points = same_list a.points b.points (sym x.points.stored ∙ y.points.stored) in
+    let totals = same_list a.totals b.totals (sym x.totals.stored ∙ y.totals.stored) in
     let settings = same_list a.settings b.settings (sym x.settings.stored ∙ y.settings.stored) in
     let read : x.readings.entries ≡ y.readings.entries = same_list x.readings.entries y.readings.entries (sym x.readings.stored ∙ y.readings.stored) in
     let asked : x.requests.entries ≡ y.requests.entries = same_list x.requests.entries y.requests.entries (sym x.requests.stored ∙ y.requests.stored) in
@@ -39,5 +40,6 @@ once db a b x y =
     let requests = one_order request_cmp requests_total requests_exact a.requests b.requests y.requests.entries x.requests.sorted y.requests.sorted (rw (sym asked) x.requests.same) y.requests.same in
     let numbers = same_number a.connections b.connections (sym x.numbers ∙ y.numbers) in
     ap (λ p. record a { points = p }) points ∙ ap (λ p. record a { points = b.points; readings = p }) readings
-    ∙ ap (λ p. record a { points = b.points; readings = b.readings; settings = p }) settings
+    ∙ ap (λ p. record a { points = b.points; readings = b.readings; totals = p }) totals
+    ∙ ap (λ p. record a { points = b.points; readings = b.readings; totals = b.totals; settings = p }) settings
     ∙ ap (λ p. record b { requests = p; connections = a.connections }) requests ∙ ap (λ p. record b { connections = p }) numbers

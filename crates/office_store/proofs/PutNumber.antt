@@ -25,7 +25,7 @@ use Rattle.sqlite.specs.State.{State, mode_of, Executes, Shows}
 use Rattle.sqlite.proofs.Callers.{runs_as, one_step, one_permutation, statement_of}
 use Rattle.poll_book.specs.Tables.{Tables}
 use Rattle.office_store.specs.Schema.{meta, office_schema}
-use Rattle.office_store.specs.Rows.{stored_point, stored_reading, stored_setting, stored_request}
+use Rattle.office_store.specs.Rows.{stored_point, stored_reading, stored_setting, stored_request, stored_sum}
 use Rattle.office_store.specs.Kept.{number_rows}
 use Rattle.office_store.specs.Writing.{Within}
 use Rattle.office_store.proofs.Texts.{put_connection_text, put_connection_query, put_connection_is}
@@ -96,6 +96,7 @@ module _ (number : ℕ) where
       let readings = at 4 ∙ rest.1.0 (λ e. absurd (omega (arith, e))) in
       let settings = at 6 ∙ rest.1.1.0 (λ e. absurd (omega (arith, e))) in
       let requests = at 7 ∙ rest.1.1.1.0 (λ e. absurd (omega (arith, e))) in
+      let totals = at 9 ∙ rest.1.1.1.1.0 (λ e. absurd (omega (arith, e))) in
       record {
         is_open = h.1.is_open;
         inside = h.1.mode;
@@ -107,6 +108,7 @@ module _ (number : ℕ) where
           readings = record { entries = was.readings.entries; stored = ap (map stored_reading) readings ∙ was.readings.stored; same = was.readings.same; sorted = was.readings.sorted };
           settings = record { stored = ap (map stored_setting) settings ∙ was.settings.stored; sorted = was.settings.sorted };
           requests = record { entries = was.requests.entries; stored = ap (map stored_request) requests ∙ was.requests.stored; same = was.requests.same; sorted = was.requests.sorted };
+          totals = record { stored = ap (map stored_sum) totals ∙ was.totals.stored; sorted = was.totals.sorted };
           numbers = at 0 ∙ made.rows ∙ filled db kept.connections was.numbers;
         };
       }

@@ -40,7 +40,7 @@ use Rattle.poll_book.specs.declared.rows.PointRow.{PointRow}
 use Rattle.poll_book.specs.Tables.{Tables}
 use Rattle.office_store.specs.PointNumbers.{table_number, role_number}
 use Rattle.office_store.specs.Schema.{point as point_schema, office_schema}
-use Rattle.office_store.specs.Rows.{stored_reading, stored_point, stored_setting, stored_request, number_below, table_coded, role_coded, kind_of, small_of, long_of}
+use Rattle.office_store.specs.Rows.{stored_reading, stored_point, stored_setting, stored_request, stored_sum, number_below, table_coded, role_coded, kind_of, small_of, long_of}
 use Rattle.office_store.specs.Writing.{Within}
 use Rattle.office_store.proofs.Texts.{put_point_text, put_point_terms, put_point_is}
 use Rattle.office_store.proofs.Tables.{went, same_value}
@@ -162,6 +162,7 @@ module _ (n : ℕ) (point : Point) where
       let readings = at 4 ∙ others.1.1.0 (λ e. absurd (omega (arith, e))) in
       let settings = at 6 ∙ others.1.1.1.0 (λ e. absurd (omega (arith, e))) in
       let requests = at 7 ∙ others.1.1.1.1.0 (λ e. absurd (omega (arith, e))) in
+      let totals = at 9 ∙ others.1.1.1.1.1.0 (λ e. absurd (omega (arith, e))) in
       let was = within.stands in
       record {
         is_open = h.1.is_open;
@@ -177,6 +178,7 @@ module _ (n : ℕ) (point : Point) where
           readings = record { entries = was.readings.entries; stored = ap (map stored_reading) readings ∙ was.readings.stored; same = was.readings.same; sorted = was.readings.sorted };
           settings = record { stored = ap (map stored_setting) settings ∙ was.settings.stored; sorted = was.settings.sorted };
           requests = record { entries = was.requests.entries; stored = ap (map stored_request) requests ∙ was.requests.stored; same = was.requests.same; sorted = was.requests.sorted };
+          totals = record { stored = ap (map stored_sum) totals ∙ was.totals.stored; sorted = was.totals.sorted };
           numbers = meta ∙ was.numbers;
         };
       }

@@ -23,7 +23,7 @@ use Rattle.sqlite.proofs.Callers.{runs_as, one_step, statement_of}
 use Rattle.poll_book.specs.declared.rows.Reading.{Reading}
 use Rattle.poll_book.specs.Tables.{Key, Tables, key_cmp, reading_at, with_row}
 use Rattle.office_store.specs.Schema.{reading, office_schema}
-use Rattle.office_store.specs.Rows.{stored_reading, stored_point, stored_setting, stored_request, flag_of, register_bytes}
+use Rattle.office_store.specs.Rows.{stored_reading, stored_point, stored_setting, stored_request, stored_sum, flag_of, register_bytes}
 use Rattle.office_store.specs.Writing.{Within}
 use Rattle.office_store.proofs.Texts.{put_reading_text, put_reading_terms, put_reading_is}
 use Rattle.office_store.proofs.Tables.{went, same_value}
@@ -82,6 +82,7 @@ module _ (p s : ℕ) (words : List ℕ) (flag : Bool) where
       let points = at 2 ∙ others.1.0 (λ e. absurd (omega (arith, e))) in
       let settings = at 6 ∙ others.1.1.1.0 (λ e. absurd (omega (arith, e))) in
       let requests = at 7 ∙ others.1.1.1.1.0 (λ e. absurd (omega (arith, e))) in
+      let totals = at 9 ∙ others.1.1.1.1.1.0 (λ e. absurd (omega (arith, e))) in
       let was = within.stands in
       let put = put_entry stored_reading (added (db 4)) entry (entry_added (db 4) a b some few) (db 4) was.readings.entries was.readings.stored free in
       record {
@@ -100,6 +101,7 @@ module _ (p s : ℕ) (words : List ℕ) (flag : Bool) where
           };
           settings = record { stored = ap (map stored_setting) settings ∙ was.settings.stored; sorted = was.settings.sorted };
           requests = record { entries = was.requests.entries; stored = ap (map stored_request) requests ∙ was.requests.stored; same = was.requests.same; sorted = was.requests.sorted };
+          totals = record { stored = ap (map stored_sum) totals ∙ was.totals.stored; sorted = was.totals.sorted };
           numbers = meta ∙ was.numbers;
         };
       }

@@ -26,7 +26,7 @@ use Rattle.poll_book.specs.declared.requests.Request.{Request}
 use Rattle.poll_book.specs.Requests.{RequestKey, request_cmp, request_at, with_request}
 use Rattle.poll_book.specs.Tables.{Tables}
 use Rattle.office_store.specs.Schema.{request, office_schema}
-use Rattle.office_store.specs.Rows.{stored_reading, stored_point, stored_setting, stored_request, text_that, body_of, outcome_of}
+use Rattle.office_store.specs.Rows.{stored_reading, stored_point, stored_setting, stored_request, stored_sum, text_that, body_of, outcome_of}
 use Rattle.office_store.specs.Writing.{Within}
 use Rattle.office_store.proofs.Texts.{put_request_text, put_request_terms, put_request_is}
 use Rattle.office_store.proofs.Tables.{went, same_value}
@@ -91,6 +91,7 @@ module _ (kind : ℕ) (bytes : List ℕ) (answer a b c : ℕ) (e : RequestKey ×
       let points = at 2 ∙ others.1.0 (λ e. absurd (omega (arith, e))) in
       let readings = at 4 ∙ others.1.1.0 (λ e. absurd (omega (arith, e))) in
       let settings = at 6 ∙ others.1.1.1.0 (λ e. absurd (omega (arith, e))) in
+      let totals = at 9 ∙ others.1.1.1.1.1.0 (λ e. absurd (omega (arith, e))) in
       let was = within.stands in
       let put = put_entry stored_request (added (db 7)) e (request_added (db 7) coded) (db 7) was.requests.entries was.requests.stored free in
       record {
@@ -109,6 +110,7 @@ module _ (kind : ℕ) (bytes : List ℕ) (answer a b c : ℕ) (e : RequestKey ×
             same = put_same request_cmp e.0 e.1 was.requests.entries put.entries kept.requests was.requests.same none put.same;
             sorted = rows.is_sorted-put request_cmp requests_total e.0 e.1 kept.requests was.requests.sorted;
           };
+          totals = record { stored = ap (map stored_sum) totals ∙ was.totals.stored; sorted = was.totals.sorted };
           numbers = meta ∙ was.numbers;
         };
       }

@@ -23,7 +23,7 @@ use Rattle.sqlite.specs.State.{State, mode_of, Executes, Shows}
 use Rattle.sqlite.proofs.Callers.{runs_as, one_step, statement_of}
 use Rattle.poll_book.specs.Tables.{Tables}
 use Rattle.office_store.specs.Schema.{setting, office_schema}
-use Rattle.office_store.specs.Rows.{stored_reading, stored_point, stored_setting, stored_request, state_of, register_bytes}
+use Rattle.office_store.specs.Rows.{stored_reading, stored_point, stored_setting, stored_request, stored_sum, state_of, register_bytes}
 use Rattle.office_store.specs.Writing.{Within}
 use Rattle.office_store.proofs.Texts.{put_setting_text, put_setting_terms, put_setting_is}
 use Rattle.office_store.proofs.Tables.{went, same_value}
@@ -86,6 +86,7 @@ module _ (n p : ℕ) (words : List ℕ) (standing : OrderState) where
       let points = at 2 ∙ others.1.0 (λ e. absurd (omega (arith, e))) in
       let readings = at 4 ∙ others.1.1.0 (λ e. absurd (omega (arith, e))) in
       let requests = at 7 ∙ others.1.1.1.1.0 (λ e. absurd (omega (arith, e))) in
+      let totals = at 9 ∙ others.1.1.1.1.1.0 (λ e. absurd (omega (arith, e))) in
       let was = within.stands in
       let below = subst (λ m. AllByRecursion (λ e. e.0 < m) kept.settings) (sym next) (below_next kept.settings was.settings.sorted) in
       let stored = stands_last stored_setting setting_key added n value refl (setting_added a b low some few) (db 6) kept.settings was.settings.stored below in
@@ -100,6 +101,7 @@ module _ (n p : ℕ) (words : List ℕ) (standing : OrderState) where
           readings = record { entries = was.readings.entries; stored = ap (map stored_reading) readings ∙ was.readings.stored; same = was.readings.same; sorted = was.readings.sorted };
           settings = record { stored = ap (map stored_setting) at_six ∙ stored; sorted = rows.is_sorted-put nat_cmp nat_cmp_total n value kept.settings was.settings.sorted };
           requests = record { entries = was.requests.entries; stored = ap (map stored_request) requests ∙ was.requests.stored; same = was.requests.same; sorted = was.requests.sorted };
+          totals = record { stored = ap (map stored_sum) totals ∙ was.totals.stored; sorted = was.totals.sorted };
           numbers = meta ∙ was.numbers;
         };
       }

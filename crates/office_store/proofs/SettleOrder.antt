@@ -24,7 +24,7 @@ use Rattle.sqlite.specs.State.{State, mode_of, Executes, Shows}
 use Rattle.sqlite.proofs.Callers.{runs_as, one_step, one_permutation, statement_of}
 use Rattle.poll_book.specs.Tables.{Tables}
 use Rattle.office_store.specs.Schema.{office_schema}
-use Rattle.office_store.specs.Rows.{stored_point, stored_reading, stored_setting, stored_request, number_of, words_of, state_of}
+use Rattle.office_store.specs.Rows.{stored_point, stored_reading, stored_setting, stored_request, stored_sum, number_of, words_of, state_of}
 use Rattle.office_store.specs.Writing.{Within}
 use Rattle.office_store.proofs.Texts.{settle_text, settle_query, settle_is}
 use Rattle.office_store.proofs.Tables.{went, same_value}
@@ -138,6 +138,7 @@ module _ (n : ℕ) (standing : OrderState) where
         let points = at 2 ∙ others.1.0 (λ e. absurd (omega (arith, e))) in
         let readings = at 4 ∙ others.1.1.0 (λ e. absurd (omega (arith, e))) in
         let requests = at 7 ∙ others.1.1.1.1.0 (λ e. absurd (omega (arith, e))) in
+        let totals = at 9 ∙ others.1.1.1.1.1.0 (λ e. absurd (omega (arith, e))) in
         let at_six = at 6 ∙ made.rows ∙ ap (put_all (without_rowid (pos n) (db 6))) (news db it.row parts.0 parts.1 it.hit) in
         record {
           is_open = h.1.is_open;
@@ -150,6 +151,7 @@ module _ (n : ℕ) (standing : OrderState) where
             readings = record { entries = was.readings.entries; stored = ap (map stored_reading) readings ∙ was.readings.stored; same = was.readings.same; sorted = was.readings.sorted };
             settings = record { stored = ap (map stored_setting) at_six ∙ it.put (changed it.row) (refl, parts.2); sorted = rows.is_sorted-put nat_cmp nat_cmp_total n after kept.settings was.settings.sorted };
             requests = record { entries = was.requests.entries; stored = ap (map stored_request) requests ∙ was.requests.stored; same = was.requests.same; sorted = was.requests.sorted };
+            totals = record { stored = ap (map stored_sum) totals ∙ was.totals.stored; sorted = was.totals.sorted };
             numbers = meta ∙ was.numbers;
           };
         }

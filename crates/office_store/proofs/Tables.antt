@@ -10,9 +10,9 @@ use Rattle.sqlite.specs.Effect.{Database}
 use Rattle.sqlite.specs.Does.{Tally, lacks_sequence}
 use Rattle.sqlite.specs.State.{State, Writes, Executes, Shows}
 use Rattle.sqlite.proofs.Callers.{runs_as}
-use Rattle.office_store.specs.Schema.{meta_text, point_text, reading_text, setting_text, request_text, meta, point, reading, setting, request, no_schema}
+use Rattle.office_store.specs.Schema.{meta_text, point_text, reading_text, setting_text, request_text, total_text, meta, point, reading, setting, request, total, no_schema}
 use Rattle.office_store.specs.Blank.{first_schema, AreFirst, AreBlank}
-use Rattle.office_store.proofs.Texts.{IsMade, tables_are, one, two, four, meta_made, point_made, reading_made, setting_made, request_made}
+use Rattle.office_store.proofs.Texts.{IsMade, tables_are, one, two, four, five, meta_made, point_made, reading_made, setting_made, request_made, total_made}
 
 -- a part that gave a value wasn't stopped
 pub went : {B E R : Type 0} {b : B} {Stops : E → Type 0} → ((stop : E) × Stops stop × (Ok b ≡ Err stop)) ⊎ R → R
@@ -54,17 +54,19 @@ makes_first a b c d k l (Ok n) none h1 h2 h3 =
     record { schema = m3.schema_is; meta = m3.others.0 ∙ m2.others.0 ∙ m1.empty; point = m3.others.1.0 ∙ m2.empty; reading = m3.empty }
 makes_first a b c d k l (Err e) none h1 h2 h3 = tt
 
-pub makes_others : (a b c : State) (k : ℕ) (r : Result ℕ StoreFault) → AreFirst a.now → Executes setting_text [] a b (Ok k)
-    → IfOk r (λ n. Executes request_text [] b c (Ok n) × Shows b c c.now b.committed true) → OnOk r (AreBlank c.now)
-makes_others a b c k (Ok n) first h1 h2 =
+pub makes_others : (a b c d : State) (k l : ℕ) (r : Result ℕ StoreFault) → AreFirst a.now → Executes setting_text [] a b (Ok k) → Executes request_text [] b c (Ok l)
+    → IfOk r (λ n. Executes total_text [] c d (Ok n) × Shows c d d.now c.committed true) → OnOk r (AreBlank d.now)
+makes_others a b c d k l (Ok n) first h1 h2 h3 =
     let m1 = makes first_schema setting setting_text tables_are.3 setting_made refl a b k first.schema h1 in
-    let m2 = makes four request request_text tables_are.4 request_made refl b c n m1.schema_is h2.0 in
+    let m2 = makes four request request_text tables_are.4 request_made refl b c l m1.schema_is h2 in
+    let m3 = makes five total total_text tables_are.5 total_made refl c d n m2.schema_is h3.0 in
     record {
-      schema = m2.schema_is;
-      meta = m2.others.0 ∙ m1.others.0 ∙ first.meta;
-      point = m2.others.1.0 ∙ m1.others.1.0 ∙ first.point;
-      reading = m2.others.1.1.0 ∙ m1.others.1.1.0 ∙ first.reading;
-      setting = m2.others.1.1.1.0 ∙ m1.empty;
-      request = m2.empty;
+      schema = m3.schema_is;
+      meta = m3.others.0 ∙ m2.others.0 ∙ m1.others.0 ∙ first.meta;
+      point = m3.others.1.0 ∙ m2.others.1.0 ∙ m1.others.1.0 ∙ first.point;
+      reading = m3.others.1.1.0 ∙ m2.others.1.1.0 ∙ m1.others.1.1.0 ∙ first.reading;
+      setting = m3.others.1.1.1.0 ∙ m2.others.1.1.1.0 ∙ m1.empty;
+      request = m3.others.1.1.1.1.0 ∙ m2.empty;
+      total = m3.empty;
     }
-makes_others a b c k (Err e) first h1 h2 = tt
+makes_others a b c d k l (Err e) first h1 h2 h3 = tt

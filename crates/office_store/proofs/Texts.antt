@@ -14,12 +14,12 @@ use Rattle.sqlite_schema.specs.declared.command.Command.TheVariants.{CreateTable
 use Rattle.sqlite_schema.specs.declared.command.Source.TheVariants.{Values}
 use Rattle.sqlite_schema.specs.declared.schema.Schema.{Schema}
 use Rattle.sqlite_catalog.specs.Change.{created}
-use Rattle.office_store.specs.Schema.{meta_text, point_text, reading_text, setting_text, request_text, meta, point, reading, setting, request, no_schema, office_schema}
+use Rattle.office_store.specs.Schema.{meta_text, point_text, reading_text, setting_text, request_text, total_text, meta, point, reading, setting, request, total, no_schema, office_schema}
 use Rattle.office_store.specs.Blank.{first_schema}
 
-pub tables_are : (table_defined_by meta_text ≡ Ok meta) × (table_defined_by point_text ≡ Ok point) × (table_defined_by reading_text ≡ Ok reading) × (table_defined_by setting_text ≡ Ok setting) × (table_defined_by request_text ≡ Ok request)
+pub tables_are : (table_defined_by meta_text ≡ Ok meta) × (table_defined_by point_text ≡ Ok point) × (table_defined_by reading_text ≡ Ok reading) × (table_defined_by setting_text ≡ Ok setting) × (table_defined_by request_text ≡ Ok request) × (table_defined_by total_text ≡ Ok total)
 unfolding everything
-tables_are = (refl, refl, refl, refl, refl)
+tables_are = (refl, refl, refl, refl, refl, refl)
 
 abbrev pub one : Schema
 one = created no_schema meta
@@ -29,6 +29,9 @@ two = created one point
 
 abbrev pub four : Schema
 four = created first_schema setting
+
+abbrev pub five : Schema
+five = created four request
 
 abbrev pub IsMade : Schema → List ℕ → Type 0
 IsMade schema text = (command_of (understood schema text) ≡ CreateTable) × (statement_of text (understood schema text) ≡ text) × IsPlain (understood schema text)
@@ -52,6 +55,10 @@ setting_made = (refl, refl, (refl, refl))
 pub request_made : IsMade four request_text
 unfolding understood everything
 request_made = (refl, refl, (refl, refl))
+
+pub total_made : IsMade five total_text
+unfolding understood everything
+total_made = (refl, refl, (refl, refl))
 
 abbrev pub numbers_text : List ℕ
 numbers_text = codes "INSERT INTO meta(name, value) VALUES ('version', 1), ('connections', 0)"
@@ -122,6 +129,36 @@ settle_query = record {
 pub settle_is : (command_of (understood office_schema settle_text) ≡ Update 3 (record { lets = []; body = settle_query })) × IsPlain (understood office_schema settle_text)
 unfolding understood everything
 settle_is = (refl, (refl, refl))
+
+abbrev pub put_total_text : List ℕ
+put_total_text = codes "INSERT INTO total(point, value) VALUES (?1, ?2)"
+
+abbrev pub put_total_terms : List Term
+put_total_terms = col 0 0 ∷ lit Null ∷ col 0 1 ∷ []
+
+pub put_total_is : (command_of (understood office_schema put_total_text) ≡ Insert 5 (Values put_total_terms 3)) × IsPlain (understood office_schema put_total_text)
+unfolding understood everything
+put_total_is = (refl, (refl, refl))
+
+abbrev pub set_total_text : List ℕ
+set_total_text = codes "UPDATE total SET value = ?2 WHERE point = ?1"
+
+abbrev pub set_total_query : Query
+set_total_query = record {
+  from = inner 9 end;
+  filter = op2 (Compare Eq Binary) (col 1 0) (col 0 0) ∷ [];
+  group = None;
+  project = col 1 0 ∷ col 1 0 ∷ lit Null ∷ col 0 1 ∷ [];
+  distinct = false;
+  collations = [];
+  order = [];
+  limit = lit (Int (negsuc 0));
+  offset = lit (Int (pos 0));
+}
+
+pub set_total_is : (command_of (understood office_schema set_total_text) ≡ Update 5 (record { lets = []; body = set_total_query })) × IsPlain (understood office_schema set_total_text)
+unfolding understood everything
+set_total_is = (refl, (refl, refl))
 
 abbrev pub put_request_text : List ℕ
 put_request_text = codes "INSERT INTO request(caller, rkey, kind, body, answer, a, b, c) VALUES (?1, ?2, ?3, ?4, ?5, ?6, ?7, ?8)"

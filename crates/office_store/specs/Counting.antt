@@ -1,5 +1,5 @@
--- The numbers that count of a point's readings.
-use Rattle.std.specs.Prelude.{◌≡◌, ℕ, List, [], ◌∷◌, filter_map, Option, Some, None, if◌then◌else◌}
+-- The number of a reading that counts.
+use Rattle.std.specs.Prelude.{◌≡◌, ℕ, List, [], ◌∷◌, Option, Some, None, if◌then◌else◌}
 use Rattle.point_list.specs.declared.point.Point.{Point}
 use Rattle.sqlite_value.specs.Order.{Row}
 use Rattle.poll_book.specs.declared.rows.Reading.{Reading}
@@ -10,9 +10,6 @@ use Rattle.office_store.specs.Rows.{shown_reading}
 
 abbrev pub number_in : Point → ReadingRow → Option ℕ
 number_in point row = if row.counted then counted_number point row.words else None
-
-abbrev pub numbers_in : Point → List ReadingRow → List ℕ
-numbers_in point rows = filter_map (number_in point) rows
 
 -- an answer shows no reading, or this one, which counts
 abbrev pub ShowValue : Point → List Row → Option ℕ → Type 0

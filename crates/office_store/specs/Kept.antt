@@ -12,11 +12,11 @@ use Rattle.sqlite_catalog.specs.Listing.{Lists}
 use Rattle.sqlite.specs.Listing.{understood}
 use Rattle.sqlite.specs.State.{State, HasCleanDisk}
 use Rattle.poll_book.specs.declared.rows.PointRow.{PointRow}
-use Rattle.poll_book.specs.Tables.{Tables, Readings, key_cmp}
+use Rattle.poll_book.specs.Tables.{Tables, Readings, Sums, key_cmp}
 use Rattle.poll_book.specs.Orders.{Settings}
 use Rattle.poll_book.specs.Requests.{Requests, request_cmp}
-use Rattle.office_store.specs.Schema.{office_schema, meta_tree, point_tree, reading_tree, setting_tree, request_tree}
-use Rattle.office_store.specs.Rows.{stored_point, stored_reading, stored_setting, stored_request}
+use Rattle.office_store.specs.Schema.{office_schema, meta_tree, point_tree, reading_tree, setting_tree, request_tree, total_tree}
+use Rattle.office_store.specs.Rows.{stored_point, stored_reading, stored_setting, stored_request, stored_sum}
 
 -- each row of the table stands for its entry, and the map has these entries, in the order of their keys
 pub record AreReadings (db : Trees) (kept : Readings) : Type 0 where
@@ -40,6 +40,10 @@ pub record AreSettings (db : Trees) (kept : Settings) : Type 0 where
   pub stored : map stored_setting (db setting_tree) ≡ map Some kept
   pub sorted : T (is_sorted nat_cmp kept)
 
+pub record AreTotals (db : Trees) (kept : Sums) : Type 0 where
+  pub stored : map stored_sum (db total_tree) ≡ map Some kept
+  pub sorted : T (is_sorted nat_cmp kept)
+
 -- the version, and the number of the last connection
 abbrev pub number_rows : ℕ → List Row
 number_rows connections = (Int (pos 1) ∷ Text (codes "version") ∷ Int (pos 1) ∷ []) ∷ (Int (pos 2) ∷ Text (codes "connections") ∷ Int (pos connections) ∷ []) ∷ []
@@ -47,12 +51,13 @@ number_rows connections = (Int (pos 1) ∷ Text (codes "version") ∷ Int (pos 1
 abbrev pub AreNumbers : Trees → ℕ → Type 0
 AreNumbers db connections = db meta_tree ≡ number_rows connections
 
--- the rows of the tables stand for these five parts, and nothing else is there
+-- the rows of the tables stand for these six parts, and nothing else is there
 pub record StandFor (db : Trees) (kept : Tables) : Type 0 where
   pub points : ArePoints db kept.points
   pub readings : AreReadings db kept.readings
   pub settings : AreSettings db kept.settings
   pub requests : AreRequests db kept.requests
+  pub totals : AreTotals db kept.totals
   pub numbers : AreNumbers db kept.connections
 
 -- the tables are an office's and stand for what is kept, and nothing waits for a commit

@@ -1,5 +1,5 @@
 -- What a row of each table stands for, if it is in the form.
-use Rattle.std.specs.Prelude.{ℕ, ℤ, pos, negsuc, ◌+◌, ◌*◌, ◌/◌, ◌%◌, ◌^◌, ◌&&◌, nat_lt, nat_le, ◌==◌, Bool, true, false, List, [], ◌∷◌, length, take, drop, Option, Some, None, option_and_then, option_map, if◌then◌else◌}
+use Rattle.std.specs.Prelude.{◌≡◌, ◌≤◌, ℕ, ℤ, pos, negsuc, ◌+◌, ◌*◌, ◌/◌, ◌%◌, ◌^◌, ◌&&◌, nat_lt, nat_le, ◌==◌, Bool, true, false, List, [], ◌∷◌, length, take, drop, Option, Some, None, option_and_then, option_map, if◌then◌else◌}
 use Rattle.std.specs.Str.{is_utf8}
 use Rattle.std.specs.Int.{w64, w128, from_be_bytes, cast_signed}
 use Rattle.sqlite_value.specs.declared.value.Value.{Value}
@@ -7,7 +7,8 @@ use Rattle.sqlite_value.specs.declared.value.Value.TheVariants.{Int, Text, Blob}
 use Rattle.sqlite_value.specs.Order.{Row, column}
 use Rattle.mb_pdu.specs.declared.table.Table.{Table}
 use Rattle.mb_pdu.specs.declared.table.Table.TheVariants.{Coil, Discrete, Input, Holding}
-use Rattle.sunspec.specs.PointType.{row, coded}
+use Rattle.sunspec.specs.PointType.{row, coded, IsSized}
+use Rattle.sunspec.specs.Text.{IsScale}
 use Rattle.sunspec.specs.declared.point_type.PointType.{PointType}
 use Rattle.sunspec.specs.declared.point_type.PointType.TheVariants.{Str}
 use Rattle.point_list.specs.Name.{is_name}
@@ -21,6 +22,7 @@ use Rattle.poll_book.specs.declared.rows.Setting.{Setting}
 use Rattle.poll_book.specs.declared.rows.OrderState.{OrderState}
 use Rattle.poll_book.specs.declared.rows.OrderState.TheVariants.{Waiting, Done, Refused}
 use Rattle.poll_book.specs.Tables.{Key}
+use Rattle.poll_book.specs.Totals.{is_counter}
 use Rattle.poll_book.specs.Callers.{is_caller, is_key}
 use Rattle.poll_book.specs.Requests.{RequestKey}
 use Rattle.poll_book.specs.declared.requests.Request.{Request}
@@ -118,6 +120,15 @@ stored_point r = point_from (column r 0) 2 r
 abbrev pub shown_point : Row → Option PointRow
 shown_point r = point_from (column r 0) 1 r
 
+-- what a list of points says of one beside the forms of its columns: its type has a size, the last of its registers an
+-- address, and a counter alone has a roll
+pub record CanBeListed (point : Point) : Type 0 where
+  pub sized : IsSized point.kind
+  pub inside : point.address + (row point.kind).registers ≤ 65536
+  pub scale : IsScale point.scale
+  pub counter : is_counter point.role ≡ true → 1 ≤ point.roll
+  pub other : is_counter point.role ≡ false → point.roll ≡ 0
+
 -- ---- readings
 
 abbrev pub reading_from : ℕ → Row → Option (Key × Reading)
@@ -129,6 +140,22 @@ stored_reading = reading_from 1
 
 abbrev pub shown_reading : Row → Option (Key × Reading)
 shown_reading = reading_from 0
+
+-- ---- totals
+
+-- sixteen bytes, most significant first
+abbrev pub wide_of : Value → Option ℕ
+wide_of (Blob b) = if length b == 16 then Some (from_be_bytes w128 b) else None
+wide_of _ = None
+
+abbrev pub sum_from : Value → ℕ → Row → Option (ℕ × ℕ)
+sum_from number at r = option_and_then (λ n. option_map (λ s. (n, s)) (wide_of (column r at))) (number_of number)
+
+abbrev pub stored_sum : Row → Option (ℕ × ℕ)
+stored_sum r = sum_from (column r 0) 2 r
+
+abbrev pub shown_sum : Row → Option (ℕ × ℕ)
+shown_sum r = sum_from (column r 0) 1 r
 
 -- ---- settings
 

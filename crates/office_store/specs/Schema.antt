@@ -30,6 +30,9 @@ setting_text = codes "CREATE TABLE setting(number INTEGER PRIMARY KEY, point INT
 abbrev pub request_text : List ℕ
 request_text = codes "CREATE TABLE request(caller TEXT NOT NULL, rkey TEXT NOT NULL, kind INTEGER NOT NULL, body BLOB NOT NULL, answer INTEGER NOT NULL, a INTEGER NOT NULL, b INTEGER NOT NULL, c INTEGER NOT NULL, PRIMARY KEY(caller, rkey)) STRICT"
 
+abbrev pub total_text : List ℕ
+total_text = codes "CREATE TABLE total(point INTEGER PRIMARY KEY REFERENCES point(number), value BLOB NOT NULL) STRICT"
+
 abbrev pub strict : List ℕ → Kind → Bool → Column
 strict name kind required = record { name = name; kind = kind; is_strict = true; not_null = required; default = Null; collation = Binary }
 
@@ -125,11 +128,27 @@ request = record {
   is_counted = false;
 }
 
+abbrev pub total : Table
+total = record {
+  name = codes "total";
+  tree = 0;
+  columns = strict (codes "point") Integer false ∷ bytes (codes "value") ∷ [];
+  key = Some 0;
+  primary = 0 ∷ [];
+  uniques = [];
+  orders = [];
+  checks = [];
+  references = record to_point { columns = 0 ∷ [] } ∷ [];
+  computed = [];
+  stamps = record { places = []; terms = []; formats = [] };
+  is_counted = false;
+}
+
 abbrev pub no_schema : Schema
 no_schema = record { tables = []; indexes = []; views = [] }
 
 abbrev pub office_schema : Schema
-office_schema = created (created (created (created (created no_schema meta) point) reading) setting) request
+office_schema = created (created (created (created (created (created no_schema meta) point) reading) setting) request) total
 
 -- the trees of the tables, in the order in which they are made; the others are their keys
 abbrev pub meta_tree : ℕ
@@ -146,3 +165,6 @@ setting_tree = 6
 
 abbrev pub request_tree : ℕ
 request_tree = 7
+
+abbrev pub total_tree : ℕ
+total_tree = 9

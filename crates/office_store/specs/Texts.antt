@@ -31,6 +31,9 @@ connections_text = codes "SELECT value FROM meta WHERE name = 'connections'"
 abbrev pub request_text : List ℕ
 request_text = codes "SELECT caller, rkey, kind, body, answer, a, b, c FROM request WHERE caller = ?1 AND rkey = ?2"
 
+abbrev pub total_text : List ℕ
+total_text = codes "SELECT point, value FROM total WHERE point = ?1 ORDER BY point"
+
 abbrev pub last_text : List ℕ
 last_text = codes "SELECT number, point, words, state, code FROM setting ORDER BY number DESC LIMIT 1"
 

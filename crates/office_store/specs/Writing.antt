@@ -1,9 +1,9 @@
 -- A change, and tables inside its transaction.
-use Rattle.std.specs.Prelude.{◌≡◌, [], None, IsTrue}
+use Rattle.std.specs.Prelude.{◌≡◌, ⊤, [], ◌∷◌, None, IsTrue}
 use Rattle.sqlite.specs.Effect.{Database, IsDatabase}
 use Rattle.sqlite.specs.State.{State}
 use Rattle.poll_book.specs.declared.rows.Change.{Change}
-use Rattle.poll_book.specs.Tables.{Tables}
+use Rattle.poll_book.specs.Tables.{Tables, Sums, sum_at, with_sums}
 use Rattle.office_store.specs.Schema.{office_schema}
 use Rattle.office_store.specs.Kept.{StandFor}
 
@@ -20,6 +20,12 @@ pub record Within (s : State) (base : Database) (kept : Tables) : Type 0 where
 pub record IsEmpty (change : Change) : Type 0 where
   pub points : change.points ≡ []
   pub readings : change.readings ≡ []
+  pub totals : change.totals ≡ []
   pub setting : change.setting ≡ None
   pub request : change.request ≡ None
   pub connections : change.connections ≡ None
+
+-- each of these totals is put where none is
+abbrev pub AreFree : Sums → Sums → Type 0
+AreFree table [] = ⊤
+AreFree table (row ∷ added) = (sum_at (with_sums added table) row.0 ≡ None) × AreFree table added

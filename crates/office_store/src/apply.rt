@@ -17,6 +17,7 @@ use crate::write_points::put_points;
 use crate::write_readings::put_readings;
 use crate::write_requests::put_asked;
 use crate::write_settings::put_order;
+use crate::write_totals::put_totals;
 use poll_book::{Change, StoreFault};
 use sqlite::{Alter, Connection, Transaction};
 use std::alloc::Global;
@@ -28,6 +29,7 @@ fn is_empty(change: &Change) -> bool
 {
     change.points.as_slice().is_empty()
         && change.readings.as_slice().is_empty()
+        && change.totals.as_slice().is_empty()
         && change.setting.is_none()
         && change.request.is_none()
         && change.connections.is_none()
@@ -49,6 +51,7 @@ fn put_change<S: Alter>(
 {
     put_points(tx, change.points.as_slice())?;
     put_readings(tx, change.readings.as_slice())?;
+    put_totals(tx, change.points.as_slice(), change.totals.as_slice())?;
     put_order(tx, &change.setting)?;
     put_asked(alloc, tx, &change.request)?;
     put_connections(tx, change.connections)

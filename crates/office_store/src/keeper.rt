@@ -17,7 +17,7 @@ use crate::apply::apply;
 use crate::ask::ask;
 use crate::error::{StoreError, fault_of};
 use crate::values::{number_of, value_at};
-use crate::{numbers, points, readings, requests, settings, waiting};
+use crate::{numbers, points, readings, requests, settings, totals, waiting};
 use poll_book::{
     Caller, Change, Keeper, Key, Neighbours, PointRow, Reading, ReadingRow, Request, Setting,
     SettingRow, StoreFault,
@@ -179,7 +179,7 @@ impl<S: Alter> Neighbours for SqlKeeper<S> {
 
     fn total(&mut self, point: &PointRow) -> Result<u128, StoreFault> {
         count_look(&mut self.lookups);
-        let sum = readings::total(self.alloc, &mut self.connection, point);
+        let sum = totals::total(&mut self.connection, point.number);
         counted(&mut self.refusals, sum)
     }
 

@@ -16,6 +16,7 @@ mod readings;
 mod requests;
 mod run;
 mod settings;
+mod totals;
 mod values;
 mod waiting;
 mod write_numbers;
@@ -23,6 +24,7 @@ mod write_points;
 mod write_readings;
 mod write_requests;
 mod write_settings;
+mod write_totals;
 
 pub use error::StoreError;
 pub use keeper::SqlKeeper;

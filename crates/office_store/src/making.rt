@@ -59,6 +59,11 @@ fn make_others<S: Alter>(tx: &mut Transaction<'_, S>) -> Result<usize, StoreFaul
         tx,
         "CREATE TABLE request(caller TEXT NOT NULL, rkey TEXT NOT NULL, kind INTEGER NOT NULL, body BLOB NOT NULL, answer INTEGER NOT NULL, a INTEGER NOT NULL, b INTEGER NOT NULL, c INTEGER NOT NULL, PRIMARY KEY(caller, rkey)) STRICT",
         &[],
+    )?;
+    run(
+        tx,
+        "CREATE TABLE total(point INTEGER PRIMARY KEY REFERENCES point(number), value BLOB NOT NULL) STRICT",
+        &[],
     )
 }
 

@@ -1,6 +1,6 @@
 //! The table of points.
 
-ghost use Rattle.std.specs.Prelude.{◌≡◌, false, IfOk, option_and_then};
+ghost use Rattle.std.specs.Prelude.{◌≡◌, ◌↔◌, false, IfOk, IsTrue, Some, option_and_then};
 ghost use Rattle.sqlite.specs.Held.{state};
 ghost use Rattle.sqlite.specs.State.{HasCleanDisk};
 ghost use Rattle.sqlite_value.specs.Value.{owned};
@@ -10,7 +10,8 @@ ghost use Rattle.point_list.specs.Label.{is_label};
 ghost use Rattle.poll_book.specs.Orders.{point_at};
 ghost use Rattle.poll_book.specs.Tables.{Tables};
 ghost use Rattle.office_store.specs.Kept.{Holds, Keeps};
-ghost use Rattle.office_store.specs.Rows.{described, kind_of, number_below, role_coded, shown_point, table_coded, text_that};
+ghost use Rattle.poll_book.specs.Totals.{is_counter};
+ghost use Rattle.office_store.specs.Rows.{CanBeListed, described, kind_of, number_below, role_coded, shown_point, table_coded, text_that};
 
 use crate::ask::ask;
 use crate::error::fault_of;
@@ -65,6 +66,15 @@ fn role_of(value: ValueRef<'_>) -> Option<Role>
     }
 }
 
+fn is_counter(role: Role) -> bool
+    ensures { result ≡ is_counter role }
+{
+    match role {
+        Role::Counter => true,
+        Role::Gauge | Role::Setting => false,
+    }
+}
+
 fn kind_of(kind: ValueRef<'_>, len: ValueRef<'_>) -> Option<PointType>
     ensures { result ≡ kind_of (owned kind.entry) (owned len.entry) }
 {
@@ -108,6 +118,30 @@ fn point_of(row: &Row) -> Option<PointRow>
     Some(PointRow { number, point })
 }
 
+/// Whether a list can say the point: its type has a size, its last register an address and its scale
+/// a place among -10 to 10, and a counter alone has a roll.
+#[tactic(auto, unfolding(sunspec::specs::PointType::row))]
+fn can_be_listed(point: &Point) -> bool
+    ensures { IsTrue result ↔ CanBeListed point.now }
+{
+    point.kind.is_sized()
+        && u32::from(point.address) + u32::from(point.kind.registers()) <= 65536
+        && -10 <= point.scale
+        && point.scale <= 10
+        && (point.roll != 0) == is_counter(point.role)
+}
+
+/// A point, if a list can say it. No office keeps another.
+fn listed(point: Option<PointRow>) -> Result<PointRow, StoreFault>
+    ensures value { IfOk result (λ known. point ≡ Some known) }
+    ensures listed { IfOk result (λ known. CanBeListed known.point) }
+{
+    match point {
+        Some(known) if can_be_listed(&known.point) => Ok(known),
+        _ => Err(StoreFault::Other),
+    }
+}
+
 impl FromRow for PointRow {
     ghost use Rattle.poll_book.specs.declared.rows.PointRow.{PointRow};
     ghost use Rattle.office_store.specs.Rows.{shown_point};
@@ -119,7 +153,7 @@ impl FromRow for PointRow {
     ghost shown = { shown_point };
 
     fn from_row(_alloc: Global, row: &Row) -> Result<PointRow, StoreFault> {
-        point_of(row).ok_or(StoreFault::Other)
+        listed(point_of(row))
     }
 }
 
@@ -166,7 +200,7 @@ pub(crate) fn point_at<S: Alter>(
     match rows.as_slice() {
         [] => Ok(None),
         [row] => {
-            let found = point_of(row).ok_or(StoreFault::Other)?;
+            let found = listed(point_of(row))?;
             Ok(Some(found))
         }
         _ => Err(StoreFault::Other),

@@ -4,17 +4,17 @@ ghost use Rattle.std.specs.Prelude.{◌≡◌, ◌≤◌, false, IfOk, IfSome, I
 ghost use Rattle.sqlite.specs.Held.{state};
 ghost use Rattle.sqlite.specs.State.{HasCleanDisk};
 ghost use Rattle.poll_book.specs.Tables.{Tables, reading_at, readings_between};
-ghost use Rattle.poll_book.specs.Totals.{steps, total, value_after, value_before};
+ghost use Rattle.poll_book.specs.Totals.{value_after, value_before};
 ghost use Rattle.poll_book.specs.Changes.{as_rows};
 ghost use Rattle.office_store.specs.Kept.{Holds, Keeps};
-ghost use Rattle.office_store.specs.Counting.{ShowValue, number_in, numbers_in};
+ghost use Rattle.office_store.specs.Counting.{ShowValue, number_in};
 
 use crate::ask::ask;
 use crate::error::fault_of;
 use crate::from_row::{FromRow, all_of};
 use crate::values::{flag_of, number_of, value_at, words_of};
 use point_list::Point;
-use poll_book::{PointRow, Reading, ReadingRow, StoreFault, counted_number, step_to};
+use poll_book::{PointRow, Reading, ReadingRow, StoreFault, counted_number};
 use sqlite::{Alter, Connection, Row, params};
 use std::alloc::Global;
 
@@ -115,21 +115,6 @@ pub(crate) fn has_reading<S: Alter>(
     }
 }
 
-/// How far a counter went by these readings of it, by slot.
-fn total_of(point: &Point, rows: &[ReadingRow]) -> u128
-    ensures { result ≡ steps point.now.roll (numbers_in point.now rows.now) }
-{
-    let mut last = None;
-    let mut sum = 0;
-    for row in rows {
-        if let Some(number) = number_in(point, row) {
-            sum += step_to(last, number, point.roll) as u128;
-            last = Some(number);
-        }
-    }
-    sum
-}
-
 fn number_in(point: &Point, row: &ReadingRow) -> Option<u64>
     ensures number { result ≡ number_in point.now row.now }
     ensures bound { IfSome result (λ number. number ≤ point.now.roll) }
@@ -139,22 +124,6 @@ fn number_in(point: &Point, row: &ReadingRow) -> Option<u64>
     } else {
         None
     }
-}
-
-/// How far a counter went by its counted readings; 0 for a point that is no counter.
-pub(crate) fn total<S: Alter>(
-    alloc: Global,
-    connection: &mut Connection<S>,
-    point: &PointRow,
-) -> Result<u128, StoreFault>
-    requires { connection.old.in_transaction ≡ false }
-    ensures value { HasCleanDisk (state S.Store connection.new) → (kept : Tables) → Holds (state S.Store connection.old) kept
-        → IfOk result (λ sum. sum ≡ total point.now kept.readings) }
-    ensures keeps { Keeps (state S.Store connection.old) (state S.Store connection.new) }
-    ensures idle { connection.new.in_transaction ≡ false }
-{
-    let rows = readings_between(alloc, connection, point.number, 0, u32::MAX)?;
-    Ok(total_of(&point.point, &rows))
 }
 
 /// The value of the reading that the rows of an answer show, which is marked as counted, if they show one.

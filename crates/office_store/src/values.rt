@@ -3,7 +3,7 @@
 ghost use Rattle.std.specs.Prelude.{◌≡◌, IfOk, Some};
 ghost use Rattle.sqlite_value.specs.Value.{owned};
 ghost use Rattle.sqlite_value.specs.Order.{column};
-ghost use Rattle.office_store.specs.Rows.{flag_of, long_of, number_below, number_of, small_of, words_of};
+ghost use Rattle.office_store.specs.Rows.{flag_of, long_of, number_below, number_of, small_of, wide_of, words_of};
 
 use poll_book::{StoreFault, Words};
 use sqlite::Row;
@@ -98,6 +98,19 @@ pub(crate) fn small_of(value: ValueRef<'_>) -> Option<i8>
             Ok(n) => Some(n),
             Err(_) => None,
         },
+        _ => None,
+    }
+}
+
+/// Sixteen bytes, most significant first.
+pub(crate) fn wide_of(value: ValueRef<'_>) -> Option<u128>
+    ensures { result ≡ wide_of (owned value.entry) }
+{
+    let ValueRef::Blob(bytes) = value else {
+        return None;
+    };
+    match bytes.split_first_chunk::<16>() {
+        Some((sum, [])) => Some(u128::from_be_bytes(*sum)),
         _ => None,
     }
 }

@@ -10,5 +10,10 @@ pub mod Slots
 pub mod Bounds
 pub mod Repairs
 pub mod Numbers
+pub mod Sums
+pub mod Summed
+pub mod Small
+pub mod Lacked
+pub mod Covered
 pub mod Counted
 pub mod Marked

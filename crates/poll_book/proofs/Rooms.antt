@@ -9,7 +9,7 @@ use Rattle.std.proofs.lemmas.List.Elements.{All-append, All-cons, All-take, All-
 use Rattle.std.proofs.lemmas.Bool.{ne_eqb, eq-eqb}
 use Rattle.poll_book.specs.declared.rows.ReadingRow.{ReadingRow}
 use Rattle.poll_book.specs.declared.history.History.{History}
-use Rattle.poll_book.specs.Histories.{readings_of, slots_of, slot_of, point_of, IsRising, IsAt, IsGap, AreOrdered, HaveRoom}
+use Rattle.poll_book.specs.Histories.{readings_of, slots_of, slot_of, point_of, IsRising, IsAt, IsGap, AreOrdered, AreSmall, HaveRoom}
 use Rattle.poll_book.proofs.Places.{rising_insert, rising_same}
 use Rattle.poll_book.proofs.Puts.{readings-append}
 
@@ -54,10 +54,11 @@ module _ (hs : List History) (p at : ℕ) (new : History) (here : IsAt point_of 
       ∙ sym (readings-append (take at hs) (old ∷ drop (suc at) hs))
       ∙ ap readings_of (sym (split_at hs at new here.in_range))
 
-  pub ordered_set : AreOrdered hs → IsRising slot_of new.slots.items → AreOrdered (set hs at new)
-  ordered_set ordered rising = record {
+  pub ordered_set : AreOrdered hs → IsRising slot_of new.slots.items → AreSmall new.slots.items → AreOrdered (set hs at new)
+  ordered_set ordered rising small = record {
     points = rising_same point_of (set hs at new) hs points_set ordered.points;
     slots = All-set (λ history. IsRising slot_of history.slots.items) hs at new rising ordered.slots;
+    small = All-set (λ history. AreSmall history.slots.items) hs at new small ordered.small;
   }
 
   -- a row that was put needs its room no more
@@ -114,4 +115,8 @@ module _ (hs : List History) (p at : ℕ) (new : History) (gap : IsGap point_of 
         let Rises = λ (h : History). IsRising slot_of h.slots.items in
         All-append Rises (take at hs) (new ∷ drop at hs) (All-take Rises at hs ordered.slots)
         (All-cons Rises new (drop at hs) (subst (IsRising slot_of) (sym empty) (λ i j d lt in_range. absurd (omega arith))) (All-drop Rises at hs ordered.slots));
+    small =
+        let Small = λ (h : History). AreSmall h.slots.items in
+        All-append Small (take at hs) (new ∷ drop at hs) (All-take Small at hs ordered.small)
+        (All-cons Small new (drop at hs) (subst AreSmall (sym empty) (λ k d lt. absurd (omega arith))) (All-drop Small at hs ordered.small));
   }

@@ -1,22 +1,29 @@
 -- Rows that are written together.
-use Rattle.std.specs.Prelude.{◌≡◌, ℕ, ◌+◌, Option, Some, None, ⊤, List, [], ◌∷◌, ◌++◌, map, unwrap_or, Bool, true, false}
+use Rattle.std.specs.Prelude.{◌≡◌, ℕ, ◌+◌, Option, Some, None, ⊤, List, [], ◌∷◌, ◌++◌, map, filter, filter_map, is_none, is_some, unwrap_or, ◌&&◌, if◌then◌else◌, All, Bool, true, false}
 use Rattle.poll_book.specs.declared.rows.PointRow.{PointRow}
 use Rattle.poll_book.specs.declared.rows.Reading.{Reading}
 use Rattle.poll_book.specs.declared.rows.ReadingRow.{ReadingRow}
+use Rattle.poll_book.specs.declared.rows.TotalRow.{TotalRow}
 use Rattle.poll_book.specs.declared.rows.SettingRow.{SettingRow}
 use Rattle.poll_book.specs.declared.rows.OrderState.TheVariants.{Waiting}
 use Rattle.poll_book.specs.declared.rows.Change.{Change}
 use Rattle.poll_book.specs.declared.requests.RequestRow.{RequestRow}
-use Rattle.poll_book.specs.Tables.{Tables, Key, Readings, with_rows, reading_at}
+use Rattle.poll_book.specs.Tables.{Tables, Key, Readings, Sums, with_row, with_rows, reading_at, sum_at, with_sums}
 use Rattle.poll_book.specs.Orders.{Settings, is_waiting, setting_at, with_setting, last_order, as_setting}
 use Rattle.poll_book.specs.Requests.{Requests, request_at, with_request, as_request}
-use Rattle.poll_book.specs.Totals.{is_counted}
+use Rattle.poll_book.specs.Totals.{is_counter, is_counted, total, totals_of}
 
 abbrev pub as_row : ReadingRow → Key × Reading
 as_row row = ((row.point, row.slot), record { words = row.words; counted = row.counted })
 
 abbrev pub as_rows : List ReadingRow → Readings
 as_rows added = map as_row added
+
+abbrev pub as_sum : TotalRow → ℕ × ℕ
+as_sum row = (row.point, row.total)
+
+abbrev pub as_sums : List TotalRow → Sums
+as_sums rows = map as_sum rows
 
 -- settings with the row put in, if there is one
 abbrev pub with_order : Option SettingRow → Settings → Settings
@@ -28,19 +35,38 @@ abbrev pub with_asked : Option RequestRow → Requests → Requests
 with_asked None table = table
 with_asked (Some row) table = with_request (row.caller, row.key) (as_request row).1 table
 
--- the tables with a change applied
+-- the tables with a change applied. The total of a counter that is accepted is 0
 abbrev pub applied : Change → Tables → Tables
 applied change kept = record {
   points = kept.points ++ change.points;
   readings = with_rows (as_rows change.readings) kept.readings;
+  totals = with_sums (as_sums change.totals) (with_sums (totals_of change.points []) kept.totals);
   settings = with_order change.setting kept.settings;
   requests = with_asked change.request kept.requests;
   connections = unwrap_or change.connections kept.connections;
 }
 
+-- the reading of a covered point in a slot
+abbrev pub keyed_one : ℕ → PointRow × List ℕ → Key × Reading
+keyed_one slot c = ((c.0.number, slot), record { words = c.1; counted = is_counted c.0.point c.1 })
+
 -- readings of covered points, in one slot
 abbrev pub keyed : ℕ → List (PointRow × List ℕ) → Readings
-keyed slot covered = map (λ c. ((c.0.number, slot), record { words = c.1; counted = is_counted c.0.point c.1 })) covered
+keyed slot covered = map (keyed_one slot) covered
+
+-- the total of a covered point with its reading, where the table lacks this and it counts
+abbrev pub new_sum : Readings → ℕ → PointRow × List ℕ → Option (ℕ × ℕ)
+new_sum table slot c =
+    if is_none (reading_at table (c.0.number, slot)) && is_counted c.0.point c.1
+    then Some (c.0.number, total c.0 (with_row (c.0.number, slot) (keyed_one slot c).1 table)) else None
+
+-- the totals that change by readings of covered points in one slot
+abbrev pub new_sums : Readings → ℕ → List (PointRow × List ℕ) → Sums
+new_sums table slot covered = filter_map (new_sum table slot) covered
+
+-- what is stored of each of these points that is a counter is its total
+abbrev pub HaveTotals : Tables → List (PointRow × List ℕ) → Type 0
+HaveTotals kept covered = All (λ c. is_counter c.0.point.role ≡ true → sum_at kept.totals c.0.number ≡ Some (total c.0 kept.readings)) covered
 
 -- points that are numbered on from a number
 abbrev pub AreNumbered : ℕ → List PointRow → Type 0
@@ -51,6 +77,15 @@ AreNumbered n (row ∷ rest) = (row.number ≡ n + 1) × AreNumbered (n + 1) res
 abbrev pub AreNew : Readings → Readings → Type 0
 AreNew table [] = ⊤
 AreNew table (row ∷ added) = (reading_at table row.0 ≡ None) × (reading_at added row.0 ≡ None) × AreNew table added
+
+-- the numbers of those points that are counters
+abbrev pub counters : List PointRow → List ℕ
+counters points = map (λ known. known.number) (filter (λ known. is_counter known.point.role) points)
+
+-- each of these totals is one that the table has
+abbrev pub AreThere : Sums → Sums → Type 0
+AreThere table [] = ⊤
+AreThere table (row ∷ rest) = (is_some (sum_at table row.0) ≡ true) × AreThere table rest
 
 -- an order that waits is the next one; one that is settled waited, and sets what it set
 abbrev pub IsNextOrSettledAs : Bool → Settings → SettingRow → Type 0
@@ -70,5 +105,7 @@ IsUnused table (Some row) = request_at table (row.caller, row.key) ≡ None
 pub record IsNew (change : Change) (kept : Tables) : Type 0 where
   pub points : AreNumbered 0 (kept.points ++ change.points)
   pub readings : AreNew kept.readings (as_rows change.readings)
+  pub totals : map (λ row. row.0) kept.totals ≡ counters kept.points
+  pub sums : AreThere kept.totals (as_sums change.totals)
   pub setting : IsNextOrSettled kept.settings change.setting
   pub request : IsUnused kept.requests change.request

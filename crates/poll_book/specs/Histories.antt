@@ -1,5 +1,5 @@
 -- Readings by points and slots: of each point a list by slot.
-use Rattle.std.specs.Prelude.{◌≡◌, ℕ, suc, ◌+◌, ◌<◌, ◌≤◌, ◌==◌, List, [], ◌∷◌, ◌++◌, All, Contains, map, filter, filter_map, take, drop, length, get_or, count_by, vec_len, vec_capacity}
+use Rattle.std.specs.Prelude.{◌≡◌, ℕ, suc, ◌+◌, ◌^◌, ◌<◌, ◌≤◌, ◌==◌, List, [], ◌∷◌, ◌++◌, All, Contains, map, filter, filter_map, take, drop, length, get_or, count_by, vec_len, vec_capacity}
 use Rattle.poll_book.specs.Tables.{Key, Readings}
 use Rattle.poll_book.specs.Totals.{reading_number}
 use Rattle.point_list.specs.declared.point.Point.{Point}
@@ -47,10 +47,15 @@ pub record IsGap {X : Type 0} (key : X → ℕ) (xs : List X) (k place : ℕ) : 
   pub below : All (λ x. key x < k) (take place xs)
   pub above : All (λ x. k < key x) (drop place xs)
 
+-- slots are numbers of 32 bits
+abbrev pub AreSmall : List SlotRow → Type 0
+AreSmall slots = All (λ row. row.slot < 2 ^ 32) slots
+
 -- histories by point, and each by slot
 pub record AreOrdered (histories : List History) : Type 0 where
   pub points : IsRising point_of histories
   pub slots : All (λ history. IsRising slot_of history.slots.items) histories
+  pub small : All (λ history. AreSmall history.slots.items) histories
 
 -- each history has room for its rows among these
 abbrev pub HaveRoom : List History → List ReadingRow → Type 0

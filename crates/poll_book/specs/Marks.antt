@@ -2,6 +2,7 @@
 use Rattle.std.specs.Prelude.{◌≡◌, ℕ, ◌+◌, ◌<◌, ◌≤◌, false, List, All, map, take, length, get_or}
 use Rattle.poll_book.specs.declared.rows.PointRow.{PointRow}
 use Rattle.poll_book.specs.declared.rows.SettingRow.{SettingRow}
+use Rattle.poll_book.specs.declared.rows.TotalRow.{TotalRow}
 use Rattle.poll_book.specs.declared.marks.Mark.{Mark}
 use Rattle.poll_book.specs.declared.history.History.{History}
 use Rattle.poll_book.specs.Histories.{AreOrdered, IsRising}
@@ -9,6 +10,9 @@ use Rattle.poll_book.specs.Orders.{Settings, as_setting, waits_on}
 
 abbrev pub number_of : SettingRow → ℕ
 number_of row = row.number
+
+abbrev pub total_point : TotalRow → ℕ
+total_point row = row.point
 
 abbrev pub settings_of : List SettingRow → Settings
 settings_of orders = map as_setting orders
@@ -28,8 +32,9 @@ pub record AreCounted (points : List PointRow) (count : ℕ) : Type 0 where
   pub numbered : (i : ℕ) (d : PointRow) → i < count → (get_or points i d).number ≡ i + 1
 
 -- what a keeper in memory keeps true of its lists
-pub record AreKept (points : List PointRow) (count : ℕ) (histories : List History) (orders : List SettingRow) (marks : List Mark) : Type 0 where
+pub record AreKept (points : List PointRow) (count : ℕ) (histories : List History) (totals : List TotalRow) (orders : List SettingRow) (marks : List Mark) : Type 0 where
   pub counted : AreCounted points count
   pub ordered : AreOrdered histories
+  pub by_point : IsRising total_point totals
   pub rising : IsRising number_of orders
   pub right : AreRight points orders marks

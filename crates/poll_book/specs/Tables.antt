@@ -47,16 +47,33 @@ is_between point from to key = key.0 == point && nat_le from key.1 && nat_le key
 abbrev pub readings_between : ℕ → ℕ → ℕ → Readings → Readings
 readings_between point from to table = filter (λ row. is_between point from to row.0) table
 
+-- a stored total for each counter, by the counters' numbers: the list of their rows in this order
+abbrev pub Sums : Type 0
+Sums = List (ℕ × ℕ)
+
+-- what is stored of the point of this number
+abbrev pub sum_at : Sums → ℕ → Option ℕ
+sum_at table number = rows.find nat_cmp number table
+
+abbrev pub with_sum : ℕ → ℕ → Sums → Sums
+with_sum number sum table = rows.put nat_cmp number sum table
+
+-- a table with these put in. Of two rows with one number the first decides
+abbrev pub with_sums : Sums → Sums → Sums
+with_sums [] table = table
+with_sums (row ∷ added) table = with_sum row.0 row.1 (with_sums added table)
+
 -- what an office keeps
 pub record Tables : Type 0 where
   pub points : List PointRow
   pub readings : Readings
+  pub totals : Sums
   pub settings : Settings
   pub requests : Requests
   pub connections : ℕ
 
 abbrev pub no_tables : Tables
-no_tables = record { points = []; readings = []; settings = []; requests = []; connections = 0 }
+no_tables = record { points = []; readings = []; totals = []; settings = []; requests = []; connections = 0 }
 
 -- what is held in the one is held in the other
 abbrev pub Within : (Tables → Type 0) → (Tables → Type 0) → Type 0

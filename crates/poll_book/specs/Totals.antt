@@ -1,5 +1,5 @@
 -- Which readings count, and how far a counter went by them.
-use Rattle.std.specs.Prelude.{ℕ, ◌+◌, ◌-◌, ◌%◌, ◌^◌, Bool, true, false, ◌&&◌, if◌then◌else◌, ◌==◌, nat_le, nat_lt, min, List, [], ◌∷◌, filter, filter_map, length, slice_get, Option, Some, None, is_some, pos, negsuc}
+use Rattle.std.specs.Prelude.{ℕ, ◌+◌, ◌-◌, ◌%◌, ◌^◌, Bool, true, false, ◌&&◌, if◌then◌else◌, ◌==◌, nat_le, nat_lt, min, List, [], ◌∷◌, map, filter, filter_map, length, slice_get, Option, Some, None, is_some, unwrap_or, pos, negsuc}
 use Rattle.std.specs.List.{last_or}
 use Rattle.sunspec.specs.PointType.{row}
 use Rattle.sunspec.specs.Value.{value, register_sum}
@@ -13,7 +13,7 @@ use Rattle.point_list.specs.declared.point.Role.{Role}
 use Rattle.point_list.specs.declared.point.Role.TheVariants.{Gauge, Counter, Setting}
 use Rattle.poll_book.specs.declared.rows.PointRow.{PointRow}
 use Rattle.poll_book.specs.declared.rows.Reading.{Reading}
-use Rattle.poll_book.specs.Tables.{Readings}
+use Rattle.poll_book.specs.Tables.{Readings, Sums, sum_at}
 
 abbrev pub is_counter : Role → Bool
 is_counter Counter = true
@@ -70,6 +70,14 @@ step_from roll (Some v) w = (w + (roll + 1) - v) % (roll + 1)
 -- how far a counter went by its readings
 abbrev pub total : PointRow → Readings → ℕ
 total known table = steps known.point.roll (counted_numbers known table)
+
+-- the totals of those points that are counters
+abbrev pub totals_of : List PointRow → Readings → Sums
+totals_of points table = map (λ known. (known.number, total known table)) (filter (λ known. is_counter known.point.role) points)
+
+-- what is stored of a point; 0 of one that is no counter
+abbrev pub stored_total : Sums → ℕ → ℕ
+stored_total totals number = unwrap_or (sum_at totals number) 0
 
 -- the numbers of a point's counted readings before a slot, and after it
 abbrev pub numbers_before : PointRow → ℕ → Readings → List ℕ

@@ -46,18 +46,6 @@ pub fn step_between(a: u64, b: u64, roll: u64) -> u64
     if a <= b { b - a } else { roll - (a - b) + 1 }
 }
 
-/// How far a counter went to a number from the one that counted before it; 0 at the first.
-pub fn step_to(last: Option<u64>, number: u64, roll: u64) -> u64
-    requires before { IfSome last (λ before. before ≤ roll) }
-    requires bound { number ≤ roll }
-    ensures { result ≡ counting.step_from roll last number }
-{
-    match last {
-        Some(before) => step_between(before, number, roll),
-        None => 0,
-    }
-}
-
 fn step_across(before: Option<u64>, after: Option<u64>, roll: u64) -> u64
     requires before { IfSome before (λ number. number ≤ roll) }
     requires after { IfSome after (λ number. number ≤ roll) }
@@ -76,7 +64,6 @@ const GREATEST: u128 = i128::MAX as u128;
 /// between these is taken out, and then the two steps by way of the value are put in. A side that is
 /// missing gives no step. The total stays from 0 to 2^127 - 1.
 pub fn repaired(total: u128, before: Option<u64>, value: u64, after: Option<u64>, roll: u64) -> u128
-    requires total { total ≤ 2 ^ 127 - 1 }
     requires before { IfSome before (λ number. number ≤ roll) }
     requires value { value ≤ roll }
     requires after { IfSome after (λ number. number ≤ roll) }
@@ -85,5 +72,8 @@ pub fn repaired(total: u128, before: Option<u64>, value: u64, after: Option<u64>
     let without = total.saturating_sub(step_across(before, after, roll) as u128);
     let first = step_across(before, Some(value), roll) as u128;
     let second = step_across(Some(value), after, roll) as u128;
-    (without + first + second).min(GREATEST)
+    without
+        .saturating_add(first)
+        .saturating_add(second)
+        .min(GREATEST)
 }

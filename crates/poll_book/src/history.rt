@@ -1,6 +1,6 @@
 ghost use Rattle.std.specs.Prelude.{◌≡◌, ◌+◌, ◌<◌, ◌≤◌, map, length, Contains, IsOk, IsTrue, IfOk, IfErr, vec_len, vec_capacity};
 ghost use Rattle.poll_book.specs.Tables.{with_row};
-ghost use Rattle.poll_book.specs.Histories.{IsAt, IsGap, IsRising, point_of, slot_of, slots_of};
+ghost use Rattle.poll_book.specs.Histories.{AreSmall, IsAt, IsGap, IsRising, point_of, slot_of, slots_of};
 
 use crate::rows::Reading;
 
@@ -78,9 +78,11 @@ impl History {
     pub(crate) fn put(&mut self, slot: u32, reading: Reading)
         requires rising { IsRising slot_of self.old.slots.items }
         requires room { vec_len self.old.slots < vec_capacity self.old.slots }
+        requires small { AreSmall self.old.slots.items }
         ensures rising { IsRising slot_of self.new.slots.items }
         ensures put { slots_of self.new.point self.new.slots.items
             ≡ with_row (self.old.point, slot) reading (slots_of self.old.point self.old.slots.items) }
+        ensures small { AreSmall self.new.slots.items }
         ensures point { self.new.point ≡ self.old.point }
         ensures longer { vec_len self.new.slots ≤ vec_len self.old.slots + 1 }
         ensures capacity { vec_capacity self.old.slots ≤ vec_capacity self.new.slots }

@@ -1,12 +1,12 @@
 ghost use Rattle.poll_book.specs.declared.fault.StoreFault.{StoreFault};
-ghost use Rattle.std.specs.Prelude.{◌≡◌, ◌⊎◌, ◌≤◌, ℕ, IfErr, IfOk, IfSome, OnOk, OnErr, is_some, option_map};
+ghost use Rattle.std.specs.Prelude.{◌≡◌, ◌⊎◌, ◌<◌, ◌≤◌, ◌^◌, ℕ, All, IfSome, IfErr, IfOk, OnOk, OnErr, is_some, option_map};
 ghost use Rattle.poll_book.specs.Fault.{CountsRefusal, IsCountedOn};
 ghost use Rattle.poll_book.specs.Looks.{CountsRows};
 ghost use Rattle.poll_book.specs.Tables.{Tables, Within, reading_at, readings_between};
 ghost use Rattle.poll_book.specs.Orders.{as_setting, last_order, oldest_waiting, setting_at};
 ghost use Rattle.poll_book.specs.Requests.{request_at};
 ghost use Rattle.poll_book.specs.Changes.{IsNew, applied, as_rows};
-ghost use Rattle.poll_book.specs.Totals.{total, value_after, value_before};
+ghost use Rattle.poll_book.specs.Totals.{stored_total, value_after, value_before};
 
 use crate::caller::{Caller, Key};
 use crate::fault::StoreFault;
@@ -81,10 +81,13 @@ pub trait Neighbours {
         ensures clean { is_clean self.new → is_clean self.old }
         ensures crash { is_clean self.new → Within (may_leave self.new) (may_leave self.old) };
 
-    /// How far a counter went by its counted readings; 0 for a point that is no counter.
+    /// What is stored of how far a counter went; 0 for a point that is no counter. No slot that is kept
+    /// passes 32 bits, so that a total has room.
     fn total(&mut self, point: &PointRow) -> Result<u128, StoreFault>
         ensures value { is_clean self.new → (kept : Tables) → holds self.old kept
-            → IfOk result (λ sum. sum ≡ total point.now kept.readings) }
+            → IfOk result (λ sum. sum ≡ stored_total kept.totals point.now.number) }
+        ensures slots { is_clean self.new → (kept : Tables) → holds self.old kept
+            → OnOk result (All (λ row. row.0.1 < 2 ^ 32) kept.readings) }
         ensures cause { IfErr result (λ fault. may_refuse fault) }
         ensures counted { CountsRefusal (refused self.old) (refused self.new) result }
         ensures looked { IsCountedOn (looked self.old) (looked self.new) }

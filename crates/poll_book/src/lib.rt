@@ -22,14 +22,15 @@ mod points;
 mod recording;
 mod requests;
 mod rows;
+mod totals;
 mod words;
 
 pub use caller::{Caller, Key};
-pub use counting::{counted_number, repaired, step_between, step_to};
+pub use counting::{counted_number, repaired, step_between};
 pub use fault::StoreFault;
 pub use keeper::{Keeper, Neighbours};
 pub use mem_keeper::MemKeeper;
 pub use recording::record;
 pub use requests::{Body, Outcome, Reason, Request, RequestFault, RequestRow};
-pub use rows::{Change, OrderState, PointRow, Reading, ReadingRow, Setting, SettingRow};
+pub use rows::{Change, OrderState, PointRow, Reading, ReadingRow, Setting, SettingRow, TotalRow};
 pub use words::Words;

@@ -116,7 +116,7 @@ impl Neighbours for MemKeeper {
 
     fn total(&mut self, point: &PointRow) -> Result<u128, StoreFault> {
         count_look(&mut self.lookups);
-        Ok(self.tables.total(point))
+        Ok(self.tables.total(point.number))
     }
 
     fn lookups(&self) -> u64 {

@@ -1,18 +1,17 @@
 //! Tables in memory.
-ghost use Rattle.std.specs.Prelude.{◌≡◌, ◌≤◌, ℕ, IfOk, IfSome, OnErr, OnOk, is_some, option_map};
+ghost use Rattle.std.specs.Prelude.{◌≡◌, ◌≤◌, ◌<◌, ◌^◌, ℕ, All, IfOk, IfSome, OnErr, OnOk, is_some, option_map};
 ghost use Rattle.poll_book.specs.Tables as table;
 ghost use Rattle.poll_book.specs.Tables.{no_tables, readings_between};
 ghost use Rattle.poll_book.specs.Changes.{applied, as_rows};
-ghost use Rattle.poll_book.specs.Histories.{IsRising, counted_in, slot_of, slots_of};
+ghost use Rattle.poll_book.specs.Histories.{IsRising, slot_of, slots_of};
 ghost use Rattle.poll_book.specs.Orders as book;
 ghost use Rattle.poll_book.specs.Orders.{as_setting, last_order, oldest_waiting};
 ghost use Rattle.poll_book.specs.Requests as asked;
 ghost use Rattle.poll_book.specs.Totals as totals;
-ghost use Rattle.poll_book.specs.Totals.{steps, value_after, value_before};
+ghost use Rattle.poll_book.specs.Totals.{value_after, value_before};
 
 use crate::asked::{copy_of_request, put_request, request_at};
 use crate::caller::{Caller, Key};
-use crate::counting::{number_of, step_to};
 use crate::histories::{make_histories, put_all, slots_in, staged};
 use crate::history::{History, SlotRow, slot_place};
 use crate::marks::{Mark, forget_for, next_waiting, past_of, set_mark};
@@ -20,8 +19,8 @@ use crate::nearest::{first_counted, last_counted, slots_after, slots_before};
 use crate::orders::{copy_of_setting, last_number, order_at, put_order, setting_at};
 use crate::points::add_points;
 use crate::requests::Request;
-use crate::rows::{Change, PointRow, Reading, ReadingRow, Setting, SettingRow};
-use point_list::Point;
+use crate::rows::{Change, PointRow, Reading, ReadingRow, Setting, SettingRow, TotalRow};
+use crate::totals::{begin_totals, put_totals, stored_total};
 use std::alloc::{AllocError, Global};
 use std::collections::BTreeMap;
 use std::marker::Model;
@@ -35,6 +34,7 @@ pub(crate) struct MemTables {
     // How many of the first points are numbered on from 1.
     counted: usize,
     histories: Vec<History>,
+    totals: Vec<TotalRow>,
     orders: Vec<SettingRow>,
     marks: Vec<Mark>,
     requests: BTreeMap<(Caller, Key), Request>,
@@ -47,18 +47,20 @@ impl Model for MemTables {
 
     ghost Value = { Tables };
 
+    ghost use Rattle.poll_book.specs.Changes.{as_sums};
     ghost use Rattle.poll_book.specs.Histories.{readings_of};
     ghost use Rattle.poll_book.specs.Marks.{AreKept, settings_of};
 
     ghost view = { λ k. record {
       points = k.points.items;
       readings = readings_of k.histories.items;
+      totals = as_sums k.totals.items;
       settings = settings_of k.orders.items;
       requests = k.requests.entries;
       connections = k.connections;
     } };
 
-    ghost invariant = { λ k. AreKept k.points.items k.counted k.histories.items k.orders.items k.marks.items };
+    ghost invariant = { λ k. AreKept k.points.items k.counted k.histories.items k.totals.items k.orders.items k.marks.items };
 }
 
 impl MemTables {
@@ -70,6 +72,7 @@ impl MemTables {
             points: Vec::new(alloc),
             counted: 0,
             histories: Vec::new(alloc),
+            totals: Vec::new(alloc),
             orders: Vec::new(alloc),
             marks: Vec::new(alloc),
             requests: BTreeMap::new(alloc),
@@ -111,11 +114,12 @@ impl MemTables {
         first_counted(&point.point, slots_after(slots, slot))
     }
 
-    /// How far a counter went by its counted readings.
-    pub(crate) fn total(&self, point: &PointRow) -> u128
-        ensures { result ≡ totals.total point.now self.now.readings }
+    /// What is stored of how far a counter went.
+    pub(crate) fn total(&self, point: u32) -> u128
+        ensures value { result ≡ totals.stored_total self.now.totals point }
+        ensures slots { All (λ row. row.0.1 < 2 ^ 32) self.now.readings }
     {
-        total_of(&point.point, slots_in(&self.histories, point.number))
+        stored_total(&self.totals, point)
     }
 
     /// The known points.
@@ -189,16 +193,20 @@ impl MemTables {
         ensures same { OnErr result (self.new ≡ self.old) }
     {
         let added = change.readings.as_slice();
+        let totals = change.totals.as_slice();
         let points = change.points.as_slice();
         make_histories(self.alloc, &mut self.histories, added)?;
         let rows = staged(self.alloc, &mut self.histories, added)?;
         let setting = copy_of_setting(&change.setting)?;
         let request = copy_of_request(self.alloc, &change.request)?;
         self.points.reserve(points.len())?;
+        self.totals.reserve(points.len() + totals.len())?;
         self.orders.reserve(1)?;
         put_request(&mut self.requests, request)?;
         // From here on nothing can be refused.
         self.counted = add_points(&mut self.points, self.counted, points);
+        begin_totals(&mut self.totals, points);
+        put_totals(&mut self.totals, totals);
         forget_for(&mut self.marks, points);
         put_order(&mut self.orders, &mut self.marks, setting);
         put_all(&mut self.histories, rows);
@@ -226,20 +234,6 @@ fn has_slot(slots: &[SlotRow], slot: u32) -> bool
     ensures { (point : ℕ) → result ≡ is_some (table.reading_at (slots_of point slots.now) (point, slot)) }
 {
     slot_place(slots, slot).is_ok()
-}
-
-fn total_of(point: &Point, slots: &[SlotRow]) -> u128
-    ensures { result ≡ steps point.now.roll (counted_in point.now slots.now) }
-{
-    let mut last = None;
-    let mut sum = 0;
-    for row in slots {
-        if let Some(number) = number_of(point, &row.reading) {
-            sum += step_to(last, number, point.roll) as u128;
-            last = Some(number);
-        }
-    }
-    sum
 }
 
 fn rows_between(

@@ -1,38 +1,139 @@
-ghost use Rattle.std.specs.Prelude.{◌≡◌, ◌≤◌, ◌*◌, IfOk, length};
-ghost use Rattle.poll_book.specs.Tables.{Tables, Within, new_rows};
-ghost use Rattle.poll_book.specs.Changes.{as_rows, keyed};
+ghost use Rattle.std.specs.Prelude.{◌≡◌, ◌≤◌, ◌<◌, ◌+◌, ◌*◌, ◌∷◌, ◌++◌, [], None, Some, IfOk, OnOk, vec_len, option_map, option_to_list, option_and_then, length};
+ghost use Rattle.poll_book.specs.declared.rows.Reading.{Reading as AReading};
+ghost use Rattle.poll_book.specs.Tables.{AreByKey, Tables, Within, new_rows, reading_at, sum_at, with_row};
+ghost use Rattle.poll_book.specs.Totals.{reading_number, total};
+ghost use Rattle.poll_book.specs.Changes.{HaveTotals, as_row, as_rows, as_sum, as_sums, keyed, new_sums};
 ghost use Rattle.poll_book.specs.Fault.{Accounts};
 ghost use Rattle.poll_book.specs.Looks.{IsRaisedAtMost};
 
+use crate::counting::{counted_number, repaired};
 use crate::fault::StoreFault;
 use crate::keeper::Neighbours;
-use crate::rows::{PointRow, ReadingRow};
+use crate::rows::{Change, PointRow, ReadingRow, TotalRow};
 use mb_pdu::Registers;
-use std::alloc::Global;
+use point_list::Items;
+use std::alloc::{AllocError, Global};
 
-/// The readings of a reply that the keeper lacks: of these points with their registers those that
-/// have no reading in the slot, in their order. It makes at most four look-ups a point.
+/// The total of a counter with a reading of this value put into a slot in which it has none.
+fn total_with<N: Neighbours>(
+    keeper: &mut N,
+    point: &PointRow,
+    slot: u32,
+    value: u64,
+) -> Result<TotalRow, StoreFault>
+    requires { value ≤ point.now.point.roll }
+    ensures value { N.is_clean keeper.new → (kept : Tables) → N.holds keeper.old kept → AreByKey kept.readings
+        → sum_at kept.totals point.now.number ≡ Some (total point.now kept.readings)
+        → reading_at kept.readings (point.now.number, slot) ≡ None
+        → (reading : AReading) → reading_number point.now.point reading ≡ Some value
+        → IfOk result (λ row. as_sum row ≡ (point.now.number, total point.now (with_row (point.now.number, slot) reading kept.readings))) }
+    ensures cause { Accounts N.may_refuse (N.refused keeper.old) (N.refused keeper.new) result }
+    ensures looks { IsRaisedAtMost 3 (N.looked keeper.old) (N.looked keeper.new) }
+    ensures same { Within (N.holds keeper.old) (N.holds keeper.new) }
+    ensures clean { N.is_clean keeper.new → N.is_clean keeper.old }
+    ensures crash { N.is_clean keeper.new → Within (N.may_leave keeper.new) (N.may_leave keeper.old) }
+{
+    let total = keeper.total(point)?;
+    let before = keeper.before(point, slot)?;
+    let after = keeper.after(point, slot)?;
+    Ok(TotalRow {
+        point: point.number,
+        total: repaired(total, before, value, after, point.point.roll),
+    })
+}
+
+/// A reading that a keeper lacks, with the total that changes by it.
+#[derive(Drop)]
+struct Lacking {
+    reading: ReadingRow,
+    total: Option<TotalRow>,
+}
+
+/// The reading of a covered point and what becomes of its total, if the keeper lacks it.
+fn lacking_reading<N: Neighbours>(
+    alloc: Global,
+    keeper: &mut N,
+    point: &PointRow,
+    words: &[u16],
+    slot: u32,
+) -> Result<Option<Lacking>, StoreFault>
+    requires not_empty { 0 < length words.now }
+    requires short { length words.now ≤ 125 }
+    ensures reading { N.is_clean keeper.new → (kept : Tables) → N.holds keeper.old kept
+        → IfOk result (λ found. option_to_list (option_map (λ it. as_row it.reading) found) ≡ new_rows kept.readings (keyed slot ((point.now, words.now) ∷ []))) }
+    ensures total { N.is_clean keeper.new → (kept : Tables) → N.holds keeper.old kept → AreByKey kept.readings
+        → HaveTotals kept ((point.now, words.now) ∷ [])
+        → IfOk result (λ found. option_to_list (option_map as_sum (option_and_then (λ it. it.total) found)) ≡ new_sums kept.readings slot ((point.now, words.now) ∷ [])) }
+    ensures cause { Accounts N.may_refuse (N.refused keeper.old) (N.refused keeper.new) result }
+    ensures looks { IsRaisedAtMost 4 (N.looked keeper.old) (N.looked keeper.new) }
+    ensures same { Within (N.holds keeper.old) (N.holds keeper.new) }
+    ensures clean { N.is_clean keeper.new → N.is_clean keeper.old }
+    ensures crash { N.is_clean keeper.new → Within (N.may_leave keeper.new) (N.may_leave keeper.old) }
+{
+    if keeper.has_reading(point, slot)? {
+        return Ok(None);
+    }
+    let total = match counted_number(&point.point, words) {
+        Some(value) => Some(total_with(keeper, point, slot, value)?),
+        None => None,
+    };
+    Ok(Some(Lacking {
+        reading: ReadingRow::new(alloc, point, slot, words)?,
+        total,
+    }))
+}
+
+/// Adds what is found to what was.
+fn push_found(
+    readings: &mut Vec<ReadingRow>,
+    totals: &mut Vec<TotalRow>,
+    found: Option<Lacking>,
+) -> Result<(), AllocError>
+    ensures readings { OnOk result (as_rows readings.new.items ≡ as_rows readings.old.items ++ option_to_list (option_map (λ it. as_row it.reading) found)) }
+    ensures totals { OnOk result (as_sums totals.new.items ≡ as_sums totals.old.items ++ option_to_list (option_map as_sum (option_and_then (λ it. it.total) found))) }
+    ensures few { OnOk result (vec_len readings.new ≤ vec_len readings.old + 1) }
+{
+    let Some(it) = found else {
+        return Ok(());
+    };
+    readings.push(it.reading)?;
+    if let Some(total) = it.total {
+        totals.push(total)?;
+    }
+    Ok(())
+}
+
+/// The change that a reply makes: of these points with their registers the readings of those that have
+/// none in the slot, in their order, and the totals that change by them. It makes at most four look-ups
+/// a point.
 pub fn record<N: Neighbours>(
     alloc: Global,
     keeper: &mut N,
     covered: &[(PointRow, Registers)],
     slot: u32,
-) -> Result<Vec<ReadingRow>, StoreFault>
-    ensures value { N.is_clean keeper.new → (kept : Tables) → N.holds keeper.old kept
-        → IfOk result (λ rows. as_rows rows.items ≡ new_rows kept.readings (keyed slot covered.now)) }
-    ensures few { IfOk result (λ rows. length rows.items ≤ length covered.now) }
+) -> Result<Change, StoreFault>
+    ensures readings { N.is_clean keeper.new → (kept : Tables) → N.holds keeper.old kept
+        → IfOk result (λ change. as_rows change.readings ≡ new_rows kept.readings (keyed slot covered.now)) }
+    ensures totals { N.is_clean keeper.new → (kept : Tables) → N.holds keeper.old kept → AreByKey kept.readings
+        → HaveTotals kept covered.now
+        → IfOk result (λ change. as_sums change.totals ≡ new_sums kept.readings slot covered.now) }
+    ensures alone { IfOk result (λ change. change ≡ record { points = []; readings = change.readings; totals = change.totals; setting = None; request = None; connections = None }) }
+    ensures few { IfOk result (λ change. length change.readings ≤ length covered.now) }
     ensures cause { Accounts N.may_refuse (N.refused keeper.old) (N.refused keeper.new) result }
     ensures looks { IsRaisedAtMost (4 * length covered.now) (N.looked keeper.old) (N.looked keeper.new) }
     ensures same { Within (N.holds keeper.old) (N.holds keeper.new) }
     ensures clean { N.is_clean keeper.new → N.is_clean keeper.old }
     ensures crash { N.is_clean keeper.new → Within (N.may_leave keeper.new) (N.may_leave keeper.old) }
 {
-    let mut rows = Vec::with_capacity(alloc, covered.len())?;
+    let mut readings = Vec::with_capacity(alloc, covered.len())?;
+    let mut totals = Vec::with_capacity(alloc, covered.len())?;
     for entry in covered {
-        let point = &entry.0;
-        if !keeper.has_reading(point, slot)? {
-            rows.push(ReadingRow::new(alloc, point, slot, entry.1.as_slice())?)?;
-        }
+        let found = lacking_reading(alloc, keeper, &entry.0, entry.1.as_slice(), slot)?;
+        push_found(&mut readings, &mut totals, found)?;
     }
-    Ok(rows)
+    Ok(Change {
+        readings: Items::from_vec(readings),
+        totals: Items::from_vec(totals),
+        ..Change::none(alloc)
+    })
 }

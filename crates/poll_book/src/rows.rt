@@ -58,6 +58,14 @@ impl ReadingRow {
     }
 }
 
+/// The total of a counter, with its key, the number of the point.
+#[derive(Clone, Copy, Debug, PartialEq, Eq)]
+pub struct TotalRow {
+    pub point: u32,
+    /// How far the counter went by its counted readings, 0 to 2^127 - 1.
+    pub total: u128,
+}
+
 /// How an order stands.
 #[derive(Clone, Copy, Debug, PartialEq, Eq)]
 pub enum OrderState {
@@ -91,12 +99,14 @@ pub struct SettingRow {
     pub state: OrderState,
 }
 
-/// Rows that are written together, each under its key: points and readings, an order that is new or
-/// settled or none, a request or none, and a new connection number or none.
+/// Rows that are written together, each under its key: points, readings and totals, an order that is new
+/// or settled or none, a request or none, and a new connection number or none. A counter that is accepted
+/// has the total 0 without a row of its own.
 #[derive(Debug, Drop)]
 pub struct Change {
     pub points: Items<PointRow>,
     pub readings: Items<ReadingRow>,
+    pub totals: Items<TotalRow>,
     pub setting: Option<SettingRow>,
     pub request: Option<RequestRow>,
     pub connections: Option<u32>,
@@ -107,11 +117,12 @@ impl Change {
 
     /// A change of nothing.
     pub fn none(alloc: Global) -> Change
-        ensures { result ≡ record { points = []; readings = []; setting = None; request = None; connections = None } }
+        ensures { result ≡ record { points = []; readings = []; totals = []; setting = None; request = None; connections = None } }
     {
         Change {
             points: Items::from_vec(Vec::new(alloc)),
             readings: Items::from_vec(Vec::new(alloc)),
+            totals: Items::from_vec(Vec::new(alloc)),
             setting: None,
             request: None,
             connections: None,

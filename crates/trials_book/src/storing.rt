@@ -1,7 +1,7 @@
 //! Points and their readings in a keeper. The calls of the keeper stand in functions without
 //! clauses: a test needs none of their promises, and each would be a fact in each of its goals.
 use mb_pdu::{Registers, Table};
-use point_list::{Items, Label, Name, Point, Role};
+use point_list::{Label, Name, Point, Role};
 use poll_book::{
     Change, Keeper, MemKeeper, Neighbours, PointRow, ReadingRow, StoreFault, Words, record,
 };
@@ -81,10 +81,7 @@ pub(crate) fn store(
     let Some(registers) = Registers::from_slice(words) else {
         return Err(StoreFault::Other);
     };
-    let rows = record(alloc, keeper, &[(*point, registers)], slot)?;
-    let count = rows.len();
-    let mut change = Change::none(alloc);
-    change.readings = Items::from_vec(rows);
+    let change = record(alloc, keeper, &[(*point, registers)], slot)?;
     apply(keeper, &change)?;
-    Ok(count)
+    Ok(change.readings.as_slice().len())
 }

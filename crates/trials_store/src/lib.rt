@@ -1,5 +1,5 @@
 //! What an office over a database keeps: which databases and sites open, what a stop at each write
-//! leaves, files that are full, that fail once, and that have a damaged byte.
+//! leaves, files that are full, that fail once, and that have a damaged byte; the totals that are stored.
 #![tactic(auto)]
 
 #[cfg(test)]
@@ -12,3 +12,5 @@ mod opening;
 mod plays;
 #[cfg(test)]
 mod stops;
+#[cfg(test)]
+mod totals;

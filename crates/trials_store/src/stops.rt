@@ -25,8 +25,10 @@ const HAPPENINGS: &[Happens] = &[
     Open("roof"),
     Ask(1, "m1", 5, (3, 107, 2)),
     Arrive(1, 0, 17, &[3, 4, 0x02, 0x2B, 0, 7]),
+    Ask(1, "m1", 6, (3, 107, 2)),
+    Arrive(1, 1, 17, &[3, 4, 0x02, 0x2D, 0, 10]),
     Send(1, 1),
-    Arrive(1, 1, 17, &[6, 0, 40, 0, 80]),
+    Arrive(1, 2, 17, &[6, 0, 40, 0, 80]),
     Restart,
     Order("k2", "lim", 90),
     Open("roof"),
@@ -138,6 +140,18 @@ fn goes_on<K: Keeper>(
     are_answered(trial, office)
 }
 
+/// Each of the two counters has a row in the table of totals.
+fn have_totals<S: Alter>(
+    trial: &Trial<'_>,
+    connection: &mut Connection<S>,
+) -> Result<(), OfficeError> {
+    let Ok(rows) = connection.query_all("SELECT point FROM total", &[]) else {
+        return Err(MEMORY);
+    };
+    trial.told(&"totals", &rows.len(), &2);
+    Ok(())
+}
+
 /// What a stop leaves is an office that goes on. Where tables were being made there may be none, and then
 /// they are made now.
 #[derive(Clone, Copy)]
@@ -208,7 +222,9 @@ impl Task for GoingOn {
         connection: Connection<S>,
     ) -> Result<(Option<Reached>, S), OfficeError> {
         let keeper = self.begun(trial, self.kept(trial, connection)?)?;
-        Ok((self.reached, keeper.into_connection().into_store()))
+        let mut connection = keeper.into_connection();
+        have_totals(trial, &mut connection)?;
+        Ok((self.reached, connection.into_store()))
     }
 }
 

@@ -25,3 +25,17 @@ returns-clause-leaves g c clean kept h counted left m =
     (subst (λ (t : Tables). MatchResult c.write.result (λ _. left ≡ t) (λ _. may' left ⊎ (left ≡ t))) is
     (c.write.ensures.leaves clean kept (c.waiting_setting.ensures.same kept h)
     (subst (λ x. IsNew x kept) (sym c.state_change.ensures) (new_state order setting state kept there.0 there.1 settled counted)) left m)))
+
+pub returns-clause-kept : goal.returns-clause-kept
+returns-clause-kept g c clean kept h counted =
+    let order = c.args.order in
+    let state = c.in-Some.state in
+    let setting = c.in-Some-2.setting in
+    let value : Some setting ≡ waiting_at (setting_at kept.settings order) = sym c.in-Some-2.is ∙ c.in_ok-setting.ensures.value (c.write.ensures.clean clean) kept h in
+    let there = waiting_there (setting_at kept.settings order) setting value in
+    let settled : is_waiting state ≡ false = subst (λ o. IfSome o (λ s. is_waiting s ≡ false)) c.in-Some.is c.requires in
+    let is : applied c.state_change.result kept ≡ with_state order c.args.state kept =
+    ap (λ x. applied x kept) c.state_change.ensures ∙ applied_state order setting state kept there.0 there.1 ∙ ap (λ o. with_state order o kept) (sym c.in-Some.is) in
+    subst (λ (t : Tables). MatchResult c.write.result (λ _. g.K.Neighbours.holds c.write.new.keeper t) (λ _. g.K.Neighbours.holds c.write.new.keeper kept)) is
+    (c.write.ensures.kept clean kept (c.waiting_setting.ensures.same kept h)
+    (subst (λ x. IsNew x kept) (sym c.state_change.ensures) (new_state order setting state kept there.0 there.1 settled counted)))

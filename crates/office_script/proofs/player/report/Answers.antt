@@ -5,7 +5,7 @@ use Rattle.office_script.specs.Printing.{report_of}
 use Rattle.office_script.proofs.Acted.{on_ok}
 use Rattle.office_script.proofs.player.report.Goals as goal
 
-abbrev tables_in : Tables × ℕ → Tables
+abbrev tables_in : Tables × ℕ × ℕ → Tables
 tables_in kept = kept.0
 
 pub push_report-requires : goal.push_report-requires

@@ -5,6 +5,6 @@ use Rattle.office_script.proofs.report.push_all_totals.Given as goal
 
 abbrev pub invariant-loop-known : goal.invariant-loop-known
 invariant-loop-known l = record {
-  text : l.out.items ≡ l.fn.out.items ++ flat_map (total_line l.fn.keeper.0.readings) (take l.known-index l.points);
+  text : l.out.items ≡ l.fn.out.items ++ flat_map (total_line l.fn.keeper.0.totals) (take l.known-index l.points);
   same : l.keeper.0 ≡ l.fn.keeper.0;
 }

@@ -1,19 +1,12 @@
-use Rattle.std.proofs.Common.{◌≡◌, Some, None, Ok, Option, Result, subst, sym, ◌∙◌}
-use Rattle.std.specs.Option.{ok_or}
+use Rattle.std.proofs.Common.{subst, sym, ◌∙◌}
 use Rattle.sqlite.specs.Held.{state}
 use Rattle.sqlite.specs.State.{Shown}
-use Rattle.poll_book.specs.declared.fault.StoreFault.{StoreFault}
-use Rattle.poll_book.specs.declared.rows.PointRow.{PointRow}
 use Rattle.office_store.specs.Texts.{point_text}
 use Rattle.office_store.proofs.Asking.{after_ok}
 use Rattle.office_store.proofs.Queries.{point_is_query}
 use Rattle.office_store.proofs.Only.{nothing, only}
 use Rattle.office_store.proofs.ByNumber.{given, no_point, one_point}
 use Rattle.office_store.proofs.points.point_at.Goals as goal
-
-was_some : (read : Option PointRow) (fault : StoreFault) (found : PointRow) → ◌≡◌ {A = Result PointRow StoreFault} (Ok found) (ok_or read fault) → read ≡ Some found
-was_some None fault found h = absurd (cc)
-was_some (Some point) fault found h = cc
 
 pub ask-requires-clause-query : goal.ask-requires-clause-query
 ask-requires-clause-query g c = point_is_query
@@ -38,5 +31,5 @@ returns-in-len1-clause-value g c clean kept holds =
     let held = holds (c.ask.ensures.keeps.clean clean) (after_ok point_text (given c.args.number) old new point_is_query rows shown).0.was_open in
     let all = only rows c.as_slice.result.now row c.as_slice.ensures.value c.in-len1.len_at_least c.in-len1.len_below c.row-item.is in
     let found = c.in_ok-found-in-len1.found in
-    let is = sym c.point_of.ensures ∙ was_some c.point_of.result _ found c.in_ok-found-in-len1.ensures.value in
+    let is = sym c.point_of.ensures ∙ c.in_ok-found-in-len1.ensures.value in
     one_point c.args.number old new kept held row (subst (Shown point_text (given c.args.number) old new) all shown) found is

@@ -5,7 +5,7 @@ use Rattle.std.proofs.lemmas.List.{get_or_default}
 use Rattle.std.proofs.lemmas.List.Elements.{All-get_or}
 use Rattle.poll_book.specs.declared.history.History.{History}
 use Rattle.poll_book.specs.declared.rows.ReadingRow.{ReadingRow}
-use Rattle.poll_book.specs.Histories.{point_of, slot_of, IsAt, IsRising, HaveRoom}
+use Rattle.poll_book.specs.Histories.{point_of, slot_of, IsAt, IsRising, AreSmall, HaveRoom}
 use Rattle.poll_book.proofs.Rooms.{ordered_set, points_set, readings_set, room_made}
 use Rattle.poll_book.proofs.histories.make_room.Goals as goal
 
@@ -31,8 +31,9 @@ returns-clause-ordered c =
     let hs = c.args.histories.now.items in
     let at = c.unwrap-place.result in
     let rising = All-get_or (λ (h : History). IsRising slot_of h.slots.items) hs at (new c) (here c).in_range c.requires.ordered.slots in
-    ordered_set hs c.args.point at (new c) (here c) (same c) c.requires.ordered
-    (subst (IsRising slot_of) (sym (c.reserve.ensures.items ∙ ap (λ (h : History). h.slots.items) (old_is c))) rising)
+    let small = All-get_or (λ (h : History). AreSmall h.slots.items) hs at (new c) (here c).in_range c.requires.ordered.small in
+    let same_slots = sym (c.reserve.ensures.items ∙ ap (λ (h : History). h.slots.items) (old_is c)) in
+    ordered_set hs c.args.point at (new c) (here c) (same c) c.requires.ordered (subst (IsRising slot_of) same_slots rising) (subst AreSmall same_slots small)
 
 pub returns-clause-same : goal.returns-clause-same
 returns-clause-same c =

@@ -25,7 +25,7 @@ same c = c.put.ensures.point ∙ old_point c
 
 pub returns-clause-ordered : goal.returns-clause-ordered
 returns-clause-ordered c =
-    ordered_set c.args.histories.now.items c.args.row.point c.unwrap-place.result c.put.new.self (here c) (same c) c.requires.ordered c.put.ensures.rising
+    ordered_set c.args.histories.now.items c.args.row.point c.unwrap-place.result c.put.new.self (here c) (same c) c.requires.ordered c.put.ensures.rising c.put.ensures.small
 
 pub returns-clause-put : goal.returns-clause-put
 returns-clause-put c =

@@ -44,8 +44,8 @@ returns-clause-goes g c clean =
     subst (Goes (λ before. StandsFor old office.site known office.matcher before × (request_at (requests before) (c.args.caller.now, c.args.key.now) ≡ None))
     (StandsFor new office.site c.add_points.new.points.items office.matcher) (Load c.args.caller.now c.args.key.now list)) (ap (λ o. answer.Request (Kept true o)) (sym is_told))
     (loaded_goes old office.site known office.matcher c.args.caller.now c.args.key.now list new
-    (λ kept h copy unused. subst new (applied_loaded more request c.request_change-change.result kept change)
-    (c.in_ok-commit.ensures.kept clean kept h (new_loaded more request c.request_change-change.result kept change (subst (AreNumbered 0) copy.0 copy.1) (numbered kept copy.0) unused)))
+    (λ kept h copy unused. subst new (applied_loaded more request c.request_change-change.result kept change copy.1 (numbered kept copy.0))
+    (c.in_ok-commit.ensures.kept clean kept h (new_loaded more request c.request_change-change.result kept change copy.1 (numbered kept copy.0) unused)))
     c.add_points.new.points.items longer)
 
 pub invariant_of-self-2 : goal.invariant_of-self-2
@@ -77,8 +77,8 @@ returns-clause-leaves g c clean =
     (answer.Request (Kept true c.in_ok-outcome.outcome)) (answer.Request (Kept true told)) false refl refl
     (λ at. loaded_goes (At holds at) office.site known office.matcher c.args.caller.now c.args.key.now list (Left may may' at false)
     (λ kept h copy unused left m. inl (c.in_ok-commit.ensures.leaves clean kept h.0
-    (new_loaded more request c.request_change-change.result kept change (subst (AreNumbered 0) copy.0 copy.1) (numbered kept copy.0) unused) left m
-    ∙ applied_loaded more request c.request_change-change.result kept change))
+    (new_loaded more request c.request_change-change.result kept change copy.1 (numbered kept copy.0) unused) left m
+    ∙ applied_loaded more request c.request_change-change.result kept change copy.1 (numbered kept copy.0)))
     (known ++ more) refl)
 
 pub returns-in_err-commit-clause-leaves : goal.returns-in_err-commit-clause-leaves
@@ -104,7 +104,7 @@ returns-in_err-commit-clause-leaves g c clean =
     (ap is_store (request_err c.from_residual-in_err-commit.result e c.from_residual-in_err-commit.ensures.1)) refl
     (λ at. loaded_goes (At holds at) office.site known office.matcher c.args.caller.now c.args.key.now list (Left may may' at true)
     (λ kept h copy unused left m. tried_is may may (applied c.request_change-change.result kept) _ left (λ t was. was)
-    (applied_loaded more request c.request_change-change.result kept change)
+    (applied_loaded more request c.request_change-change.result kept change copy.1 (numbered kept copy.0))
     (c.in_err-commit.ensures.leaves clean kept h.0
-    (new_loaded more request c.request_change-change.result kept change (subst (AreNumbered 0) copy.0 copy.1) (numbered kept copy.0) unused) left m))
+    (new_loaded more request c.request_change-change.result kept change copy.1 (numbered kept copy.0) unused) left m))
     (known ++ more) refl)

@@ -1,5 +1,5 @@
 use Rattle.std.proofs.Common.{◌≡◌, ◌≤◌, ◌∙◌, ◌∷◌, inl, false, Some, subst, sym, ap, refl, arith}
-use Rattle.poll_book.specs.Changes.{AreNumbered, IsNew, applied}
+use Rattle.poll_book.specs.Changes.{IsNew, applied}
 use Rattle.office_core.specs.declared.error.OfficeError.TheVariants as error
 use Rattle.office_core.specs.declared.event.Event.TheVariants.{Open}
 use Rattle.office_core.specs.declared.event.EventAnswer.TheVariants as answer
@@ -65,7 +65,7 @@ returns-clause-goes g c clean =
     (subst (λ n. n ≤ connections before) (sym c.greatest.ensures) (greatest_made (holds office.keeper) office.site known office.matcher before stands)))
     c.if-last-ge4294967295.false c.new-conn.result c.new-conn.ensures (holds c.write.new.keeper)
     (λ kept h copy. subst (holds c.write.new.keeper) (ap (λ x. applied x kept) is ∙ applied_connection c.new-conn.result kept)
-    (c.in_default-write.ensures.kept clean kept (c.last_made.ensures.same kept h) (subst (λ x. IsNew x kept) (sym is) (new_connection c.new-conn.result kept (subst (AreNumbered 0) copy.0 copy.1)))))
+    (c.in_default-write.ensures.kept clean kept (c.last_made.ensures.same kept h) (subst (λ x. IsNew x kept) (sym is) (new_connection c.new-conn.result kept copy.1))))
     c.conn_of-former.result (former_is c.in-Some.line office.matcher c.conn_of-former.result c.conn_of-former.ensures.found c.conn_of-former.ensures.none)
     c.open.new.self c.close_former.new.matcher c.in_ok-open.ensures.ok c.close_former.ensures
 
@@ -103,7 +103,7 @@ returns-in-Err-clause-leaves g c clean =
     (subst (λ n. n ≤ connections before) (sym c.greatest.ensures) (greatest_made holds office.site known office.matcher before stands)))
     c.if-last-ge4294967295.false c.new-conn.result c.new-conn.ensures before happening stands sees)
     (c.in-Err.ensures.leaves clean (tables before) (c.last_made.ensures.same (tables before) stands.tables)
-    (subst (λ x. IsNew x (tables before)) (sym is) (new_connection c.new-conn.result (tables before) (subst (AreNumbered 0) copy.0 copy.1))) left m))
+    (subst (λ x. IsNew x (tables before)) (sym is) (new_connection c.new-conn.result (tables before) copy.1)) left m))
 
 pub returns-clause-leaves : goal.returns-clause-leaves
 returns-clause-leaves g c clean =
@@ -120,7 +120,7 @@ returns-clause-leaves g c clean =
     (subst (λ n. n ≤ connections before) (sym c.greatest.ensures) (greatest_made (At holds at) office.site known office.matcher before stands)))
     c.if-last-ge4294967295.false c.new-conn.result c.new-conn.ensures (Left may may' at false)
     (λ kept h copy left m. inl (c.in_default-write.ensures.leaves clean kept (c.last_made.ensures.same kept h.0)
-    (subst (λ x. IsNew x kept) (sym is) (new_connection c.new-conn.result kept (subst (AreNumbered 0) copy.0 copy.1))) left m
+    (subst (λ x. IsNew x kept) (sym is) (new_connection c.new-conn.result kept copy.1)) left m
     ∙ ap (λ x. applied x kept) is ∙ applied_connection c.new-conn.result kept))
     c.conn_of-former.result (former_is c.in-Some.line office.matcher c.conn_of-former.result c.conn_of-former.ensures.found c.conn_of-former.ensures.none)
     c.open.new.self c.close_former.new.matcher c.in_ok-open.ensures.ok c.close_former.ensures)

@@ -3,7 +3,7 @@ use Rattle.std.specs.Int.{w128}
 use Rattle.std.proofs.lemmas.Int.{to_z-of_z}
 use Rattle.poll_book.specs.declared.requests.Body.TheVariants as body
 use Rattle.poll_book.specs.declared.requests.RequestRow.{RequestRow}
-use Rattle.poll_book.specs.Changes.{AreNumbered, applied}
+use Rattle.poll_book.specs.Changes.{applied}
 use Rattle.poll_book.specs.Orders.{last_order}
 use Rattle.poll_book.specs.Tables.{Tables}
 use Rattle.office_core.specs.declared.event.Event.TheVariants.{Order}
@@ -44,7 +44,7 @@ returns-clause-goes g c clean =
     (λ kept h. c.in_ok-outcome.ensures.outcome (c.write.ensures.clean clean) kept h
     ∙ (λ i. ordered (last_order kept.settings) (ordering_of (last_order kept.settings) (known_named (c.deref.ensures.value i) point) (is_value i))))
     (λ kept h copy unused. subst new (applied_ordered (of kept) request c.request_change-change.result kept (change kept h))
-    (c.in_ok-write.ensures.kept clean kept (still kept h) (new_ordered (of kept) request c.request_change-change.result kept (change kept h) (subst (AreNumbered 0) copy.0 copy.1) unused)))
+    (c.in_ok-write.ensures.kept clean kept (still kept h) (new_ordered (of kept) request c.request_change-change.result kept (change kept h) copy.1 unused)))
 
 pub returns-clause-leaves : goal.returns-clause-leaves
 returns-clause-leaves g c clean =
@@ -72,7 +72,7 @@ returns-clause-leaves g c clean =
     (λ at. ordered_goes (At holds at) office.site known office.matcher c.args.caller.now c.args.key.now point value (Left may may' at false) c.in_ok-outcome.outcome
     (λ kept h. outcome kept h.0)
     (λ kept h copy unused left m. inl (c.in_ok-write.ensures.leaves clean kept (c.judge_order.ensures.same kept h.0)
-    (new_ordered (of kept) request c.request_change-change.result kept (change kept h.0) (subst (AreNumbered 0) copy.0 copy.1) unused) left m
+    (new_ordered (of kept) request c.request_change-change.result kept (change kept h.0) copy.1 unused) left m
     ∙ applied_ordered (of kept) request c.request_change-change.result kept (change kept h.0))))
 
 pub returns-in_err-write-clause-leaves : goal.returns-in_err-write-clause-leaves
@@ -106,4 +106,4 @@ returns-in_err-write-clause-leaves g c clean =
     (c.judge_order.ensures.leaves (c.write.ensures.clean clean))
     (applied_ordered (of kept) request c.request_change-change.result kept (change kept h.0))
     (c.in_err-write.ensures.leaves clean kept (c.judge_order.ensures.same kept h.0)
-    (new_ordered (of kept) request c.request_change-change.result kept (change kept h.0) (subst (AreNumbered 0) copy.0 copy.1) unused) left m)))
+    (new_ordered (of kept) request c.request_change-change.result kept (change kept h.0) copy.1 unused) left m)))

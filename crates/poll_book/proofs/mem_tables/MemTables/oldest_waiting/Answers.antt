@@ -11,6 +11,7 @@ invariant_of-self c =
     record {
       counted = before.counted;
       ordered = before.ordered;
+      by_point = before.by_point;
       rising = before.rising;
       right = c.set_mark.ensures c.self.inside.points.items c.self.inside.orders.items before.right past;
     }

@@ -1,0 +1,24 @@
+use Rattle.std.proofs.Common.{◌≡◌, ◌≤◌, IsTrue, drop, length, []}
+use Rattle.sqlite.specs.Effect.{Database}
+use Rattle.sqlite.specs.Held.{state}
+use Rattle.sqlite.specs.State.{HasCleanDisk, KeepsCommit, Survives}
+use Rattle.poll_book.specs.Tables.{Tables, with_sums}
+use Rattle.poll_book.specs.Totals.{totals_of}
+use Rattle.office_store.specs.Writing.{AreFree, Within}
+use Rattle.office_store.proofs.write_totals.put_first_totals.Given as goal
+
+abbrev pub invariant-loop-left : goal.invariant-loop-left
+invariant-loop-left g l =
+    let start = state g.S.Store l.fn.tx.conn.now in
+    let now = state g.S.Store l.tx.conn.now in
+    record {
+      same_reference : l.tx.conn.ghost_name ≡ l.fn.tx.conn.ghost_name;
+      survives : Survives start now (λ _. ⊥);
+      kept : HasCleanDisk now → KeepsCommit start now;
+      inside : HasCleanDisk now → IsTrue start.in_transaction → IsTrue now.in_transaction;
+      in_range : l.left ≤ length l.points;
+      put : HasCleanDisk now → (base : Database) (kept : Tables) → Within start base kept → AreFree kept.totals (totals_of l.points []) → Within now base (record kept { totals = with_sums (totals_of (drop l.left l.points) []) kept.totals });
+    }
+
+abbrev pub decreases-loop-left : goal.decreases-loop-left
+decreases-loop-left g l = l.left
