@@ -6,6 +6,7 @@ use Rattle.std.proofs.lemmas.Bool.{cases_lt}
 use Rattle.std.proofs.lemmas.List.Elements.{All-head, All-tail}
 use Rattle.std.proofs.lemmas.Option.{none-some, same_Some}
 use Rattle.poll_book.specs.Totals.{steps}
+use Rattle.poll_book.proofs.Steps.{by_way}
 use Rattle.office_core.specs.FirstArrivals.{step}
 use Rattle.office_core.specs.Losses.{first_of, last_of}
 
@@ -30,21 +31,6 @@ turn roll v w bv bw = by (cases_lt w v)
         let same : w + (roll + 1) - v ≡ (w - v) + (roll + 1) = omega (arith, le) in
         let is : step roll v w ≡ w - v = ap (λ n. n % (roll + 1)) same ∙ add-mod_right (w - v) (roll + 1) ∙ mod-eq_of_lt (omega (arith, bw)) in
         inl (ap (λ s. s + v) is ∙ omega (arith, le), le)
-
--- the way by b is as long as the way past it, or longer by a whole round
-turns : (roll a b c s t u : ℕ) → IsTurn roll a b s → IsTurn roll b c t → IsTurn roll a c u → (s + t ≡ u) ⊎ (s + t ≡ u + (roll + 1))
-turns roll a b c s t u (inl x) (inl y) (inl z) = inl (omega (arith, x.0, y.0, z.0))
-turns roll a b c s t u (inl x) (inl y) (inr z) = absurd (omega (arith, x.1, y.1, z.1))
-turns roll a b c s t u (inl x) (inr y) (inl z) = inr (omega (arith, x.0, y.0, z.0))
-turns roll a b c s t u (inl x) (inr y) (inr z) = inl (omega (arith, x.0, y.0, z.0))
-turns roll a b c s t u (inr x) (inl y) (inl z) = inr (omega (arith, x.0, y.0, z.0))
-turns roll a b c s t u (inr x) (inl y) (inr z) = inl (omega (arith, x.0, y.0, z.0))
-turns roll a b c s t u (inr x) (inr y) (inl z) = absurd (omega (arith, x.1, y.1, z.1))
-turns roll a b c s t u (inr x) (inr y) (inr z) = inr (omega (arith, x.0, y.0, z.0))
-
-by_way : (roll a b c : ℕ) → a ≤ roll → b ≤ roll → c ≤ roll
-    → (step roll a b + step roll b c ≡ step roll a c) ⊎ (step roll a b + step roll b c ≡ step roll a c + (roll + 1))
-by_way roll a b c ba bb bc = turns roll a b c _ _ _ (turn roll a b ba bb) (turn roll b c bb bc) (turn roll a c ba bc)
 
 -- ---- a number left out
 
