@@ -33,16 +33,42 @@ hears_piece told old new unread left piece fed frames fault count same counted c
 }
 
 -- nothing was heard
-pub hears_none : (P : Frame → Type 0) (held unread : Option (List ℕ)) → Hears (All P) held held unread unread 0
-hears_none P held unread = record {
+pub hears_none : (told : List Frame → Type 0) (held unread : Option (List ℕ)) → told [] → Hears told held held unread unread 0
+hears_none told held unread told_of = record {
   bytes = [];
   frames = [];
   consumed = Consumes-nil unread;
   counted = refl;
   completes = λ stream before stands.
       subst (λ s. StandsFor held s (before ++ [])) (sym (append-nil stream)) (subst (StandsFor held stream) (sym (append-nil before)) stands);
-  told_of = λ k d lt. absurd (omega (arith, lt));
+  told_of = told_of;
 }
+
+-- no frame, so none that isn't so
+pub none_among : (P : Frame → Type 0) → All P []
+none_among P k d lt = absurd (omega (arith, lt))
+
+-- what was heard has only such frames, whatever is left of them
+pub all_told : (P : Frame → Type 0) (held held' unread left : Option (List ℕ)) (after : List Frame) (count : ℕ) → Hears (λ frames. All P frames × (after ≡ [])) held held' unread left count
+    → Hears (All P) held held' unread left count
+all_told P held held' unread left after count heard = record {
+  bytes = heard.bytes;
+  frames = heard.frames;
+  consumed = heard.consumed;
+  counted = heard.counted;
+  completes = heard.completes;
+  told_of = heard.told_of.0;
+}
+
+-- a frame that waited answers
+pub hears_waiting : (query : Frame) (span : Span) (reply : Reply) (waiting after : List Frame) (held unread : Option (List ℕ)) → FirstAnswers query span reply waiting after
+    → HearsReply query span reply waiting after held held unread unread
+hears_waiting query span reply waiting after held unread first = (
+  0,
+  omega arith,
+  hears_none (λ frames. FirstAnswers query span reply (waiting ++ frames) after) held unread
+  (subst (λ w. FirstAnswers query span reply w after) (sym (append-nil waiting)) first),
+)
 
 module _ (first mid last unread still left : Option (List ℕ)) where
   -- one part after the other
@@ -68,11 +94,13 @@ module _ (first mid last unread still left : Option (List ℕ)) where
   pub hears_others : (P : Frame → Type 0) (m n : ℕ) → Hears (All P) first mid unread still m → Hears (All P) mid last still left n → Hears (All P) first last unread left (m + n)
   hears_others P m n = hears_then (All P) (All P) (All P) m n (All-append P)
 
-  -- another piece, in which a frame answers
-  pub hears_reply : (query : Frame) (span : Span) (reply : Reply) (m n : ℕ) → m + n ≤ 65536 → Hears (All (IsOther query span)) first mid unread still m
-      → Hears (FirstAnswers query span reply) mid last still left n → HearsReply query span reply first last unread left
-  hears_reply query span reply m n few one two = (
+  -- another piece, in which a frame answers, as none that waited did
+  pub hears_reply : (query : Frame) (span : Span) (reply : Reply) (waiting after : List Frame) (m n : ℕ) → m + n ≤ 65536 → All (IsOther query span) waiting
+      → Hears (All (IsOther query span)) first mid unread still m → Hears (λ frames. FirstAnswers query span reply frames after) mid last still left n
+      → HearsReply query span reply waiting after first last unread left
+  hears_reply query span reply waiting after m n few others one two = (
     m + n,
     few,
-    hears_then (All (IsOther query span)) (FirstAnswers query span reply) (FirstAnswers query span reply) m n (answers_later query span reply) one two,
+    hears_then (All (IsOther query span)) (λ frames. FirstAnswers query span reply frames after) (λ frames. FirstAnswers query span reply (waiting ++ frames) after) m n
+    (λ frames later before answers. answers_later query span reply after waiting (frames ++ later) others (answers_later query span reply after frames later before answers)) one two,
   )

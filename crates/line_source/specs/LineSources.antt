@@ -1,5 +1,5 @@
 -- What a read over a line asks, which frame answers it, and what is known of a source over a line.
-use Rattle.std.specs.Prelude.{◌≡◌, ℕ, ◌≤◌, List, ◌∷◌, ◌++◌, All, Option, Some, None, length}
+use Rattle.std.specs.Prelude.{◌≡◌, ℕ, ◌<◌, ◌≤◌, ◌+◌, List, [], ◌∷◌, ◌++◌, All, Option, Some, None, length, drop}
 use Rattle.std.specs.Io.KnownBytes.{Consumes}
 use Rattle.mb_pdu.specs.declared.request.Span.{Span}
 use Rattle.mb_pdu.specs.declared.request.Request.TheVariants.{ReadHolding}
@@ -19,6 +19,10 @@ reader_of source = source.reader
 
 abbrev pub writer_of : {R W : Type 0} → LineSource R W → Counted W
 writer_of source = source.writer
+
+-- the frames that came behind the last answer and weren't looked at yet
+abbrev pub waiting_of : {R W : Type 0} → LineSource R W → List Frame
+waiting_of source = source.waiting
 
 -- the bytes of a frame that isn't whole yet, or none after a bad header
 abbrev pub held_by : {R W : Type 0} → LineSource R W → Option (List ℕ)
@@ -59,19 +63,23 @@ pub record IsAnswer (query : Frame) (span : Span) (reply : Reply) (frame : Frame
 abbrev pub IsOther : Frame → Span → Frame → Type 0
 IsOther query span frame = (reply : Reply) → IsAnswer query span reply frame → ⊥
 
--- of these frames the first that answers has this reply
-pub record FirstAnswers (query : Frame) (span : Span) (reply : Reply) (frames : List Frame) : Type 0 where
+-- of these frames the first that answers has this reply, and those behind it are left
+pub record FirstAnswers (query : Frame) (span : Span) (reply : Reply) (frames left : List Frame) : Type 0 where
   pub skipped : List Frame
   pub frame : Frame
-  pub dropped : List Frame
-  pub split : frames ≡ skipped ++ frame ∷ dropped
+  pub split : frames ≡ skipped ++ frame ∷ left
   pub others : All (IsOther query span) skipped
   pub answer : IsAnswer query span reply frame
 
--- of these frames the first that answers has this reply, or none answers
-abbrev pub Tells : Frame → Span → Option Reply → List Frame → Type 0
-Tells query span (Some reply) frames = FirstAnswers query span reply frames
-Tells query span None frames = All (IsOther query span) frames
+-- of these frames the first that answers has this reply, and those behind it are left; or none answers, and none is left
+abbrev pub Tells : Frame → Span → Option Reply → List Frame → List Frame → Type 0
+Tells query span (Some reply) frames left = FirstAnswers query span reply frames left
+Tells query span None frames left = All (IsOther query span) frames × (left ≡ [])
+
+-- the same with the place of the frame
+abbrev pub Answers : Frame → Span → Option (ℕ × Reply) → List Frame → Type 0
+Answers query span (Some (place, reply)) frames = (place < length frames) × FirstAnswers query span reply frames (drop (place + 1) frames)
+Answers query span None frames = All (IsOther query span) frames
 
 -- the reply that a read's answer comes from: these registers, or that one of them isn't there
 abbrev pub reply_of : Option (List ℕ) → Reply
@@ -94,7 +102,8 @@ pub record Hears (told : List Frame → Type 0) (held held' : Option (List ℕ))
   pub completes : Completes held held' bytes frames
   pub told_of : told frames
 
--- so many bytes at most were read, and the first answer among the frames that they complete is this reply
-abbrev pub HearsReply : Frame → Span → Reply → Option (List ℕ) → Option (List ℕ) → Option (List ℕ) → Option (List ℕ) → Type 0
-HearsReply query span reply held held' unread left =
-    (count : ℕ) × (count ≤ 65536) × Hears (FirstAnswers query span reply) held held' unread left count
+-- so many bytes at most were read, and of the frames that waited and those that the bytes complete, the first that
+-- answers has this reply, and those behind it wait
+abbrev pub HearsReply : Frame → Span → Reply → List Frame → List Frame → Option (List ℕ) → Option (List ℕ) → Option (List ℕ) → Option (List ℕ) → Type 0
+HearsReply query span reply waiting waiting' held held' unread left =
+    (count : ℕ) × (count ≤ 65536) × Hears (λ frames. FirstAnswers query span reply (waiting ++ frames) waiting') held held' unread left count

@@ -8,6 +8,7 @@ ghost use Rattle.mb_pdu.specs.declared.request.Request.TheVariants.{ReadHolding}
 ghost use Rattle.line_source.specs.LineSources.{HearsReply, query_of, reply_of};
 
 use crate::hearing::await_reply;
+use crate::waiting::Waiting;
 use line_io::write_frame;
 use mb_mbap::{Counted, Frame, FrameReader};
 use mb_pdu::{Registers, Reply, Request, Span};
@@ -46,15 +47,16 @@ fn found_in(reply: Reply) -> Result<Option<Registers>, SourceFault>
 pub(crate) fn exchange<R: Read, W: Write>(
     query: &Frame,
     span: Span,
+    waiting: &mut Waiting,
     stream: &mut FrameReader,
     reader: &mut Counted<R>,
     writer: &mut Counted<W>,
 ) -> Result<Option<Registers>, SourceFault>
     ensures asked { OnOk result (Appends (W.contents (inner_of writer.old)) (W.contents (inner_of writer.new)) (spelled query.now)) }
-    ensures answered { IfOk result (λ found. HearsReply query.now span (reply_of found) stream.old stream.new
+    ensures answered { IfOk result (λ found. HearsReply query.now span (reply_of found) waiting.old waiting.new stream.old stream.new
         (R.remaining (inner_of reader.old)) (R.remaining (inner_of reader.new))) }
 {
     write_frame(writer, query, SourceFault)?;
-    let reply = await_reply(query, span, stream, reader)?;
+    let reply = await_reply(query, span, waiting, stream, reader)?;
     found_in(reply)
 }

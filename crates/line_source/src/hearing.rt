@@ -1,12 +1,13 @@
 //! What comes over a line is read until a frame answers.
-ghost use Rattle.std.specs.Prelude.{◌≡◌, ◌≤◌, ◌<◌, [], IfOk, IfSome, IfNone, MatchOption, length, take};
+ghost use Rattle.std.specs.Prelude.{◌≡◌, ◌≤◌, ◌<◌, [], IfOk, length, take};
 ghost use Rattle.std.specs.Io.KnownBytes.{Consumes};
 ghost use Rattle.mb_mbap.specs.Counted.{inner_of};
-ghost use Rattle.line_source.specs.LineSources.{Hears, HearsReply, IsAnswer, IsOther, Tells};
+ghost use Rattle.line_source.specs.LineSources.{Hears, HearsReply, Tells};
 
+use crate::waiting::Waiting;
 use line_io::read_some;
 use mb_mbap::{Counted, Frame, FrameReader};
-use mb_pdu::{Reply, Request, Span};
+use mb_pdu::{Reply, Span};
 use std::io::Read;
 use sunspec::SourceFault;
 
@@ -16,45 +17,21 @@ const MOST_READ: usize = 65_536;
 /// So many bytes are read at once at most.
 const PIECE: usize = 4096;
 
-/// The reply that a frame brings, if it answers.
-fn reply_in(query: &Frame, span: Span, frame: &Frame) -> Option<Reply>
-    ensures answer { IfSome result (λ reply. IsAnswer query.now span reply frame.now) }
-    ensures other { IfNone result (IsOther query.now span frame.now) }
-{
-    if frame.transaction != query.transaction || frame.unit_id != query.unit_id {
-        return None;
-    }
-    match Reply::decode(&Request::ReadHolding(span), frame.unit.as_bytes()) {
-        Ok(reply) => Some(reply),
-        Err(_) => None,
-    }
-}
-
-/// The reply of the first frame that answers.
-fn first_reply(query: &Frame, span: Span, frames: &[Frame]) -> Option<Reply>
-    ensures { Tells query.now span result frames.now }
-{
-    for frame in frames {
-        if let Some(reply) = reply_in(query, span, frame) {
-            return Some(reply);
-        }
-    }
-    None
-}
-
-/// Reads a piece of at most so many bytes, and looks at the frames that it completes. It answers
-/// with how many bytes were read.
+/// Reads a piece of at most so many bytes, and looks at the frames that it completes, of which those behind an answer
+/// wait. It answers with how many bytes were read.
 fn read_on<R: Read>(
     query: &Frame,
     span: Span,
+    waiting: &mut Waiting,
     stream: &mut FrameReader,
     most: usize,
     reader: &mut Counted<R>,
 ) -> Result<(usize, Option<Reply>), SourceFault>
+    requires none { waiting.old ≡ [] }
     requires some { 0 < most }
     requires few { most ≤ PIECE }
     ensures some { IfOk result (λ r. (0 < r.0) × (r.0 ≤ most)) }
-    ensures heard { IfOk result (λ r. Hears (Tells query.now span r.1) stream.old stream.new
+    ensures heard { IfOk result (λ r. Hears (λ frames. Tells query.now span r.1 frames waiting.new) stream.old stream.new
         (R.remaining (inner_of reader.old)) (R.remaining (inner_of reader.new)) r.0) }
 {
     let mut piece = [0u8; PIECE];
@@ -62,27 +39,33 @@ fn read_on<R: Read>(
     let Ok(fed) = stream.feed(&piece[..count]) else {
         return Err(SourceFault);
     };
-    let reply = first_reply(query, span, &fed.frames);
-    if reply.is_none() && fed.fault.is_some() {
+    let fault = fed.fault;
+    *waiting = Waiting::new(fed.frames);
+    let reply = waiting.take_reply(query, span);
+    if reply.is_none() && fault.is_some() {
         return Err(SourceFault);
     }
     Ok((count, reply))
 }
 
-/// Reads until a frame answers.
+/// Looks at the frames that wait, and reads until one answers.
 pub(crate) fn await_reply<R: Read>(
     query: &Frame,
     span: Span,
+    waiting: &mut Waiting,
     stream: &mut FrameReader,
     reader: &mut Counted<R>,
 ) -> Result<Reply, SourceFault>
-    ensures { IfOk result (λ reply. HearsReply query.now span reply stream.old stream.new
+    ensures { IfOk result (λ reply. HearsReply query.now span reply waiting.old waiting.new stream.old stream.new
         (R.remaining (inner_of reader.old)) (R.remaining (inner_of reader.new))) }
 {
+    if let Some(reply) = waiting.take_reply(query, span) {
+        return Ok(reply);
+    }
     let mut read = 0;
     'pieces: while read < MOST_READ {
         let most = PIECE.min(MOST_READ - read);
-        let (count, reply) = read_on(query, span, stream, most, reader)?;
+        let (count, reply) = read_on(query, span, waiting, stream, most, reader)?;
         if let Some(reply) = reply {
             return Ok(reply);
         }

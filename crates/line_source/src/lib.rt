@@ -6,5 +6,6 @@
 mod exchange;
 mod hearing;
 mod source;
+mod waiting;
 
 pub use source::LineSource;

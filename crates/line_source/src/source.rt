@@ -3,10 +3,11 @@ ghost use Rattle.std.specs.Prelude.{◌≡◌, ◌+◌, ◌%◌, ◌≤◌, Opti
 ghost use Rattle.std.specs.Io.KnownBytes.{Appends};
 ghost use Rattle.mb_mbap.specs.Counted.{failures_after, inner_of};
 ghost use Rattle.mb_mbap.specs.Stream.{spelled};
-ghost use Rattle.line_source.specs.LineSources.{HearsReply, failed_of, held_by, next_of, next_query, reader_of, reply_of, span_of, unit_of, writer_of};
+ghost use Rattle.line_source.specs.LineSources.{HearsReply, failed_of, held_by, next_of, next_query, reader_of, reply_of, span_of, unit_of, waiting_of, writer_of};
 ghost use Rattle.sunspec.specs.Sources.{CountsFailures, Image, IsRead};
 
 use crate::exchange::{exchange, query_for};
+use crate::waiting::Waiting;
 use mb_mbap::{Counted, FrameReader};
 use mb_pdu::{Registers, Span};
 use std::alloc::Global;
@@ -14,14 +15,15 @@ use std::io::{Read, Write};
 use sunspec::{RegisterSource, SourceFault};
 
 /// A device's holding registers over a line. Each read is one query of function 03, and the first
-/// frame of the stream that answers it decides. Frames that don't answer are skipped, and those
-/// behind the answer in the same piece are dropped: they came before the next query was asked. After a
+/// frame of the stream that answers it decides. Frames that don't answer are skipped, and those behind
+/// the answer wait for the next read, so that answers don't depend on how the stream was cut. After a
 /// fault bytes may be lost, so that what goes on takes a new connection and a new source.
 #[derive(Drop)]
 pub struct LineSource<R, W> {
     reader: Counted<R>,
     writer: Counted<W>,
     stream: FrameReader,
+    waiting: Waiting,
     unit_id: u8,
     next: u16,
     failures: u64,
@@ -38,6 +40,7 @@ impl<R, W> LineSource<R, W> {
         ensures reader { reader_of result ≡ reader }
         ensures writer { writer_of result ≡ writer }
         ensures held { held_by result ≡ Some [] }
+        ensures waiting { waiting_of result ≡ [] }
         ensures unit { unit_of result ≡ unit_id }
         ensures next { next_of result ≡ 0 }
         ensures failures { failed_of result ≡ 0 }
@@ -46,6 +49,7 @@ impl<R, W> LineSource<R, W> {
             reader,
             writer,
             stream: FrameReader::new(alloc),
+            waiting: Waiting::none(alloc),
             unit_id,
             next: 0,
             failures: 0,
@@ -79,7 +83,7 @@ impl<R: Read, W: Write> RegisterSource for LineSource<R, W> {
         ensures asked { OnOk result (Appends (W.contents (inner_of (writer_of self.old))) (W.contents (inner_of (writer_of self.new)))
             (spelled (next_query self.old (span_of start quantity)))) }
         ensures answered { IfOk result (λ found. HearsReply (next_query self.old (span_of start quantity)) (span_of start quantity) (reply_of found)
-            (held_by self.old) (held_by self.new)
+            (waiting_of self.old) (waiting_of self.new) (held_by self.old) (held_by self.new)
             (R.remaining (inner_of (reader_of self.old))) (R.remaining (inner_of (reader_of self.new)))) }
     {
         let span = Span { start, quantity };
@@ -88,6 +92,7 @@ impl<R: Read, W: Write> RegisterSource for LineSource<R, W> {
         match exchange(
             &query,
             span,
+            &mut self.waiting,
             &mut self.stream,
             &mut self.reader,
             &mut self.writer,
