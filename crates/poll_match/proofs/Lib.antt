@@ -2,7 +2,6 @@ pub mod Numbers
 pub mod Windows
 pub mod Valid
 pub mod Connections
-pub mod Naming
 pub mod Places
 pub mod Least
 pub mod Greatest

@@ -35,15 +35,16 @@ pub numbered_is : (t made n : ℕ) → numbered t made ≡ Some n → (n < made)
 numbered_is t zero n e = absurd (cc)
 numbered_is t (suc m) n e = numbered_is_step _ t m n refl e (λ q. numbered_is t m n q)
 
--- ---- the query of a transaction, computed
-pub numbered_back : (t made : ℕ) → t < 65536 → made ≢ 0 → ((made - 1) % 65536 + 65536 - t) % 65536 ≤ made - 1
-    → Some (made - 1 - ((made - 1) % 65536 + 65536 - t) % 65536) ≡ numbered t made
-numbered_back t made small some back =
-    sym (numbered_at t made (made - 1 - ((made - 1) % 65536 + 65536 - t) % 65536) (omega arith) (omega arith) (omega arith))
+-- ---- the query of a transaction, computed from the oldest that is kept
+pub numbered_kept : (t made first from : ℕ) → first ≡ made - 65536 → from ≡ t → t < 65536 → first + (from + 65536 - first % 65536) % 65536 < made
+    → Some (first + (from + 65536 - first % 65536) % 65536) ≡ numbered t made
+numbered_kept t made first from oldest is small lt =
+    sym (numbered_at t made (first + (from + 65536 - first % 65536) % 65536) lt (omega arith) (omega arith))
 
-no_number : (t made : ℕ) → t < 65536 → made ≢ 0 → made - 1 < ((made - 1) % 65536 + 65536 - t) % 65536 → (o : Option ℕ) → numbered t made ≡ o → None ≡ o
-no_number t made small some back None e = refl
-no_number t made small some back (Some n) e = let p = numbered_is t made n e in absurd (omega arith)
+no_number : (t made first from : ℕ) → first ≡ made - 65536 → from ≡ t → t < 65536 → made ≤ first + (from + 65536 - first % 65536) % 65536
+    → (o : Option ℕ) → numbered t made ≡ o → None ≡ o
+no_number t made first from oldest is small past None e = refl
+no_number t made first from oldest is small past (Some n) e = let p = numbered_is t made n e in absurd (omega arith)
 
-pub numbered_none : (t made : ℕ) → t < 65536 → made ≢ 0 → made - 1 < ((made - 1) % 65536 + 65536 - t) % 65536 → None ≡ numbered t made
-numbered_none t made small some back = no_number t made small some back (numbered t made) refl
+pub numbered_none : (t made first from : ℕ) → first ≡ made - 65536 → from ≡ t → t < 65536 → made ≤ first + (from + 65536 - first % 65536) % 65536 → None ≡ numbered t made
+numbered_none t made first from oldest is small past = no_number t made first from oldest is small past (numbered t made) refl

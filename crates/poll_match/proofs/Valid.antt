@@ -1,6 +1,7 @@
 -- Queries that are valid.
-use Rattle.std.proofs.Common.{◌≡◌, ◌≤◌, ◌<◌, ℕ, zero, suc, Bool, true, false, List, [], ◌∷◌, length, get_or, arith, cond, eqb, refl, inl, inr, ◌⊎◌}
+use Rattle.std.proofs.Common.{◌≡◌, ◌≤◌, ◌<◌, ℕ, zero, suc, Bool, true, false, List, [], ◌∷◌, length, get_or, arith, cond, eqb, ltb, refl, sym, ap, ◌∙◌, ◌-◌, inl, inr, ◌⊎◌, None}
 use Rattle.std.proofs.lemmas.Bool.{and_parts, eqb-true, leb-true}
+use Rattle.std.proofs.lemmas.Option.{slice_get_within}
 use Rattle.std.specs.List.{list_all}
 use Rattle.std.specs.Prelude.{slice_get, Some, nat_le}
 use Rattle.mb_pdu.specs.Grammar.{IsValid}
@@ -18,6 +19,7 @@ use Rattle.poll_match.specs.declared.asked.Asked.TheVariants.{Read, Write}
 use Rattle.poll_match.specs.declared.asked.Payload.{Payload}
 use Rattle.poll_match.specs.declared.asked.Payload.TheVariants.{Coil, One, Two, Four}
 use Rattle.poll_match.specs.declared.asked.Matched.{Matched}
+use Rattle.poll_match.specs.Window.{Open, first_number, query_at}
 
 -- by the function, one of four or another
 abbrev limit_by : Bool → Bool → Bool → Bool → ℕ
@@ -106,3 +108,14 @@ pub slice_get-within : (queries : List Matched) (i : ℕ) (q d : Matched) → sl
 slice_get-within [] i q d e = absurd (cc)
 slice_get-within (x ∷ xs) zero q d e = cc
 slice_get-within (x ∷ xs) (suc i) q d e = slice_get-within xs i q d e
+
+-- a kept query is valid
+pub kept_is_valid : (on : Open) (n : ℕ) (q : Matched) → list_all (λ (query : Matched). is_valid query.asked) on.last ≡ true → query_at on n ≡ Some q → is_valid q.asked ≡ true
+kept_is_valid on n q all at = by (ltb n (first_number on)) at
+  where
+    by : (b : Bool) → cond b None (slice_get on.last (n - first_number on)) ≡ Some q → is_valid q.asked ≡ true
+    by true e = absurd (cc)
+    by false e =
+        let within = slice_get_within on.last (n - first_number on) q e in
+        let is = slice_get-within on.last (n - first_number on) q q e in
+        ap (λ (m : Matched). is_valid m.asked) (sym is) ∙ valid_at on.last (n - first_number on) q within all

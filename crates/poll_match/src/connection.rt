@@ -1,24 +1,29 @@
 //! An open connection with its queries.
-ghost use Rattle.std.specs.Prelude.{◌≡◌, ◌≤◌, ◌<◌, [], IfOk, OnOk, OnErr, IfErr, ◌⊎◌, Some, None, slice_get, true};
+ghost use Rattle.std.specs.Prelude.{◌≡◌, ◌≤◌, ◌<◌, ◌-◌, [], IfOk, OnOk, OnErr, IfErr, Some, None, true};
 ghost use Rattle.mb_pdu.specs.Replies.{spells_reply};
 ghost use Rattle.poll_match.specs.Queries.{CanBeAsked, is_valid, request_of};
-ghost use Rattle.poll_match.specs.Window.{IsKept, IsNextFrame, Names, next_refusal, numbered, query_refusal, refusal, with_next, with_settled};
+ghost use Rattle.poll_match.specs.Window.{IsKept, IsNextFrame, Names, next_refusal, numbered, query_at, query_refusal, refusal, with_next, with_settled};
 
 use crate::asked::{Asked, Matched};
 use crate::conn::Conn;
 use crate::error::MatchError;
 use crate::matcher::Found;
+use circular_buffer::HeapCircularBuffer;
 use mb_mbap::Frame;
 use mb_pdu::Reply;
 use std::alloc::{AllocError, Global};
 use std::marker::Model;
 
-/// An open connection with all its queries. Contracts see the last 65,536 of them.
+/// How many queries of a connection are kept.
+const KEPT: u32 = 65_536;
+
+/// An open connection with its last queries, in a ring that holds as many from the start.
 #[derive(Debug, Drop)]
 pub(crate) struct Connection {
     conn: Conn,
     line: u16,
-    queries: Vec<Matched>,
+    made: u32,
+    queries: HeapCircularBuffer<Matched>,
 }
 
 impl Model for Connection {
@@ -33,27 +38,20 @@ impl Model for Connection {
     ghost invariant = { IsConnection };
 }
 
-/// The newest of so many queries whose number has this remainder.
-fn numbered(transaction: u16, made: usize) -> Option<usize>
-    ensures { result ≡ numbered transaction made }
+/// The number of the oldest of so many queries that is kept.
+fn first_number(made: u32) -> u32
+    ensures { result ≡ made - KEPT }
 {
-    if made == 0 {
-        return None;
-    }
-    let last = made - 1;
-    let back = (last % 65536 + 65536 - transaction as usize) % 65536;
-    if back <= last {
-        Some(last - back)
-    } else {
-        None
-    }
+    made.saturating_sub(KEPT)
 }
 
-/// The query at a place.
-fn query_at(queries: &[Matched], place: usize) -> Option<Matched>
-    ensures { result ≡ slice_get queries.now place }
+/// Of so many queries the kept one whose number has this remainder.
+fn numbered(transaction: u16, made: u32) -> Option<u32>
+    ensures { result ≡ numbered transaction made }
 {
-    queries.get(place).copied()
+    let first = first_number(made);
+    let number = first + (u32::from(transaction) + 65_536 - first % 65_536) % 65_536;
+    if number < made { Some(number) } else { None }
 }
 
 /// The reply to a query that a frame brings, or the first refusal that holds.
@@ -76,15 +74,17 @@ fn reply_to(query: &Matched, frame: &Frame) -> Result<Reply, MatchError>
 }
 
 impl Connection {
-    /// A connection of a line that made no query.
-    pub(crate) fn new(alloc: Global, conn: Conn, line: u16) -> Connection
-        ensures { result ≡ record { number = conn; line = line; made = 0; last = [] } }
+    /// A connection of a line that made no query. It takes all the memory that it will ever take.
+    pub(crate) fn new(alloc: Global, conn: Conn, line: u16) -> Result<Connection, AllocError>
+        ensures { IfOk result (λ c. c ≡ record { number = conn; line = line; made = 0; last = [] }) }
     {
-        Connection {
+        let queries = HeapCircularBuffer::with_capacity(alloc, KEPT as usize)?;
+        Ok(Connection {
             conn,
             line,
-            queries: Vec::new(alloc),
-        }
+            made: 0,
+            queries,
+        })
     }
 
     pub(crate) fn conn(&self) -> Conn
@@ -104,21 +104,28 @@ impl Connection {
         ensures value { result ≡ self.now.made }
         ensures few { self.now.made ≤ 4294967295 }
     {
-        self.queries.len() as u32
+        self.made
     }
 
-    /// Keeps the next query.
-    fn push(&mut self, asked: Asked) -> Result<(), AllocError>
+    /// The kept query of a number.
+    fn query_at(&self, number: u32) -> Option<Matched>
+        ensures { result ≡ query_at self.now number }
+    {
+        let place = number.checked_sub(first_number(self.made))?;
+        self.queries.get(place as usize).copied()
+    }
+
+    /// Keeps the next query, in the place of the oldest where the ring is full.
+    fn push(&mut self, asked: Asked)
         requires room { self.old.made < 4294967295 }
         requires valid { is_valid asked ≡ true }
-        ensures ok { OnOk result (self.new ≡ with_next asked self.old) }
-        ensures err { OnErr result (self.new ≡ self.old) }
+        ensures { self.new ≡ with_next asked self.old }
     {
-        self.queries.push(Matched {
+        let _ = self.queries.push_back(Matched {
             asked,
             settled: false,
-        })?;
-        Ok(())
+        });
+        self.made += 1;
     }
 
     /// Makes the next query, and gives the frame that carries it.
@@ -127,7 +134,7 @@ impl Connection {
         ensures frame { IfOk result (λ frame. IsNextFrame asked (Some self.old) frame) }
         ensures next { OnOk result (self.new ≡ with_next asked self.old) }
         ensures accepted { OnOk result (next_refusal (Some self.old) ≡ None) }
-        ensures refused { IfErr result (λ e. (e ≡ MatchError.Memory) ⊎ (next_refusal (Some self.old) ≡ Some e)) }
+        ensures refused { IfErr result (λ e. next_refusal (Some self.old) ≡ Some e) }
         ensures err { OnErr result (self.new ≡ self.old) }
         ensures number { self.new.number ≡ self.old.number }
     {
@@ -135,9 +142,7 @@ impl Connection {
         if made >= u32::MAX {
             return Err(MatchError::Exhausted);
         }
-        if self.push(asked).is_err() {
-            return Err(MatchError::Memory);
-        }
+        self.push(asked);
         Ok(Frame {
             transaction: (made % 65536) as u16,
             unit_id: asked.unit_id(),
@@ -152,15 +157,15 @@ impl Connection {
         ensures found { IfOk result (λ f. Names (Some self.now) frame.now f.number f.asked f.reply) }
         ensures kept { IfOk result (λ f. IsKept self.now f.number) }
     {
-        let Some(number) = numbered(frame.transaction, self.queries.len()) else {
+        let Some(number) = numbered(frame.transaction, self.made) else {
             return Err(MatchError::NoQuery);
         };
-        let Some(query) = query_at(self.queries.as_slice(), number) else {
+        let Some(query) = self.query_at(number) else {
             return Err(MatchError::NoQuery);
         };
         match reply_to(&query, frame) {
             Ok(reply) => Ok(Found {
-                number: number as u32,
+                number,
                 asked: query.asked,
                 reply,
             }),
@@ -173,6 +178,9 @@ impl Connection {
         requires { IsKept self.old number }
         ensures { self.new ≡ with_settled number self.old }
     {
-        self.queries[number as usize].settled = true;
+        let place = number - first_number(self.made);
+        if let Some(query) = self.queries.get_mut(place as usize) {
+            query.settled = true;
+        }
     }
 }

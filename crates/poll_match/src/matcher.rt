@@ -1,5 +1,5 @@
 //! The open connections and their queries.
-ghost use Rattle.std.specs.Prelude.{◌≡◌, ◌⊎◌, ℕ, [], IfOk, IfErr, OnOk, OnErr, IfSome, IfNone, Some, None, true, ◌==◌, if◌then◌else◌};
+ghost use Rattle.std.specs.Prelude.{◌≡◌, ℕ, [], IfOk, IfErr, OnOk, OnErr, IfSome, IfNone, Some, None, true, ◌==◌, if◌then◌else◌};
 ghost use Rattle.poll_match.specs.Queries.{is_valid};
 ghost use Rattle.poll_match.specs.Window.{Changes, IsLeastOf, IsNextFrame, KeepsQuery, LeastIn, Names, closed, fresh, greater, greatest_of, held, lesser, line_of, made_of, next_refusal, place, refusal, with_answer, with_query};
 
@@ -109,15 +109,17 @@ impl Matcher {
         }
     }
 
-    /// Opens a connection of a line, which mustn't be open. It refuses for memory alone, and then
-    /// nothing has changed.
+    /// Opens a connection of a line, which mustn't be open, and takes the memory of all queries that
+    /// will be kept of it. It refuses for memory alone, and then nothing has changed.
     pub fn open(&mut self, conn: Conn, line: u16) -> Result<(), MatchError>
         requires { held conn self.old ≡ None }
         ensures ok { OnOk result (Changes conn (fresh conn line) self.old self.new) }
         ensures memory { IfErr result (λ e. e ≡ MatchError.Memory) }
         ensures err { OnErr result (self.new ≡ self.old) }
     {
-        let connection = Connection::new(self.alloc, conn, line);
+        let Ok(connection) = Connection::new(self.alloc, conn, line) else {
+            return Err(MatchError::Memory);
+        };
         if self.connections.push(connection).is_err() {
             return Err(MatchError::Memory);
         }
@@ -177,14 +179,14 @@ impl Matcher {
     }
 
     /// Makes the next query of a connection, and gives the frame that carries it. It refuses with
-    /// `NoConnection`, then `Exhausted` after 4,294,967,295 queries, then `Memory`; then nothing
-    /// has changed.
+    /// `NoConnection`, then `Exhausted` after 4,294,967,295 queries; then nothing has changed. It
+    /// takes no memory.
     pub fn next_query(&mut self, conn: Conn, asked: Asked) -> Result<Frame, MatchError>
         requires { is_valid asked ≡ true }
         ensures frame { IfOk result (λ frame. IsNextFrame asked (held conn self.old) frame) }
         ensures next { OnOk result (Changes conn (with_query asked) self.old self.new) }
         ensures accepted { OnOk result (next_refusal (held conn self.old) ≡ None) }
-        ensures refused { IfErr result (λ e. (e ≡ MatchError.Memory) ⊎ (next_refusal (held conn self.old) ≡ Some e)) }
+        ensures refused { IfErr result (λ e. next_refusal (held conn self.old) ≡ Some e) }
         ensures err { OnErr result (self.new ≡ self.old) }
     {
         match place_of(&self.connections, conn) {

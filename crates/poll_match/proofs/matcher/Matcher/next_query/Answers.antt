@@ -1,7 +1,6 @@
-use Rattle.std.proofs.Common.{◌≡◌, ◌∙◌, sym, ap, subst, Some, None, Option, rules, inr}
-use Rattle.std.specs.Prelude.{IfErr, IfOk, OnOk, ◌⊎◌}
+use Rattle.std.proofs.Common.{◌≡◌, ◌∙◌, sym, ap, subst, Some, None, Option, rules}
+use Rattle.std.specs.Prelude.{IfErr, IfOk, OnOk}
 use Rattle.std.proofs.lemmas.Result.{on_ok_weaker}
-use Rattle.poll_match.specs.declared.error.MatchError.TheVariants.{Memory}
 use Rattle.poll_match.specs.Window.{Open, place, held, IsNextFrame, next_refusal, with_query}
 use Rattle.poll_match.proofs.Places.{apart_replaced, changes, held_at, not_held, replaced}
 use Rattle.poll_match.proofs.matcher.Matcher.next_query.Goals as goal
@@ -38,10 +37,10 @@ returns-in-Some-clause-refused c =
     let all = c.self.inside.connections.items in
     let at : place c.args.conn all ≡ Some c.in-Some.place = search rules in
     let is : Some c.index_mut.result.now ≡ held c.args.conn c.args.self.now = ap Some c.index_mut.ensures.value ∙ sym (held_at c.args.conn all c.in-Some.place c.index_mut.result.now at).1 ∙ ap (held c.args.conn) c.self.view_is in
-    subst (λ (o : Option Open). IfErr c.next_query.result (λ e. (e ≡ Memory) ⊎ (next_refusal o ≡ Some e))) is c.next_query.ensures.refused
+    subst (λ (o : Option Open). IfErr c.next_query.result (λ e. next_refusal o ≡ Some e)) is c.next_query.ensures.refused
 
 pub returns-in-None-clause-refused : goal.returns-in-None-clause-refused
 returns-in-None-clause-refused c =
     let all = c.self.inside.connections.items in
     let at : place c.args.conn all ≡ None = search rules in
-    inr (ap next_refusal (sym (ap (held c.args.conn) c.self.view_is) ∙ not_held c.args.conn all at))
+    ap next_refusal (sym (ap (held c.args.conn) c.self.view_is) ∙ not_held c.args.conn all at)
