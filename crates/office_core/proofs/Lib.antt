@@ -47,4 +47,5 @@ pub mod SlotsLost
 pub mod LostReadings
 pub mod Calls
 pub mod SameArrivals
+pub mod AskedAgain
 pub mod Looked

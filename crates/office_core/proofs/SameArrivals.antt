@@ -55,6 +55,15 @@ query_before before h e c n q asking p is = record {
   is = is.is;
 }
 
+-- a reply gives words to points that are known
+pub row_known : (before : History) (c n : ℕ) (unit : List ℕ) (e : History) (row : PointRow) (slot : ℕ) (words : List ℕ) → Happened before (Reply c n unit) e
+    → Gives e c n unit row slot words → Contains (points before) row
+row_known before c n unit e row slot words came g =
+    let asked = before_that before (Reply c n unit) e _ g.replies.asking came g.replies.query.came in
+    let longer = points_stay (asked.later ++ _ ∷ []) g.replies.asking in
+    subst (λ l. Contains l row) (sym (ap points (asked.stands ∙ sym (append_assoc asked.later (_ ∷ []) g.replies.asking)) ∙ longer.1))
+    (Contains-append_left (points g.replies.asking) longer.0 row g.known)
+
 -- a query keeps its number from its reply on
 query_on : (before : History) (c n : ℕ) (unit : List ℕ) (e : History) (q : Query) → Happened before (Reply c n unit) e → slice_get (asked e c) n ≡ Some q
     → slice_get (asked before c) n ≡ Some q
@@ -210,14 +219,6 @@ module _ (one other : History) (legal : Legal one) (legal_other : Legal other) (
     came = λ c n unit. (same.units c n unit).1;
     units = copies.units;
   }
-
-  row_known : (before : History) (c n : ℕ) (unit : List ℕ) (e : History) (row : PointRow) (slot : ℕ) (words : List ℕ) → Happened before (Reply c n unit) e
-      → Gives e c n unit row slot words → Contains (points before) row
-  row_known before c n unit e row slot words came g =
-      let asked = before_that before (Reply c n unit) e _ g.replies.asking came g.replies.query.came in
-      let longer = points_stay (asked.later ++ _ ∷ []) g.replies.asking in
-      subst (λ l. Contains l row) (sym (ap points (asked.stands ∙ sym (append_assoc asked.later (_ ∷ []) g.replies.asking)) ∙ longer.1))
-      (Contains-append_left (points g.replies.asking) longer.0 row g.known)
 
   one_reading : (point slot : ℕ) (x y : Reading) → reading_at (readings one) (point, slot) ≡ Some x → reading_at (readings other) (point, slot) ≡ Some y → x ≡ y
   one_reading point slot x y e f =

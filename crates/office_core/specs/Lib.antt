@@ -17,6 +17,7 @@ pub mod FirstArrivals
 pub mod KeptRequests
 pub mod SettledOrders
 pub mod SameArrivals
+pub mod AskedAgain
 pub mod Losses
 pub mod Fitting
 pub mod Messages

@@ -23,6 +23,7 @@ ghost use Rattle.office_core.specs.Standing.{Sees};
 ghost use Rattle.office_core.specs.FirstArrivals.{IsReadingOf, AreBySlot, sum_of_steps, numbers_of};
 ghost use Rattle.office_core.specs.Losses.{HasReadingsOf, first_slot, last_slot};
 ghost use Rattle.office_core.specs.SameArrivals.{HaveSameArrivals, HasEqualCopies};
+ghost use Rattle.office_core.specs.AskedAgain.{AgreeOnWords, HaveSameSlots};
 ghost use Rattle.office_core.specs.KeptRequests.{IsFirstRequest, OrderedUnder};
 ghost use Rattle.office_core.specs.SettledOrders.{IsSend, IsOldest, IsSettledBy};
 
@@ -47,6 +48,16 @@ pub fn order_free()
         → (known : PointRow) → total one known ≡ total other known }
     ensures orders { (one other : History) → Legal one → Legal other → HaveSameArrivals one other → HasEqualCopies one
         → settings one ≡ settings other }
+{}
+
+/// Asking again changes nothing: two histories with the same points, in which the same slots of a point
+/// have readings, leave the same readings and totals, however often reads were asked and whatever was lost
+/// on the way, where any two replies that give words to one slot of a point give it the same.
+pub fn asked_again()
+    ensures readings { (one other : History) → Legal one → Legal other → points one ≡ points other → HaveSameSlots one other → AgreeOnWords one other
+        → readings one ≡ readings other }
+    ensures totals { (one other : History) → Legal one → Legal other → points one ≡ points other → HaveSameSlots one other → AgreeOnWords one other
+        → (known : PointRow) → total one known ≡ total other known }
 {}
 
 /// Readings that are lost never raise a total. Take two histories with the same points, of which the one
