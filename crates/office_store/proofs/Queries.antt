@@ -9,7 +9,7 @@ use Rattle.sqlite_resolve.specs.Lowering.{and_then}
 use Rattle.sqlite_resolve.specs.Compile.{compiled, first, planned, meaning, returning, command, timed, with_command, small}
 use Rattle.sqlite_resolve.specs.declared.error.CompileError.TheVariants.{NoSuchTable}
 use Rattle.sqlite_tied.specs.Compute.{everything}
-use Rattle.office_store.specs.Texts.{version_text, readings_text, reading_key_text, value_before_text, value_after_text, points_text, point_text, setting_text, connections_text, request_text, total_text, last_text, waiting_text}
+use Rattle.office_store.specs.Texts.{names_text, version_text, readings_text, reading_key_text, value_before_text, value_after_text, points_text, point_text, setting_text, connections_text, request_text, total_text, last_text, waiting_text}
 use Rattle.sqlite.specs.Listing.{understood, reads_listing, if_select, listing_schema, is_select}
 use Rattle.office_store.specs.Kept.{IsQuery}
 
@@ -51,6 +51,10 @@ is_query sql nothing schema c =
       | true ↦ λ h. compiled_shows_nothing listing_schema sql c nothing (selected _ c h)
       | false ↦ λ h. compiled_shows_nothing schema sql c nothing h
     ]
+
+pub names_is_query : IsQuery names_text
+unfolding everything
+names_is_query = is_query names_text (λ schema base. refl)
 
 pub version_is_query : IsQuery version_text
 unfolding everything

@@ -4,6 +4,9 @@ use Rattle.std.specs.Prelude.{List, ℕ, codes}
 abbrev pub version_text : List ℕ
 version_text = codes "SELECT value FROM meta WHERE name = 'version'"
 
+abbrev pub names_text : List ℕ
+names_text = codes "SELECT name FROM sqlite_schema LIMIT 1"
+
 abbrev pub readings_text : List ℕ
 readings_text = codes "SELECT point, slot, words, counted FROM reading WHERE point = ?1 AND slot >= ?2 AND slot <= ?3 ORDER BY slot"
 

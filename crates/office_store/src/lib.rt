@@ -5,6 +5,7 @@
 
 mod apply;
 mod ask;
+mod blank;
 mod error;
 mod from_row;
 mod keeper;
@@ -26,6 +27,7 @@ mod write_requests;
 mod write_settings;
 mod write_totals;
 
+pub use blank::is_blank;
 pub use error::StoreError;
 pub use keeper::SqlKeeper;
 pub use making::create;
