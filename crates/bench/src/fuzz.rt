@@ -1,0 +1,258 @@
+//! A fuzzer: for each reader so many inputs that are drawn from a seed. It ends at the first one that comes to anything but
+//! a value or a named refusal, that takes more than a second, or after which an object isn't as it was.
+ghost use Rattle.point_list.specs.Sites.{IsSound};
+
+use crate::fuzz::dice::{Dice, drawn};
+use crate::pace::{granted, refused, timed};
+use office_core::Office;
+use office_plays::builders::{TWO, office_after, shown, site};
+use office_plays::steps::Happens::{self, Load};
+use point_list::Site;
+use poll_book::MemKeeper;
+use std::alloc::{AllocError, Global};
+use std::io;
+use std::time::{Duration, SystemTime};
+
+mod dice;
+mod readers;
+mod samples;
+mod stores;
+
+/// How many inputs each reader gets.
+const CASES: u32 = 100_000;
+
+/// So many requests come to one office.
+const CALLS: u32 = 100;
+
+/// What came of an input.
+#[derive(Clone, Copy, Debug, PartialEq, Eq)]
+pub enum Came {
+    Value,
+    Refused,
+}
+
+/// What ends the fuzzer.
+#[derive(Clone, Copy, Debug)]
+pub enum Trouble {
+    Memory,
+    /// What was wrong.
+    Wrong(&'static str),
+}
+
+impl From<AllocError> for Trouble {
+    fn from(_: AllocError) -> Trouble {
+        Trouble::Memory
+    }
+}
+
+/// What reads bytes.
+#[derive(Clone, Copy, Debug)]
+enum Reader {
+    Request,
+    Reply,
+    Stream,
+    List,
+    Site,
+    Image,
+    Script,
+    Words,
+}
+
+const READERS: &[Reader] = &[
+    Reader::Request,
+    Reader::Reply,
+    Reader::Stream,
+    Reader::List,
+    Reader::Site,
+    Reader::Image,
+    Reader::Script,
+    Reader::Words,
+];
+
+impl Reader {
+    fn samples(self) -> &'static [&'static [u8]] {
+        match self {
+            Reader::Request => samples::REQUESTS,
+            Reader::Reply => samples::REPLIES,
+            Reader::Stream => samples::STREAMS,
+            Reader::List => samples::LISTS,
+            Reader::Site => samples::SITES,
+            Reader::Image => samples::IMAGES,
+            Reader::Script => samples::SCRIPTS,
+            Reader::Words => samples::WORDS,
+        }
+    }
+
+    fn read(
+        self,
+        alloc: Global,
+        dice: &mut Dice,
+        known: &Site,
+        bytes: &[u8],
+    ) -> Result<Came, Trouble>
+        requires { IsSound known.now }
+    {
+        match self {
+            Reader::Request => readers::request(bytes),
+            Reader::Reply => readers::reply(bytes),
+            Reader::Stream => readers::stream(alloc, dice, bytes),
+            Reader::List => readers::list(alloc, known, bytes),
+            Reader::Site => readers::site_file(alloc, bytes),
+            Reader::Image => readers::image(alloc, bytes),
+            Reader::Script => readers::script(alloc, bytes),
+            Reader::Words => readers::words(alloc, bytes),
+        }
+    }
+}
+
+/// How many inputs came to what, and the longest time that one took.
+#[derive(Drop)]
+struct Tally {
+    values: u32,
+    refused: u32,
+    longest: Duration,
+}
+
+impl Tally {
+    const NONE: Tally = Tally {
+        values: 0,
+        refused: 0,
+        longest: Duration::ZERO,
+    };
+
+    /// Counts what came of an input, and ends with a fault where that was no value and no refusal, or came late.
+    fn count(
+        &mut self,
+        rt: &HostRuntime,
+        bytes: &[u8],
+        came: Result<Came, Trouble>,
+        took: Duration,
+    ) -> io::Result<()> {
+        self.longest = self.longest.max(took);
+        if took > Duration::from_secs(1) {
+            return told(rt, bytes, Trouble::Wrong("over a second"));
+        }
+        match came {
+            Ok(Came::Value) => self.values = self.values.saturating_add(1),
+            Ok(Came::Refused) => self.refused = self.refused.saturating_add(1),
+            Err(trouble) => return told(rt, bytes, trouble),
+        }
+        Ok(())
+    }
+
+    fn print(&self, rt: &HostRuntime, name: &str) -> io::Result<()> {
+        let Tally {
+            values,
+            refused,
+            longest,
+        } = self;
+        let micros = longest.as_micros();
+        println!(rt; "{name}: {values} values, {refused} refused, the longest {micros} us")
+    }
+}
+
+/// Prints what was wrong and the input, and ends with a fault.
+fn told(rt: &HostRuntime, bytes: &[u8], trouble: Trouble) -> io::Result<()> {
+    println!(rt; "{trouble:?}: {bytes:?}")?;
+    Err(io::Error::other("an input that comes to neither a value nor a refusal"))
+}
+
+fn try_reader(rt: &HostRuntime, dice: &mut Dice, known: &Site, reader: Reader) -> io::Result<()>
+    requires { IsSound known.now }
+{
+    let mut tally = Tally::NONE;
+    for _ in 0..CASES {
+        let bytes = drawn(rt.alloc(), dice, reader.samples())?;
+        let (came, took) = timed!(rt, reader.read(rt.alloc(), dice, known, &bytes));
+        tally.count(rt, &bytes, came, took)?;
+    }
+    tally.print(rt, format!(in rt.alloc(); "{reader:?}")?.as_str())
+}
+
+const KNOWN: &[Happens] = &[Load(
+    "l0",
+    "e,m1,holding,107,uint16,,,counter,\nlim,m1,holding,40,uint16,,,setting,\n",
+)];
+
+fn office_of(alloc: Global) -> io::Result<Office<MemKeeper>> {
+    granted(office_after(alloc, MemKeeper::new(alloc), KNOWN).ok())
+}
+
+/// What an office keeps, as a text.
+fn kept_by(alloc: Global, office: &mut Office<MemKeeper>) -> io::Result<String> {
+    granted(shown(alloc, office).ok())
+}
+
+/// A request that comes to an office. Where it asks for nothing that is kept, the office stays as it was.
+fn call(rt: &HostRuntime, office: &mut Office<MemKeeper>, bytes: &[u8]) -> io::Result<Came> {
+    let before = kept_by(rt.alloc(), office)?;
+    let came = match readers::call(rt.alloc(), office, bytes) {
+        Ok(came) => came,
+        Err(trouble) => {
+            told(rt, bytes, trouble)?;
+            return Ok(Came::Refused);
+        }
+    };
+    let after = kept_by(rt.alloc(), office)?;
+    if came == Came::Refused && !bytes.starts_with(b"PUT") && before.as_str() != after.as_str() {
+        told(rt, bytes, Trouble::Wrong("an office that isn't as before"))?;
+    }
+    Ok(came)
+}
+
+fn try_calls(rt: &HostRuntime, dice: &mut Dice, tally: &mut Tally) -> io::Result<()> {
+    let mut office = office_of(rt.alloc())?;
+    for _ in 0..CALLS {
+        let bytes = drawn(rt.alloc(), dice, samples::CALLS)?;
+        let (came, took) = timed!(rt, call(rt, &mut office, &bytes)?);
+        tally.count(rt, &bytes, Ok(came), took)?;
+    }
+    Ok(())
+}
+
+fn try_offices(rt: &HostRuntime, dice: &mut Dice) -> io::Result<()> {
+    let mut tally = Tally::NONE;
+    for _ in 0..CASES / CALLS {
+        try_calls(rt, dice, &mut tally)?;
+    }
+    tally.print(rt, "Call")
+}
+
+fn try_stores(rt: &HostRuntime, dice: &mut Dice) -> io::Result<()> {
+    let mut tally = Tally::NONE;
+    let file = stores::sound(rt.alloc())?;
+    for _ in 0..CASES {
+        let Ok(bytes) = stores::damaged(rt.alloc(), dice, &file) else {
+            return Err(io::Error::from(io::ErrorKind::OutOfMemory));
+        };
+        let (came, took) = timed!(rt, stores::store(rt.alloc(), &bytes));
+        tally.count(rt, &bytes, came, took)?;
+    }
+    tally.print(rt, "Store")
+}
+
+/// The nanoseconds of the clock's second.
+fn nanos(rt: &HostRuntime) -> io::Result<u64> {
+    match SystemTime::now(rt)?.duration_since(SystemTime::UNIX_EPOCH) {
+        Ok(time) => Ok(u64::from(time.subsec_nanos())),
+        Err(_) => Ok(1),
+    }
+}
+
+/// Tries each reader on inputs that follow from a seed, which it prints.
+pub fn run(rt: &HostRuntime, given: Option<u64>) -> io::Result<()> {
+    let seed = match given {
+        Some(seed) => seed,
+        None => nanos(rt)?,
+    };
+    println!(rt; "seed {seed}")?;
+    let mut dice = Dice::new(seed);
+    let Ok(known) = site(rt.alloc(), TWO) else {
+        return Err(refused());
+    };
+    for reader in READERS {
+        try_reader(rt, &mut dice, &known, *reader)?;
+    }
+    try_offices(rt, &mut dice)?;
+    try_stores(rt, &mut dice)
+}
