@@ -11,11 +11,7 @@ fn errand_text(alloc: Global, errand: &Errand) -> Result<String, AllocError> {
             let (caller, key) = (text_of(caller.as_bytes()), text_of(key.as_bytes()));
             format!(in alloc; "load {caller} {key} {list}")
         }
-        Errand::Poll {
-            slot,
-            timeout,
-            line,
-        } => format!(in alloc; "poll {slot} {timeout} {line}"),
+        Errand::Poll { slot, line } => format!(in alloc; "poll {slot} {line}"),
         Errand::Order {
             caller,
             key,
@@ -26,11 +22,7 @@ fn errand_text(alloc: Global, errand: &Errand) -> Result<String, AllocError> {
             format!(in alloc; "order {caller} {key} {point} {value}")
         }
         Errand::Report { point, from, to } => format!(in alloc; "report {point} {from} {to}"),
-        Errand::Serve {
-            port,
-            count,
-            timeout,
-        } => format!(in alloc; "serve {port} {count:?} {timeout}"),
+        Errand::Serve { port, count } => format!(in alloc; "serve {port} {count:?}"),
     }
 }
 
@@ -47,10 +39,11 @@ fn job_text(alloc: Global, job: &Job) -> Result<String, AllocError> {
         Job::Office {
             store,
             site,
+            timeout,
             errand,
         } => {
             let errand = errand_text(alloc, errand)?;
-            format!(in alloc; "{store} {site}: {errand}")
+            format!(in alloc; "{store} {site} {timeout}: {errand}")
         }
     }
 }

@@ -2,7 +2,7 @@
 ghost use Rattle.point_list.specs.Sites.{IsSound};
 
 use crate::stores::work_on;
-use office_commands::{Failure, Fault, Host, Stores, Task, Why, connect, serve};
+use office_commands::{Failure, Fault, Host, Stores, Task, Timed, Why, connect, serve};
 use office_core::Office;
 use point_list::Site;
 use poll_book::Keeper;
@@ -50,20 +50,34 @@ fn line_failure(error: io::Error) -> Failure {
     Failure::new(Fault::Line, Why::System(error))
 }
 
-/// Both ends of a stream.
-fn ends(stream: TcpStream) -> Result<(TcpStream, TcpStream), Failure> {
-    match stream.try_clone() {
-        Ok(same) => Ok((stream, same)),
-        Err(error) => Err(line_failure(error)),
-    }
+/// Both ends of a stream to devices, which waits so many seconds for each answer.
+fn device_ends(
+    rt: &HostRuntime,
+    stream: TcpStream,
+    timeout: u16,
+) -> io::Result<(Timed<'_, HostRuntime>, Timed<'_, HostRuntime>)> {
+    let same = stream.try_clone()?;
+    let reader = Timed::to_devices(rt, stream, timeout)?;
+    let writer = Timed::to_devices(rt, same, timeout)?;
+    Ok((reader, writer))
 }
 
-impl Host for Machine<'_> {
+/// Both ends of the first connection to a listener, which waits as long as it likes.
+fn caller_ends<'a>(
+    rt: &'a HostRuntime,
+    listener: &TcpListener,
+) -> io::Result<(Timed<'a, HostRuntime>, Timed<'a, HostRuntime>)> {
+    let (stream, _) = listener.accept()?;
+    let same = stream.try_clone()?;
+    Ok((Timed::endless(rt, stream), Timed::endless(rt, same)))
+}
+
+impl<'a> Host for Machine<'a> {
     type Input = StdinLock<'static>;
 
-    type Reader = TcpStream;
+    type Reader = Timed<'a, HostRuntime>;
 
-    type Writer = TcpStream;
+    type Writer = Timed<'a, HostRuntime>;
 
     fn alloc(&self) -> Global {
         self.0.alloc()
@@ -93,17 +107,25 @@ impl Host for Machine<'_> {
         }
     }
 
-    fn connect(&mut self, address: &str, timeout: u16) -> Result<(TcpStream, TcpStream), Failure> {
-        match connect(self.0, address, seconds(timeout)) {
-            Ok(stream) => ends(stream),
-            Err(failure) => Err(failure.of(self.alloc(), address)),
+    fn connect(
+        &mut self,
+        address: &str,
+        timeout: u16,
+    ) -> Result<(Self::Reader, Self::Writer), Failure> {
+        let stream = match connect(self.0, address, seconds(timeout)) {
+            Ok(stream) => stream,
+            Err(failure) => return Err(failure.of(self.alloc(), address)),
+        };
+        match device_ends(self.0, stream, timeout) {
+            Ok(ends) => Ok(ends),
+            Err(error) => Err(line_failure(error).of(self.alloc(), address)),
         }
     }
 
-    fn accept(&mut self, port: u16) -> Result<(TcpStream, TcpStream), Failure> {
+    fn accept(&mut self, port: u16) -> Result<(Self::Reader, Self::Writer), Failure> {
         let listener = listen(self.0, port)?;
-        match listener.accept() {
-            Ok((stream, _)) => ends(stream),
+        match caller_ends(self.0, &listener) {
+            Ok(ends) => Ok(ends),
             Err(error) => Err(line_failure(error)),
         }
     }

@@ -5,12 +5,20 @@ ghost use Rattle.point_list.specs.Sites.{IsSound};
 use crate::machine::Machine;
 use office_commands::{Failure, Fault, Task, Why, work_in};
 use office_core::Office;
-use office_store::{SqlKeeper, StoreError, create};
+use office_store::{SqlKeeper, StoreError, create, is_blank};
 use point_list::Site;
 use poll_book::{Keeper, StoreFault};
 use sqlite::{Alter, Connection, Error, ErrorCode, File, FileStore};
 use std::alloc::Global;
-use std::fs;
+use std::io::Read;
+use std::time::Duration;
+use std::{fs, thread};
+
+/// How a database of SQLite begins (SQLite's database file format, section 1.2).
+const HEADER: &[u8; 16] = b"SQLite format 3\0";
+
+/// A store that another process has is asked for again so many times a second.
+const TRIES: u32 = 20;
 
 fn fault_of(error: StoreError) -> Fault {
     match error {
@@ -20,8 +28,8 @@ fn fault_of(error: StoreError) -> Fault {
     }
 }
 
-/// Why a file wasn't opened as a database.
-fn opening_fault(error: &Error) -> Fault {
+/// Why a file wasn't opened as a database, or couldn't be written to its end.
+fn file_fault(error: &Error) -> Fault {
     match error {
         Error::SqliteFailure(ErrorCode::CannotOpen) => Fault::File,
         Error::SqliteFailure(ErrorCode::OutOfMemory) => Fault::Store(StoreFault::Memory),
@@ -34,30 +42,56 @@ fn opening_fault(error: &Error) -> Fault {
     }
 }
 
-fn open(rt: &HostRuntime, path: &str) -> Result<Connection<FileStore<File>>, Failure> {
-    match Connection::open(rt, path) {
-        Ok(connection) => Ok(connection),
-        Err(error) => Err(opening_failure(rt, &error, path)),
+/// Whether a file begins as each database of SQLite does.
+fn begins_as_database(rt: &HostRuntime, path: &str) -> bool {
+    let mut head = [0u8; 16];
+    match fs::File::open(rt, path) {
+        Ok(mut file) => file.read_exact(&mut head).is_ok() && head == *HEADER,
+        Err(_) => false,
     }
 }
 
-/// The same with the file, which can be neither opened nor made.
-fn opening_failure(rt: &HostRuntime, error: &Error, path: &str) -> Failure {
-    match opening_fault(error) {
+/// The same with the file. One that is a database, and one that breaks its own rules, is a damaged store.
+fn file_failure(rt: &HostRuntime, error: &Error, path: &str) -> Failure {
+    match file_fault(error) {
         Fault::File => {
             let why = Why::Words("it can be neither opened nor made");
             Failure::new(Fault::File, why).of(rt.alloc(), path)
+        }
+        Fault::NotOffice if begins_as_database(rt, path) => {
+            let why = Why::Words("its rows break the rules of its own tables");
+            Failure::new(Fault::Store(StoreFault::Other), why).of(rt.alloc(), path)
         }
         fault => Failure::from(fault),
     }
 }
 
-/// The keeper over a connection's tables, which are made first where the file is new.
-fn keeper_over<S: Alter + Drop>(
-    mut connection: Connection<S>,
-    is_new: bool,
-) -> Result<SqlKeeper<S>, Fault> {
-    if is_new && connection.is_autocommit() {
+fn is_busy(error: &Error) -> bool {
+    matches!(error, Error::SqliteFailure(ErrorCode::DatabaseBusy))
+}
+
+/// Opens a file, for which it waits so many seconds while another process has it open.
+fn open(
+    rt: &HostRuntime,
+    path: &str,
+    seconds: u16,
+) -> Result<Connection<FileStore<File>>, Failure> {
+    for _ in 0..u32::from(seconds) * TRIES {
+        match Connection::open(rt, path) {
+            Err(error) if is_busy(&error) => {
+                thread::sleep(rt, Duration::from_millis(1000 / u64::from(TRIES)));
+            }
+            Err(error) => return Err(file_failure(rt, &error, path)),
+            Ok(connection) => return Ok(connection),
+        }
+    }
+    Err(Failure::from(Fault::Store(StoreFault::Other)))
+}
+
+/// The keeper over a connection's tables. They are made first where the database has no table at all: it is
+/// new, or making them was stopped.
+fn keeper_over<S: Alter + Drop>(mut connection: Connection<S>) -> Result<SqlKeeper<S>, Fault> {
+    if connection.is_autocommit() && is_blank(&mut connection).map_err(fault_of)? {
         create(&mut connection).map_err(fault_of)?;
     }
     match SqlKeeper::open(connection) {
@@ -76,21 +110,23 @@ fn office_over<K: Keeper + Drop>(alloc: Global, keeper: K, site: Site) -> Result
     }
 }
 
+/// Does a task in the office of a connection's tables, and gives the connection back where that ended well.
 fn work_over<S: Alter + Drop>(
     machine: &mut Machine<'_>,
     connection: Connection<S>,
-    is_new: bool,
     site: Site,
     task: &Task<'_>,
-) -> Result<(), Failure>
+) -> Result<Connection<S>, Failure>
     requires { IsSound site }
 {
-    let keeper = keeper_over(connection, is_new)?;
+    let keeper = keeper_over(connection)?;
     let mut office = office_over(machine.0.alloc(), keeper, site)?;
-    work_in(machine, &mut office, task)
+    work_in(machine, &mut office, task)?;
+    Ok(office.into_keeper().into_connection())
 }
 
-/// Does a task in the office of a store's file. A file that exists is never written over.
+/// Does a task in the office of a store's file. A file that has anything in it but an office is never written
+/// over. What a task wrote stands in that one file when it ended well: the log beside it is taken in.
 pub(crate) fn work_on(
     machine: &mut Machine<'_>,
     path: &str,
@@ -99,12 +135,10 @@ pub(crate) fn work_on(
 ) -> Result<(), Failure>
     requires { IsSound site }
 {
-    let exists = match fs::exists(machine.0, path) {
-        Ok(exists) => exists,
-        Err(error) => {
-            return Err(Failure::new(Fault::File, Why::System(error)).of(machine.0.alloc(), path));
-        }
-    };
-    let connection = open(machine.0, path)?;
-    work_over(machine, connection, !exists, site, task)
+    let connection = open(machine.0, path, task.timeout)?;
+    let connection = work_over(machine, connection, site, task)?;
+    match connection.close() {
+        Ok(()) => Ok(()),
+        Err(error) => Err(file_failure(machine.0, &error, path)),
+    }
 }

@@ -10,11 +10,13 @@ use point_list::Site;
 use poll_book::{Caller, Keeper, Key};
 use std::alloc::{AllocError, Global};
 
-/// An errand, and the list that it loads, if it loads one.
+/// An errand, the list that it loads, if it loads one, and for how many seconds it waits at most: for the store, for a
+/// connection, for each read and each write.
 #[derive(Clone, Copy)]
 pub struct Task<'a> {
     pub errand: &'a Errand,
     pub list: &'a [u8],
+    pub timeout: u16,
 }
 
 fn load_list<H: Host, K: Keeper>(
@@ -106,11 +108,9 @@ pub fn work_in<H: Host, K: Keeper>(
 ) -> Result<(), Failure> {
     match task.errand {
         Errand::Load { caller, key, .. } => load_list(host, office, caller, key, task.list),
-        Errand::Poll {
-            slot,
-            timeout,
-            line,
-        } => poll_line(host, office, *slot, *timeout, line.as_str()),
+        Errand::Poll { slot, line } => {
+            poll_line(host, office, *slot, task.timeout, line.as_str())
+        }
         Errand::Order {
             caller,
             key,
@@ -120,10 +120,6 @@ pub fn work_in<H: Host, K: Keeper>(
         Errand::Report { point, from, to } => {
             report_point(host, office, point.as_str(), *from, *to)
         }
-        Errand::Serve {
-            port,
-            count,
-            timeout,
-        } => host.serve(office, *port, *count, *timeout),
+        Errand::Serve { port, count } => host.serve(office, *port, *count, task.timeout),
     }
 }

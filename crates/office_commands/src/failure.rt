@@ -154,7 +154,7 @@ impl From<PollFault> for Failure {
     fn from(fault: PollFault) -> Failure {
         let why = match fault {
             PollFault::Line => Why::Words(
-                "the connection failed, ended, or was silent for too long",
+                "the connection failed or ended, or its answers took too long",
             ),
             PollFault::Noise => Why::Words("16,777,216 bytes came"),
             PollFault::Frames(fault) => Why::Frames(fault),
@@ -234,7 +234,7 @@ impl From<SunError> for Failure {
             SunError::TooManyModels => Why::Words("more than 256 models"),
             SunError::SourceFault => {
                 Why::Words(
-                    "the connection failed, ended, was silent for too long, or said no reply",
+                    "the connection failed or ended, its answers took too long, or one said no reply",
                 )
             }
             SunError::Memory | SunError::OutOfRange | SunError::BadScale => Why::Unsaid,

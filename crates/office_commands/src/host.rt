@@ -31,7 +31,7 @@ pub trait Host {
     fn read_file(&mut self, path: &str) -> Result<Vec<u8>, Failure>;
 
     /// Connects to the devices at a line's address. Connecting, each read and each write wait for so many seconds
-    /// at most.
+    /// at most, and all reads and all writes for twelve times as many.
     fn connect(
         &mut self,
         address: &str,
@@ -54,7 +54,8 @@ pub trait Host {
 
 /// A host that has stores too.
 pub trait Stores: Host {
-    /// Does a task in the office of a store over a site, by `work_in`.
+    /// Does a task in the office of a store over a site, by `work_in`. A store that another process has is waited for
+    /// as long as the task says.
     fn work(&mut self, store: &str, site: Site, task: &Task<'_>) -> Result<(), Failure>
         requires { IsSound site };
 }

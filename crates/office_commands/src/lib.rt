@@ -28,3 +28,4 @@ pub use polling::{connect, poll};
 pub use running::run;
 pub use serving::serve;
 pub use simulating::{LinesFault, answer_lines, answer_stream};
+pub use timed::Timed;

@@ -134,12 +134,19 @@ fn is_of_store(fault: Fault) -> bool {
     )
 }
 
-fn work<H: Stores>(host: &mut H, store: &str, site: &str, errand: &Errand) -> Result<(), Failure> {
+fn work<H: Stores>(
+    host: &mut H,
+    store: &str,
+    site: &str,
+    timeout: u16,
+    errand: &Errand,
+) -> Result<(), Failure> {
     let site = site_of(host, site)?;
     let list = list_of(host, errand)?;
     let task = Task {
         errand,
         list: &list,
+        timeout,
     };
     match host.work(store, site, &task) {
         Err(failure) if is_of_store(failure.fault) => {
@@ -166,8 +173,9 @@ fn carry_out<H: Stores>(host: &mut H, job: &Job) -> Result<u8, Failure> {
         Job::Office {
             store,
             site,
+            timeout,
             errand,
-        } => work(host, store.as_str(), site.as_str(), errand)?,
+        } => work(host, store.as_str(), site.as_str(), *timeout, errand)?,
     }
     Ok(DONE)
 }

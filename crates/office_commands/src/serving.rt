@@ -25,7 +25,7 @@ const PIECES: u32 = 256;
 fn close<C: Clock>(clock: &C, stream: &TcpStream) -> io::Result<()> {
     stream.shutdown(Shutdown::Write)?;
     let closing = Duration::from_secs(CLOSING);
-    let mut rest = Timed::new(clock, stream, closing, closing)?;
+    let mut rest = Timed::new(clock, stream.try_clone()?, closing, closing)?;
     let mut piece = [0u8; 4096];
     for _ in 0..PIECES {
         if rest.read(&mut piece)? == 0 {
@@ -44,8 +44,8 @@ fn answer<R: Clock + AllocGlobal, K: Keeper>(
 ) -> io::Result<()> {
     stream.set_nodelay(true)?;
     let exchange = Duration::from_secs(EXCHANGE);
-    let mut reader = Counted::new(Timed::new(rt, stream, exchange, timeout)?);
-    let mut writer = Counted::new(Timed::new(rt, stream, exchange, timeout)?);
+    let mut reader = Counted::new(Timed::new(rt, stream.try_clone()?, exchange, timeout)?);
+    let mut writer = Counted::new(Timed::new(rt, stream.try_clone()?, exchange, timeout)?);
     match serve_one(rt.alloc(), office, &mut reader, &mut writer) {
         Ok(_) => close(rt, stream),
         Err(_) => Ok(()),

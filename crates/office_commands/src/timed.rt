@@ -4,41 +4,74 @@ use std::net::TcpStream;
 use std::rt::Clock;
 use std::time::{Duration, Instant};
 
-/// A stream of which all reads and writes together take so long at most, and each no longer than
-/// `pause`.
-#[derive(Drop)]
-pub(crate) struct Timed<'a, C: Clock> {
-    clock: &'a C,
-    stream: &'a TcpStream,
+/// A poll round, or a search for models, takes so many times as long as one answer is waited for at most.
+const ROUND: u64 = 12;
+
+/// How long the reads and writes of a stream take at most: all together, and each.
+#[derive(Clone, Copy, Drop)]
+struct Limit {
     begun: Instant,
     whole: Duration,
     pause: Duration,
 }
 
+/// A stream that may have a limit in time.
+#[derive(Drop)]
+pub struct Timed<'a, C: Clock> {
+    clock: &'a C,
+    stream: TcpStream,
+    limit: Option<Limit>,
+}
+
 impl<'a, C: Clock> Timed<'a, C> {
+    /// A stream without a limit.
+    pub fn endless(clock: &'a C, stream: TcpStream) -> Timed<'a, C> {
+        Timed {
+            clock,
+            stream,
+            limit: None,
+        }
+    }
+
+    /// A stream of which all reads and writes together take so long at most from now on, and each no longer than
+    /// `pause`.
     pub(crate) fn new(
         clock: &'a C,
-        stream: &'a TcpStream,
+        stream: TcpStream,
         whole: Duration,
         pause: Duration,
     ) -> io::Result<Timed<'a, C>> {
         let begun = Instant::now(clock)?;
-        Ok(Timed {
-            clock,
-            stream,
+        let limit = Limit {
             begun,
             whole,
             pause,
+        };
+        Ok(Timed {
+            clock,
+            stream,
+            limit: Some(limit),
         })
+    }
+
+    /// A stream to devices: each read and each write waits for so many seconds at most, and all together for twelve
+    /// times as many.
+    pub fn to_devices(clock: &'a C, stream: TcpStream, seconds: u16) -> io::Result<Timed<'a, C>> {
+        let seconds = u64::from(seconds);
+        let whole = Duration::from_secs(ROUND * seconds);
+        Timed::new(clock, stream, whole, Duration::from_secs(seconds))
     }
 
     /// For how long the next call may wait, a millisecond at least: to the system no time means no
     /// limit.
-    fn left(&self) -> io::Result<Duration> {
+    fn left(&self) -> io::Result<Option<Duration>> {
+        let Some(limit) = self.limit else {
+            return Ok(None);
+        };
         let least = Duration::from_millis(1);
-        let gone = self.begun.elapsed(self.clock)?;
-        match self.whole.checked_sub(gone) {
-            Some(left) if left >= least => Ok(left.min(self.pause).max(least)),
+        let gone = limit.begun.elapsed(self.clock)?;
+        match limit.whole.checked_sub(gone) {
+            Some(left) if left >= least => Ok(Some(left.min(limit.pause).max(least))),
             _ => Err(io::Error::from(ErrorKind::TimedOut)),
         }
     }
@@ -47,18 +80,16 @@ impl<'a, C: Clock> Timed<'a, C> {
 impl<C: Clock> Read for Timed<'_, C> {
     fn read(&mut self, buf: &mut [u8]) -> io::Result<usize> {
         let left = self.left()?;
-        self.stream.set_read_timeout(Some(left))?;
-        let mut stream = self.stream;
-        stream.read(buf)
+        self.stream.set_read_timeout(left)?;
+        self.stream.read(buf)
     }
 }
 
 impl<C: Clock> Write for Timed<'_, C> {
     fn write(&mut self, buf: &[u8]) -> io::Result<usize> {
         let left = self.left()?;
-        self.stream.set_write_timeout(Some(left))?;
-        let mut stream = self.stream;
-        stream.write(buf)
+        self.stream.set_write_timeout(left)?;
+        self.stream.write(buf)
     }
 
     fn flush(&mut self) -> io::Result<()> {

@@ -15,17 +15,17 @@ use Rattle.office_words.specs.declared.job.Job.TheVariants as job
 -- an errand in an office, with texts as lists of bytes
 pub data ErrandView : Type 0 where
   load : (caller key list : Text) → ErrandView
-  poll : (slot timeout : ℕ) (line : Text) → ErrandView
+  poll : (slot : ℕ) (line : Text) → ErrandView
   order : (caller key point : Text) (value : ℤ) → ErrandView
   report : (point : Text) (from to : ℕ) → ErrandView
-  serve : (port : ℕ) (count : Option ℕ) (timeout : ℕ) → ErrandView
+  serve : (port : ℕ) (count : Option ℕ) → ErrandView
 
 abbrev pub errand_view : Errand → ErrandView
 errand_view (errand.Load caller key list) = load caller key (string_bytes list)
-errand_view (errand.Poll slot timeout line) = poll slot timeout (string_bytes line)
+errand_view (errand.Poll slot line) = poll slot (string_bytes line)
 errand_view (errand.Order caller key point value) = order caller key (string_bytes point) value
 errand_view (errand.Report point from to) = report (string_bytes point) from to
-errand_view (errand.Serve port count timeout) = serve port count timeout
+errand_view (errand.Serve port count) = serve port count
 
 -- a job, with texts as lists of bytes
 pub data JobView : Type 0 where
@@ -33,25 +33,31 @@ pub data JobView : Type 0 where
   plan : (site list : Text) → JobView
   discover : (site : Text) (timeout : ℕ) (device : Text) → JobView
   sim : (image : Text) (port : Option ℕ) → JobView
-  office : (store site : Text) (does : ErrandView) → JobView
+  office : (store site : Text) (timeout : ℕ) (does : ErrandView) → JobView
 
 abbrev pub job_view : Job → JobView
 job_view job.Replay = replay
 job_view (job.Plan site list) = plan (string_bytes site) (string_bytes list)
 job_view (job.Discover site timeout device) = discover (string_bytes site) timeout (string_bytes device)
 job_view (job.Sim image port) = sim (string_bytes image) port
-job_view (job.Office store site does) = office (string_bytes store) (string_bytes site) (errand_view does)
+job_view (job.Office store site timeout does) = office (string_bytes store) (string_bytes site) timeout (errand_view does)
 
 -- ---- the job of each command, by the values that were matched
 
-unfoldable pub load_of : List Row → Option JobView
-load_of rows = do
+-- an errand in the office that the values name
+unfoldable pub office_of : List Row → ErrandView → Option JobView
+office_of rows does = do
   store ← first_of (codes "store") rows
   site ← first_of (codes "site") rows
+  timeout ← first_of (codes "timeout") rows >>= seconds_of
+  Some (office store site timeout does)
+
+unfoldable pub load_of : List Row → Option JobView
+load_of rows = do
   caller ← first_of (codes "caller") rows >>= caller_of
   key ← first_of (codes "key") rows >>= key_of
   list ← first_of (codes "list") rows
-  Some (office store site (load caller key list))
+  office_of rows (load caller key list)
 
 unfoldable pub plan_of : List Row → Option JobView
 plan_of rows = do
@@ -68,41 +74,31 @@ discover_of rows = do
 
 unfoldable pub poll_of : List Row → Option JobView
 poll_of rows = do
-  store ← first_of (codes "store") rows
-  site ← first_of (codes "site") rows
   slot ← first_of (codes "slot") rows >>= number_of
-  timeout ← first_of (codes "timeout") rows >>= seconds_of
   line ← first_of (codes "line") rows
-  Some (office store site (poll slot timeout line))
+  office_of rows (poll slot line)
 
 unfoldable pub order_of : List Row → Option JobView
 order_of rows = do
-  store ← first_of (codes "store") rows
-  site ← first_of (codes "site") rows
   caller ← first_of (codes "caller") rows >>= caller_of
   key ← first_of (codes "key") rows >>= key_of
   point ← first_of (codes "point") rows
   value ← first_of (codes "value") rows >>= value_of
-  Some (office store site (order caller key point value))
+  office_of rows (order caller key point value)
 
 -- the slots are in order, and at most 9,999 apart
 unfoldable pub report_of : List Row → Option JobView
 report_of rows = do
-  store ← first_of (codes "store") rows
-  site ← first_of (codes "site") rows
   point ← first_of (codes "point") rows
   from ← first_of (codes "from") rows >>= number_of
   to ← first_of (codes "to") rows >>= number_of
-  if nat_le from to && nat_le to (from + 9999) then Some (office store site (report point from to)) else None
+  if nat_le from to && nat_le to (from + 9999) then office_of rows (report point from to) else None
 
 unfoldable pub serve_of : List Row → Option JobView
 serve_of rows = do
-  store ← first_of (codes "store") rows
-  site ← first_of (codes "site") rows
   port ← first_of (codes "port") rows >>= port_of
   count ← if_given number_of (first_of (codes "count") rows)
-  timeout ← first_of (codes "timeout") rows >>= seconds_of
-  Some (office store site (serve port count timeout))
+  office_of rows (serve port count)
 
 unfoldable pub sim_of : List Row → Option JobView
 sim_of rows = do

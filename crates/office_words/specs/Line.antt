@@ -63,7 +63,7 @@ unfoldable pub replay_line : App
 replay_line = named (codes "replay")
 
 unfoldable pub load_line : App
-load_line = with_values (named (codes "load")) (store ∷ site ∷ caller ∷ key ∷ place (codes "list") ∷ [])
+load_line = with_values (named (codes "load")) (store ∷ site ∷ timeout ∷ caller ∷ key ∷ place (codes "list") ∷ [])
 
 unfoldable pub plan_line : App
 plan_line = with_values (named (codes "plan")) (site ∷ place (codes "list") ∷ [])
@@ -72,16 +72,16 @@ unfoldable pub discover_line : App
 discover_line = with_values (named (codes "discover")) (site ∷ timeout ∷ place (codes "device") ∷ [])
 
 unfoldable pub poll_line : App
-poll_line = with_values (named (codes "poll")) (store ∷ site ∷ option (codes "slot") ∷ timeout ∷ place (codes "line") ∷ [])
+poll_line = with_values (named (codes "poll")) (store ∷ site ∷ timeout ∷ option (codes "slot") ∷ place (codes "line") ∷ [])
 
 unfoldable pub order_line : App
-order_line = with_values (named (codes "order")) (store ∷ site ∷ caller ∷ key ∷ place (codes "point") ∷ place (codes "value") ∷ [])
+order_line = with_values (named (codes "order")) (store ∷ site ∷ timeout ∷ caller ∷ key ∷ place (codes "point") ∷ place (codes "value") ∷ [])
 
 unfoldable pub report_line : App
-report_line = with_values (named (codes "report")) (store ∷ site ∷ place (codes "point") ∷ place (codes "from") ∷ place (codes "to") ∷ [])
+report_line = with_values (named (codes "report")) (store ∷ site ∷ timeout ∷ place (codes "point") ∷ place (codes "from") ∷ place (codes "to") ∷ [])
 
 unfoldable pub serve_line : App
-serve_line = with_values (named (codes "serve")) (store ∷ site ∷ option (codes "port") ∷ spare (codes "count") ∷ timeout ∷ [])
+serve_line = with_values (named (codes "serve")) (store ∷ site ∷ timeout ∷ option (codes "port") ∷ spare (codes "count") ∷ [])
 
 unfoldable pub sim_line : App
 sim_line = with_values (named (codes "sim")) (option (codes "image") ∷ spare (codes "port") ∷ [])

@@ -1,7 +1,7 @@
 //! Steps of building a command: an option or a place more, with what help says of it.
-ghost use Rattle.std.specs.Prelude.{◌≡◌, IfOk, codes, false};
+ghost use Rattle.std.specs.Prelude.{◌≡◌, ◌∷◌, [], IfOk, codes, false};
 ghost use Rattle.clap.specs.declared.builder.command.Command.TheViews.{out-Command};
-ghost use Rattle.office_words.specs.Line.{line_of, option, place, preset, spare, with_line, with_value};
+ghost use Rattle.office_words.specs.Line.{line_of, option, place, preset, site, spare, store, timeout, with_line, with_value, with_values};
 
 use clap::{Arg, Command};
 use std::alloc::{AllocError, Global};
@@ -70,20 +70,6 @@ pub(crate) fn with_place<'a>(
     )
 }
 
-pub(crate) fn with_store<'a>(alloc: Global, command: Command<'a>) -> Result<Command<'a>, AllocError>
-    requires { (out-Command command).has_globals ≡ false }
-    ensures line { IfOk result (λ c. line_of c ≡ with_value (line_of command.entry) (option (codes "store"))) }
-    ensures plain { IfOk result (λ c. (out-Command c).has_globals ≡ false) }
-{
-    with_option(
-        alloc,
-        command,
-        "store",
-        "FILE",
-        "The file of the office, made if it isn't there, as roof.db",
-    )
-}
-
 pub(crate) fn with_site<'a>(alloc: Global, command: Command<'a>) -> Result<Command<'a>, AllocError>
     requires { (out-Command command).has_globals ≡ false }
     ensures line { IfOk result (λ c. line_of c ≡ with_value (line_of command.entry) (option (codes "site"))) }
@@ -133,6 +119,7 @@ pub(crate) fn with_key<'a>(alloc: Global, command: Command<'a>) -> Result<Comman
 pub(crate) fn with_timeout<'a>(
     alloc: Global,
     command: Command<'a>,
+    help: &'a str,
 ) -> Result<Command<'a>, AllocError>
     requires { (out-Command command).has_globals ≡ false }
     ensures line { IfOk result (λ c. line_of c
@@ -143,9 +130,39 @@ pub(crate) fn with_timeout<'a>(
         Arg::new(alloc, "timeout")
             .long("timeout")
             .value_name("SECONDS")
-            .help("How long to wait for a connection, a reading or a writing, 1 to 3600, as 10")
+            .help(help)
             .default_value("5"),
     )
+}
+
+fn with_store<'a>(alloc: Global, command: Command<'a>) -> Result<Command<'a>, AllocError>
+    requires { (out-Command command).has_globals ≡ false }
+    ensures line { IfOk result (λ c. line_of c ≡ with_value (line_of command.entry) (option (codes "store"))) }
+    ensures plain { IfOk result (λ c. (out-Command c).has_globals ≡ false) }
+{
+    with_option(
+        alloc,
+        command,
+        "store",
+        "FILE",
+        "The file of the office, made if it isn't there, as roof.db",
+    )
+}
+
+/// A command with what each one in an office has: its store, its site and a timeout.
+pub(crate) fn with_office<'a>(
+    alloc: Global,
+    command: Command<'a>,
+    timeout_help: &'a str,
+) -> Result<Command<'a>, AllocError>
+    requires { (out-Command command).has_globals ≡ false }
+    ensures line { IfOk result (λ c. line_of c ≡ with_values (line_of command.entry) (store ∷ site ∷ timeout ∷ [])) }
+    ensures plain { IfOk result (λ c. (out-Command c).has_globals ≡ false) }
+{
+    let command = with_store(alloc, command)?;
+    let command = with_site(alloc, command)?;
+    let command = with_timeout(alloc, command, timeout_help)?;
+    Ok(command)
 }
 
 /// A command with one more subcommand.

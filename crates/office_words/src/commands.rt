@@ -1,6 +1,6 @@
 //! The job of each command, by the values that its matches have.
 ghost use Rattle.clap.specs.Words.{found_of, rows_of, subcommand_rows_of};
-ghost use Rattle.office_words.specs.Jobs.{discover_of, job_found, job_view, load_of, order_of, plan_of, poll_of, report_of, serve_of, sim_of};
+ghost use Rattle.office_words.specs.Jobs.{discover_of, errand_view, job_found, job_view, load_of, office_of, order_of, plan_of, poll_of, report_of, serve_of, sim_of};
 ghost use Rattle.office_words.specs.Values.{Gives};
 
 use crate::given::{
@@ -13,21 +13,30 @@ use std::alloc::Global;
 /// How far apart the first and the last slot of a report may be.
 const MOST_APART: u32 = 9999;
 
+/// An errand in the office that the values name.
+#[tactic(auto, unfolding(crate::specs::Jobs::office_of))]
+fn in_office(alloc: Global, matches: &ArgMatches, errand: Errand) -> Result<Job, WordFault>
+    ensures { Gives job_view result (office_of (rows_of (found_of matches.now)) (errand_view errand)) }
+{
+    let store = text(alloc, matches, "store")?;
+    let site = text(alloc, matches, "site")?;
+    let timeout = seconds(matches, "timeout")?;
+    Ok(Job::Office {
+        store,
+        site,
+        timeout,
+        errand,
+    })
+}
+
 #[tactic(auto, unfolding(crate::specs::Jobs::load_of))]
 fn load(alloc: Global, matches: &ArgMatches) -> Result<Job, WordFault>
     ensures { Gives job_view result (load_of (rows_of (found_of matches.now))) }
 {
-    let store = text(alloc, matches, "store")?;
-    let site = text(alloc, matches, "site")?;
     let caller = caller(matches, "caller")?;
     let key = key(matches, "key")?;
     let list = text(alloc, matches, "list")?;
-    let errand = Errand::Load { caller, key, list };
-    Ok(Job::Office {
-        store,
-        site,
-        errand,
-    })
+    in_office(alloc, matches, Errand::Load { caller, key, list })
 }
 
 #[tactic(auto, unfolding(crate::specs::Jobs::plan_of))]
@@ -57,29 +66,15 @@ fn discover(alloc: Global, matches: &ArgMatches) -> Result<Job, WordFault>
 fn poll(alloc: Global, matches: &ArgMatches) -> Result<Job, WordFault>
     ensures { Gives job_view result (poll_of (rows_of (found_of matches.now))) }
 {
-    let store = text(alloc, matches, "store")?;
-    let site = text(alloc, matches, "site")?;
     let slot = number(matches, "slot")?;
-    let timeout = seconds(matches, "timeout")?;
     let line = text(alloc, matches, "line")?;
-    let errand = Errand::Poll {
-        slot,
-        timeout,
-        line,
-    };
-    Ok(Job::Office {
-        store,
-        site,
-        errand,
-    })
+    in_office(alloc, matches, Errand::Poll { slot, line })
 }
 
 #[tactic(auto, unfolding(crate::specs::Jobs::order_of))]
 fn order(alloc: Global, matches: &ArgMatches) -> Result<Job, WordFault>
     ensures { Gives job_view result (order_of (rows_of (found_of matches.now))) }
 {
-    let store = text(alloc, matches, "store")?;
-    let site = text(alloc, matches, "site")?;
     let caller = caller(matches, "caller")?;
     let key = key(matches, "key")?;
     let point = text(alloc, matches, "point")?;
@@ -90,52 +85,29 @@ fn order(alloc: Global, matches: &ArgMatches) -> Result<Job, WordFault>
         point,
         value,
     };
-    Ok(Job::Office {
-        store,
-        site,
-        errand,
-    })
+    in_office(alloc, matches, errand)
 }
 
 #[tactic(auto, unfolding(crate::specs::Jobs::report_of))]
 fn report(alloc: Global, matches: &ArgMatches) -> Result<Job, WordFault>
     ensures { Gives job_view result (report_of (rows_of (found_of matches.now))) }
 {
-    let store = text(alloc, matches, "store")?;
-    let site = text(alloc, matches, "site")?;
     let point = text(alloc, matches, "point")?;
     let from = number(matches, "from")?;
     let to = number(matches, "to")?;
     if from > to || to - from > MOST_APART {
         return Err(WordFault::Words);
     }
-    let errand = Errand::Report { point, from, to };
-    Ok(Job::Office {
-        store,
-        site,
-        errand,
-    })
+    in_office(alloc, matches, Errand::Report { point, from, to })
 }
 
 #[tactic(auto, unfolding(crate::specs::Jobs::serve_of))]
 fn serve(alloc: Global, matches: &ArgMatches) -> Result<Job, WordFault>
     ensures { Gives job_view result (serve_of (rows_of (found_of matches.now))) }
 {
-    let store = text(alloc, matches, "store")?;
-    let site = text(alloc, matches, "site")?;
     let port = port(matches, "port")?;
     let count = number_if_given(matches, "count")?;
-    let timeout = seconds(matches, "timeout")?;
-    let errand = Errand::Serve {
-        port,
-        count,
-        timeout,
-    };
-    Ok(Job::Office {
-        store,
-        site,
-        errand,
-    })
+    in_office(alloc, matches, Errand::Serve { port, count })
 }
 
 #[tactic(auto, unfolding(crate::specs::Jobs::sim_of))]

@@ -33,6 +33,8 @@ pub enum Job {
     Office {
         store: String,
         site: String,
+        /// Seconds, 1 to 3,600.
+        timeout: u16,
         errand: Errand,
     },
 }
@@ -49,8 +51,6 @@ pub enum Errand {
     /// Polls the devices of a line for a slot.
     Poll {
         slot: u32,
-        /// Seconds, 1 to 3,600.
-        timeout: u16,
         line: String,
     },
     /// Orders a setting.
@@ -71,8 +71,6 @@ pub enum Errand {
         port: u16,
         /// How many connections; without it there is no end.
         count: Option<u32>,
-        /// Seconds, 1 to 3,600.
-        timeout: u16,
     },
 }
 

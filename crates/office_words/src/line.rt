@@ -4,7 +4,7 @@ ghost use Rattle.clap.specs.declared.builder.command.Command.TheViews.{out-Comma
 ghost use Rattle.office_words.specs.Line.{bare_line, discover_line, help_line, without_help, line_of, load_line, named, office_line, order_line, plan_line, poll_line, replay_line, report_line, serve_line, sim_line, with_version, with_commands};
 
 use crate::builders::{
-    with_caller, with_key, with_option, with_place, with_site, with_spare, with_store,
+    with_caller, with_key, with_office, with_option, with_place, with_site, with_spare,
     with_subcommand, with_timeout,
 };
 use clap::Command;
@@ -12,6 +12,19 @@ use std::alloc::{AllocError, Global};
 
 /// What `--version` tells.
 const VERSION: &str = "0.1.0";
+
+/// What help says of `--timeout`.
+const STORE_ALONE: &str =
+    "How long to wait for the store while another process has it, 1 to 3600 seconds, as 10";
+
+const POLLING: &str =
+    "How long to wait for the store, for a connection and for each answer, 1 to 3600 seconds, as 10; the round ends after twelve times as long";
+
+const SERVING: &str =
+    "How long to wait for the store, and for a caller to read or to write, 1 to 3600 seconds, as 10";
+
+const DISCOVERING: &str =
+    "How long to wait for a connection and for each answer, 1 to 3600 seconds, as 10; the search ends after twelve times as long";
 
 const STATUSES: &str = "Faults go to standard error. Statuses:
   0  done, a printed refusal too
@@ -55,8 +68,7 @@ fn load<'a>(alloc: Global) -> Result<Command<'a>, AllocError>
         "Loads a point list, all of it or nothing",
         "Loads a point list, all of it or nothing.\n\nExample: office load --store roof.db --site site.toml --caller ann --key l1 points.csv",
     );
-    let command = with_store(alloc, command)?;
-    let command = with_site(alloc, command)?;
+    let command = with_office(alloc, command, STORE_ALONE)?;
     let command = with_caller(alloc, command)?;
     let command = with_key(alloc, command)?;
     let command = with_place(
@@ -103,7 +115,7 @@ fn discover<'a>(alloc: Global) -> Result<Command<'a>, AllocError>
         "Asks a SunSpec device which models it has and where, and prints a line for the site file.\n\nExample: office discover --site site.toml inverter",
     );
     let command = with_site(alloc, command)?;
-    let command = with_timeout(alloc, command)?;
+    let command = with_timeout(alloc, command, DISCOVERING)?;
     let command = with_place(
         alloc,
         command,
@@ -125,8 +137,7 @@ fn poll<'a>(alloc: Global) -> Result<Command<'a>, AllocError>
         "Asks the devices of a line for a slot, and records what they answer",
         "Asks the devices of a line for a slot, and records what they answer.\n\nExample: office poll --store roof.db --site site.toml --slot 12 roof",
     );
-    let command = with_store(alloc, command)?;
-    let command = with_site(alloc, command)?;
+    let command = with_office(alloc, command, POLLING)?;
     let command = with_option(
         alloc,
         command,
@@ -134,7 +145,6 @@ fn poll<'a>(alloc: Global) -> Result<Command<'a>, AllocError>
         "SLOT",
         "The slot that readings are for, 0 to 4294967295, as 12",
     )?;
-    let command = with_timeout(alloc, command)?;
     let command = with_place(
         alloc,
         command,
@@ -156,8 +166,7 @@ fn order<'a>(alloc: Global) -> Result<Command<'a>, AllocError>
         "Orders a setting, which the next poll sends",
         "Orders a setting, which the next poll sends.\n\nExample: office order --store roof.db --site site.toml --caller ann --key k1 lim -- -5",
     );
-    let command = with_store(alloc, command)?;
-    let command = with_site(alloc, command)?;
+    let command = with_office(alloc, command, STORE_ALONE)?;
     let command = with_caller(alloc, command)?;
     let command = with_key(alloc, command)?;
     let command = with_place(
@@ -188,8 +197,7 @@ fn report<'a>(alloc: Global) -> Result<Command<'a>, AllocError>
         "Prints the readings of a point, and of a counter the total",
         "Prints the readings of a point, and of a counter the total.\n\nExample: office report --store roof.db --site site.toml e 0 23",
     );
-    let command = with_store(alloc, command)?;
-    let command = with_site(alloc, command)?;
+    let command = with_office(alloc, command, STORE_ALONE)?;
     let command = with_place(
         alloc,
         command,
@@ -219,8 +227,7 @@ fn serve<'a>(alloc: Global) -> Result<Command<'a>, AllocError>
         "Answers over HTTP on 127.0.0.1, one connection after the other",
         "Answers over HTTP on 127.0.0.1, one connection after the other.\n\nExample: office serve --store roof.db --site site.toml --port 8080",
     );
-    let command = with_store(alloc, command)?;
-    let command = with_site(alloc, command)?;
+    let command = with_office(alloc, command, SERVING)?;
     let command = with_option(
         alloc,
         command,
@@ -235,7 +242,6 @@ fn serve<'a>(alloc: Global) -> Result<Command<'a>, AllocError>
         "N",
         "How many connections, 0 to 4294967295, as 10; without it there is no end",
     )?;
-    let command = with_timeout(alloc, command)?;
     Ok(command)
 }
 
