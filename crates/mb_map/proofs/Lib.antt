@@ -3,6 +3,7 @@ pub mod BitCells
 pub mod Perform
 pub mod Serving
 pub mod Standing
+pub mod Leaving
 pub mod Left
 pub mod Once
 pub mod Digits

@@ -13,9 +13,9 @@ use Rattle.mb_pdu.specs.Replies.{spells_reply}
 use Rattle.mb_map.specs.declared.step.Step.{Step}
 use Rattle.mb_map.specs.Device.{DeviceStep, Does, IsFaulty, IsInside, Reads, code_of, exception, number_of}
 use Rattle.mb_map.specs.Device.DeviceStep.{faulty, outside, done}
-use Rattle.mb_map.specs.Schedule.{Answers, Call, Devices, Outcome, Run, Serves, Simulated, StandsFor, schedule, sent, tables_at, waiting, with_tables}
-use Rattle.mb_map.specs.Schedule.Call.{Take, Rest}
-use Rattle.mb_map.specs.Schedule.Outcome.{Replied, Rested}
+use Rattle.mb_map.specs.Schedule.{Answers, Call, Devices, Outcome, Run, Serves, Simulated, StandsFor, schedule, sent, tables_at, waiting, with_set, with_tables}
+use Rattle.mb_map.specs.Schedule.Call.{Take, Rest, Set}
+use Rattle.mb_map.specs.Schedule.Outcome.{Replied, Rested, Changed}
 use Rattle.mb_map.specs.Tables.{Cells, Tables}
 
 some_same : {A : Type 0} (x y : A) → Some x ≡ Some y → x ≡ y
@@ -146,6 +146,11 @@ run_once one before (Rest ∷ calls) (Rested ∷ o) (Rested ∷ u) s t p q =
     ((λ i. Rested ∷ rest.0 i), rest.1)
 run_once one before (Rest ∷ calls) (Rested ∷ o) u s t p q = absurd q
 run_once one before (Rest ∷ calls) o u s t p q = absurd p
+run_once one before (Set unit_id table address number ∷ calls) (Changed ∷ o) (Changed ∷ u) s t p q =
+    let rest = run_once one (with_set unit_id table address number before) calls o u s t p q in
+    ((λ i. Changed ∷ rest.0 i), rest.1)
+run_once one before (Set unit_id table address number ∷ calls) (Changed ∷ o) u s t p q = absurd q
+run_once one before (Set unit_id table address number ∷ calls) o u s t p q = absurd p
 
 pub stands_once : OneStep → (devices : Devices) (script : List Step) (calls : List Call) (a b : List (List Frame)) (s t : Simulated)
     → StandsFor devices script calls a s → StandsFor devices script calls b t → (a ≡ b) × (s ≡ t)

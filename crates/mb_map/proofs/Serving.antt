@@ -1,5 +1,6 @@
 -- A device among others with different identifiers: it is found by its own, and no other changes with it.
-use Rattle.std.proofs.Common.{◌≡◌, ◌≢◌, ℕ, zero, suc, ◌<◌, false, cond, eqb, [], ◌∷◌, length, get_or, map, set, All, Some, None, refl, sym, ◌∙◌, arith, inl, inr}
+use Rattle.std.proofs.Common.{◌≡◌, ◌≢◌, ℕ, zero, suc, ◌<◌, Bool, true, false, cond, eqb, [], ◌∷◌, length, get_or, map, set, All, Some, None, refl, sym, ◌∙◌, arith, inl, inr}
+use Rattle.std.specs.Bool.{OnTrue}
 use Rattle.std.proofs.lemmas.Bool.{cases_lt, eq-eqb}
 use Rattle.std.proofs.lemmas.Bool.Decides.{eqb_tells}
 use Rattle.std.proofs.lemmas.List.{ext_get_or, get_or-map, get_or-set_other, get_or-set_same, length-map, length-set}
@@ -54,3 +55,7 @@ set_tables devices place new d own lt =
           let there : get_or (map change devices) i d ≡ change (get_or devices i d) = get_or-map change devices i d d below in
           rw (there, neq-eqb (get_or devices i d).0 id (other_id devices place i d own lt below other.1)) (get_or-set_other devices place i (id, new) d other.1)
     ])
+
+pub on_true_more : (b : Bool) (P Q : Type 0) → (P → Q) → OnTrue b P → OnTrue b Q
+on_true_more true P Q more p = more p
+on_true_more false P Q more p = tt

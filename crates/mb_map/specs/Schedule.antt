@@ -1,13 +1,14 @@
 -- When the replies of a simulator leave: a definition over the whole list of its calls. The reply to frame j leaves
 -- with frame j, never, twice with frame j, or with frame j + k, as the script says; a rest before that gives it out.
-use Rattle.std.specs.Prelude.{◌≡◌, ℕ, ◌+◌, ◌-◌, Bool, ◌&&◌, ◌==◌, nat_le, if◌then◌else◌, List, [], ◌∷◌, ◌++◌, length, drop, map, filter, Option, Some, None, slice_index_or}
+use Rattle.std.specs.Prelude.{◌≡◌, ℕ, ◌+◌, ◌-◌, Bool, true, false, ◌&&◌, ◌==◌, nat_le, if◌then◌else◌, List, [], ◌∷◌, ◌++◌, length, drop, map, filter, Option, Some, None, slice_index_or, All, Contains, IsPermutation}
 use Rattle.std.specs.Map.{lookup}
+use Rattle.mb_pdu.specs.declared.table.Table.{Table}
 use Rattle.mb_mbap.specs.declared.frame.Frame.{Frame}
 use Rattle.mb_map.specs.declared.held.Held.{Held}
 use Rattle.mb_map.specs.declared.step.Step.{Step}
 use Rattle.mb_map.specs.declared.step.Step.TheVariants.{Pass, Drop, Twice, Hold}
 use Rattle.mb_map.specs.Device.{DeviceStep, exception}
-use Rattle.mb_map.specs.Tables.{Tables}
+use Rattle.mb_map.specs.Tables.{CanHold, Tables, with_number}
 
 -- devices by their unit identifiers
 abbrev pub Devices : Type 0
@@ -21,6 +22,19 @@ tables_at unit_id devices = lookup (λ (id : ℕ). id == unit_id) devices
 abbrev pub with_tables : ℕ → Tables → Devices → Devices
 with_tables unit_id tables devices = map (λ (d : ℕ × Tables). (d.0, (if d.0 == unit_id then tables else d.1))) devices
 
+-- a device has the identifier, and its table may hold the number at the address
+abbrev pub CanSet : Option Tables → Table → ℕ → ℕ → Type 0
+CanSet None table address number = ⊥
+CanSet (Some tables) table address number = CanHold table address number tables
+
+-- the devices with a number at an address of a table of the one that has the identifier
+abbrev pub set_in : Option Tables → ℕ → Table → ℕ → ℕ → Devices → Devices
+set_in None unit_id table address number devices = devices
+set_in (Some tables) unit_id table address number devices = with_tables unit_id (with_number table address number tables) devices
+
+abbrev pub with_set : ℕ → Table → ℕ → ℕ → Devices → Devices
+with_set unit_id table address number devices = set_in (tables_at unit_id devices) unit_id table address number devices
+
 -- ---- what is answered
 
 -- a device's own step, or exception 0B where no device has the identifier
@@ -33,21 +47,24 @@ abbrev pub Serves : Devices → Frame → Frame → Devices → Type 0
 Serves before frame reply after = (reply.transaction ≡ frame.transaction) × (reply.unit_id ≡ frame.unit_id)
     × Answers (tables_at frame.unit_id before) frame.unit_id before frame.unit reply.unit after
 
--- a call of a simulator: it takes a frame, or rests
+-- a call of a simulator: it takes a frame, rests, or sets a number at an address of a table of a device
 pub data Call : Type 0 where
   Take : Frame → Call
   Rest : Call
+  Set : ℕ → Table → ℕ → ℕ → Call
 
--- what came of a call: the reply to its frame, or nothing at a rest
+-- what came of a call: the reply to its frame, or none at a rest and at a number that was set
 pub data Outcome : Type 0 where
   Replied : Frame → Outcome
   Rested : Outcome
+  Changed : Outcome
 
 -- the outcomes of calls, each on the devices that the one before it left
 abbrev pub Run : Devices → List Call → List Outcome → Devices → Type 0
 Run before [] [] after = after ≡ before
 Run before (Take frame ∷ calls) (Replied reply ∷ outcomes) after = (between : Devices) × Serves before frame reply between × Run between calls outcomes after
 Run before (Rest ∷ calls) (Rested ∷ outcomes) after = Run before calls outcomes after
+Run before (Set unit_id table address number ∷ calls) (Changed ∷ outcomes) after = Run (with_set unit_id table address number before) calls outcomes after
 Run before calls outcomes after = ⊥
 
 -- ---- when it leaves
@@ -68,6 +85,7 @@ sent_from script number rests [] = []
 sent_from script number rests (Replied reply ∷ more) =
     record { number = number; step = step_at script number; rests = rests; reply = reply } ∷ sent_from script (number + 1) rests more
 sent_from script number rests (Rested ∷ more) = sent_from script number (rests + 1) more
+sent_from script number rests (Changed ∷ more) = sent_from script number rests more
 
 -- the replies to the frames of a list of calls, in order
 abbrev pub sent : List Step → List Outcome → List Sent
@@ -77,6 +95,7 @@ unfoldable pub rests_in : List Outcome → ℕ
 rests_in [] = 0
 rests_in (Replied reply ∷ more) = rests_in more
 rests_in (Rested ∷ more) = rests_in more + 1
+rests_in (Changed ∷ more) = rests_in more
 
 -- how many frames later a reply is due
 abbrev pub wait : Step → ℕ
@@ -113,6 +132,7 @@ leaves script before (Replied reply) =
 leaves script before Rested =
     let earlier = sent script before in
     map reply_of (filter (is_waiting (length earlier) (rests_in before)) earlier)
+leaves script before Changed = []
 
 -- what leaves with each call of a list, after the calls before it
 unfoldable pub schedule : List Step → List Outcome → List Outcome → List (List Frame)
@@ -152,3 +172,17 @@ Continues before call given after =
 -- a simulator before its first call
 abbrev pub begun : Devices → List Step → Simulated
 begun devices script = record { devices = devices; script = script; held = [] }
+
+-- ---- what has left in the end
+
+abbrev pub gives_twice : Step → Bool
+gives_twice Twice = true
+gives_twice step = false
+
+abbrev pub is_twice : Sent → Bool
+is_twice s = gives_twice s.step
+
+-- each reply is among what left, which is, in some order, every reply once and those that are given twice once more
+pub record AllLeave (replies : List Sent) (left : List Frame) : Type 0 where
+  pub each : All (λ (reply : Frame). Contains left reply) (map reply_of replies)
+  pub as_often : IsPermutation (map reply_of replies ++ map reply_of (filter is_twice replies)) left

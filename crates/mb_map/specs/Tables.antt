@@ -1,5 +1,5 @@
 -- A device's four tables, each a finite map from addresses to numbers (Modbus Application Protocol V1.1b3, 4.3).
-use Rattle.std.specs.Prelude.{◌≡◌, ℕ, ◌+◌, ◌-◌, ◌≤◌, ◌<◌, ◌&&◌, nat_eq, nat_le, nat_lt, List, length, map, replicate, slice_index, Option, Some, IsSome, All, ◌⊎◌, if◌then◌else◌}
+use Rattle.std.specs.Prelude.{◌≡◌, ℕ, ◌+◌, ◌-◌, ◌≤◌, ◌<◌, ◌&&◌, nat_eq, nat_le, nat_lt, List, [], ◌∷◌, length, map, replicate, slice_index, Option, Some, IsSome, All, ◌⊎◌, if◌then◌else◌}
 use Rattle.std.specs.List.{enumerate_from}
 use Rattle.std.specs.Map.{lookup}
 use Rattle.mb_pdu.specs.declared.table.Table.{Table}
@@ -57,6 +57,10 @@ with_cells Discrete cells tables = record tables { discrete = cells }
 with_cells Input cells tables = record tables { input = cells }
 with_cells Holding cells tables = record tables { holding = cells }
 
+-- the tables with a number at an address of one of them
+abbrev pub with_number : Table → ℕ → ℕ → Tables → Tables
+with_number table address number tables = with_cells table (written address (number ∷ []) (cells_of table tables)) tables
+
 -- the greatest number that a cell of the table may hold
 abbrev pub greatest : Table → ℕ
 greatest Coil = 1
@@ -77,3 +81,7 @@ zero_tables coils_start coils discrete_start discrete holding_start holding inpu
 abbrev pub IsTooLarge : ℕ → ℕ → ℕ → ℕ → ℕ → ℕ → ℕ → ℕ → Type 0
 IsTooLarge coils_start coils discrete_start discrete holding_start holding input_start input =
     (65536 < coils_start + coils) ⊎ (65536 < discrete_start + discrete) ⊎ (65536 < holding_start + holding) ⊎ (65536 < input_start + input)
+
+-- the table has the address, and its cells may hold the number
+abbrev pub CanHold : Table → ℕ → ℕ → Tables → Type 0
+CanHold table address number tables = IsSome (cell_at address (cells_of table tables)) × (number ≤ greatest table)

@@ -1,12 +1,14 @@
-ghost use Rattle.std.specs.Prelude.{ℕ, ◌≡◌, ◌≢◌, ◌<◌, ◌==◌, All, IfNone, IfSome, length, is_none, slice_index_or};
+ghost use Rattle.std.specs.Prelude.{ℕ, ◌≡◌, ◌≢◌, ◌↔◌, ◌<◌, ◌==◌, All, IfNone, IfSome, IsTrue, length, is_none, slice_index_or};
+ghost use Rattle.std.specs.Bool.{OnFalse, OnTrue};
 ghost use Rattle.std.specs.List.{position};
 ghost use Rattle.mb_map.specs.Queue.{HaveOwnIds, differ};
-ghost use Rattle.mb_map.specs.Schedule.{Serves};
+ghost use Rattle.mb_map.specs.Schedule.{CanSet, Serves, tables_at, with_set};
 ghost use Rattle.mb_map.specs.Tables.{Tables};
 
 use crate::device::exception;
 use crate::mapping::Mapping;
 use mb_mbap::Frame;
+use mb_pdu::Table;
 
 /// Exception 0B: the gateway's target device failed to respond.
 const NO_TARGET: u8 = 0x0B;
@@ -38,6 +40,28 @@ pub(crate) fn serve(devices: &mut [(u8, Mapping)], frame: &Frame) -> Frame
         unit_id: frame.unit_id,
         unit,
     }
+}
+
+/// Puts a number at an address of a table of the device of a unit identifier. It is refused, and
+/// nothing is changed, where there is no such device or the device refuses.
+pub(crate) fn set_number(
+    devices: &mut [(u8, Mapping)],
+    unit_id: u8,
+    table: Table,
+    address: u16,
+    number: u16,
+) -> bool
+    requires { HaveOwnIds devices.old }
+    ensures test { IsTrue result ↔ CanSet (tables_at unit_id devices.old) table address number }
+    ensures done { OnTrue result (devices.new ≡ with_set unit_id table address number devices.old) }
+    ensures refused { OnFalse result (devices.new ≡ devices.old) }
+    ensures apart { HaveOwnIds devices.new }
+{
+    let Some(place) = place_of(devices, unit_id) else {
+        return false;
+    };
+    let (_, mapping) = &mut devices[place];
+    mapping.set(table, address, number)
 }
 
 /// The place of a device whose unit identifier an earlier one has.

@@ -1,16 +1,18 @@
-ghost use Rattle.std.specs.Prelude.{◌≡◌, ◌&&◌, [], IfErr, IfOk, IsTrue, OnErr};
+ghost use Rattle.std.specs.Prelude.{◌≡◌, ◌↔◌, ◌&&◌, [], IfErr, IfOk, IsTrue, OnErr};
+ghost use Rattle.std.specs.Bool.{OnFalse, OnTrue};
 ghost use Rattle.std.specs.List.{list_all};
 ghost use Rattle.mb_map.specs.Queue.{differ, is_sound};
-ghost use Rattle.mb_map.specs.Schedule.{Continues, StandsFor, begun, step_at};
-ghost use Rattle.mb_map.specs.Schedule.Call.{Rest, Take};
+ghost use Rattle.mb_map.specs.Schedule.{CanSet, Continues, StandsFor, begun, step_at, tables_at, with_set};
+ghost use Rattle.mb_map.specs.Schedule.Call.{Rest, Set, Take};
 
-use crate::devices::repeated_id;
+use crate::devices::{repeated_id, set_number};
 use crate::error::MapError;
 use crate::held::Held;
 use crate::mapping::Mapping;
 use crate::queue::{due_count, give_all, held_count, own_count, pass_on};
 use crate::step::Step;
 use mb_mbap::Frame;
+use mb_pdu::Table;
 use std::alloc::Global;
 use std::marker::Model;
 
@@ -118,5 +120,16 @@ impl Sim {
         give_all(self.held.as_slice(), &mut replies);
         self.held.clear();
         Ok(replies)
+    }
+    /// Puts a number at an address of a table of the device of a unit identifier. It is refused,
+    /// and nothing is changed, where no device has the identifier, for an address outside the
+    /// table, and for a bit over 1. The script and the held replies stay as they are.
+    pub fn set(&mut self, unit_id: u8, table: Table, address: u16, number: u16) -> bool
+        ensures test { IsTrue result ↔ CanSet (tables_at unit_id self.old.devices) table address number }
+        ensures done { OnTrue result (self.new ≡ record self.old { devices = with_set unit_id table address number self.old.devices }) }
+        ensures continues { OnTrue result (Continues self.old (Set unit_id table address number) [] self.new) }
+        ensures refused { OnFalse result (self.new ≡ self.old) }
+    {
+        set_number(self.devices.as_mut_slice(), unit_id, table, address, number)
     }
 }

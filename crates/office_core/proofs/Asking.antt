@@ -1,5 +1,5 @@
 -- What the matcher answers to a query is what the history says of an ask.
-use Rattle.std.proofs.Common.{◌≡◌, ℕ, ◌%◌, ◌≤◌, Bool, true, false, cond, not, eqb, leb, List, ◌∷◌, ◌++◌, length, Some, None, Option, refl, sym, ap, ◌∙◌, arith, subst, ◌⊎◌, inl, inr}
+use Rattle.std.proofs.Common.{◌≡◌, ℕ, ◌%◌, ◌≤◌, Bool, true, false, cond, not, eqb, leb, List, ◌∷◌, ◌++◌, length, Some, None, Option, refl, sym, ap, ◌∙◌, arith, subst}
 use Rattle.std.specs.Prelude.{option_map}
 use Rattle.std.proofs.lemmas.Bool.{eqb-true, eq-eqb, and_parts}
 use Rattle.std.proofs.lemmas.Bool.Decides.{nat_tests}
@@ -23,16 +23,15 @@ use Rattle.office_core.specs.declared.error.OfficeError.TheVariants as error
 use Rattle.office_core.specs.declared.event.Event.TheVariants as event
 use Rattle.office_core.specs.declared.event.EventAnswer.TheVariants as answer
 use Rattle.office_core.specs.declared.site.Target.{Target}
-use Rattle.poll_book.specs.declared.fault.StoreFault.{StoreFault}
-use Rattle.office_core.specs.Errors.{refused_by, IsCaused}
+use Rattle.office_core.specs.Errors.{refused_by, is_of_store}
 use Rattle.office_core.specs.Sites.{target}
 use Rattle.office_core.specs.Cover.{is_readable}
 use Rattle.office_core.specs.Queries.{Reads, asked_of, query_frame, read_text}
 use Rattle.office_core.specs.History.{History, open_line, asked, ask_fault, ask_fault_on, question, question_to}
-use Rattle.office_core.specs.Standing.{queries, open_one, StandsFor, Goes, is_store}
+use Rattle.office_core.specs.Standing.{queries, open_one, StandsFor, Goes}
 use Rattle.office_core.proofs.Opens.{line_held}
 use Rattle.office_core.proofs.Queries.{length-queries}
-use Rattle.office_core.proofs.Steps.{ask_refused_goes, asked_goes, store_goes}
+use Rattle.office_core.proofs.Steps.{ask_refused_goes, asked_goes}
 
 -- the bytes that spell a read's request
 read_spelled : (read : Read) (unit : List ℕ) → (1 ≤ read.function) × (read.function ≤ 4) → spells (read_request read) unit → unit ≡ read_text read
@@ -81,11 +80,9 @@ module _ (holds : Tables → Type 0) (now : Site) (known : List PointRow) (all :
   refusal_is before stands = ap next_refusal (held_is before stands) ∙ ap full (length-queries before conn 0 (asked before conn))
 
   -- a query that the matcher refuses
-  pub asking_refused : (e : MatchError) → (e ≡ matching.Memory) ⊎ (next_refusal (held conn all) ≡ Some e) → (all' : List OpenOne) → all' ≡ all
+  pub asking_refused : (e : MatchError) → next_refusal (held conn all) ≡ Some e → (all' : List OpenOne) → all' ≡ all
       → Goes (StandsFor holds now known all) (StandsFor holds now known all') (event.Ask conn device slot read) (answer.Refused (refused_by e))
-  asking_refused e (inl memory) all' same =
-      store_goes holds now known all holds (λ kept h copy. h) all' (λ d. ap (held d) same) (event.Ask conn device slot read) (answer.Refused (refused_by e)) (ap (λ x. is_store (answer.Refused (refused_by x))) memory)
-  asking_refused e (inr refused) all' same =
+  asking_refused e refused all' same =
       subst (λ l. Goes (StandsFor holds now known all) (StandsFor holds now known l) (event.Ask conn device slot read) (answer.Refused (refused_by e))) (sym same)
       (ask_refused_goes holds now known all conn device slot read (refused_by e)
       (λ before stands. fault_is before stands ∙ ap (option_map refused_by) (sym (refusal_is before stands) ∙ refused)))
@@ -117,17 +114,26 @@ asking_judged holds now known all conn device slot read line is e fault =
     (λ before stands. ap (λ o. ask_fault o now known (length (asked before conn)) device read) (sym (line_held holds now known all before stands conn) ∙ is) ∙ fault (length (asked before conn)))
 
 -- no refusal of an ask is the store's
-pub ask_caused : (may_refuse : StoreFault → Type 0) (line : Option ℕ) (now : Site) (known : List PointRow) (made : ℕ) (device : List ℕ) (read : Read) (e : OfficeError)
-    → ask_fault line now known made device read ≡ Some e → IsCaused may_refuse e
-ask_caused may None now known made device read e is = subst (IsCaused may) (same_Some error.NoConnection e is) tt
-ask_caused may (Some line) now known made device read e is = by_target (target now device) is
+pub ask_own : (line : Option ℕ) (now : Site) (known : List PointRow) (made : ℕ) (device : List ℕ) (read : Read) (e : OfficeError)
+    → ask_fault line now known made device read ≡ Some e → is_of_store e ≡ false
+ask_own None now known made device read e is = ap is_of_store (sym (same_Some error.NoConnection e is))
+ask_own (Some line) now known made device read e is = by_target (target now device) is
   where
-    by : (x y z : Bool) → cond x (Some error.WrongLine) (cond y (Some error.NoRead) (cond z (Some error.Exhausted) None)) ≡ Some e → IsCaused may e
-    by true y z h = subst (IsCaused may) (same_Some error.WrongLine e h) tt
-    by false true z h = subst (IsCaused may) (same_Some error.NoRead e h) tt
-    by false false true h = subst (IsCaused may) (same_Some error.Exhausted e h) tt
+    by : (x y z : Bool) → cond x (Some error.WrongLine) (cond y (Some error.NoRead) (cond z (Some error.Exhausted) None)) ≡ Some e → is_of_store e ≡ false
+    by true y z h = ap is_of_store (sym (same_Some error.WrongLine e h))
+    by false true z h = ap is_of_store (sym (same_Some error.NoRead e h))
+    by false false true h = ap is_of_store (sym (same_Some error.Exhausted e h))
     by false false false h = absurd (cc)
 
-    by_target : (o : Option Target) → ask_fault_on o line known made device read ≡ Some e → IsCaused may e
-    by_target None h = subst (IsCaused may) (same_Some error.WrongLine e h) tt
+    by_target : (o : Option Target) → ask_fault_on o line known made device read ≡ Some e → is_of_store e ≡ false
+    by_target None h = ap is_of_store (sym (same_Some error.WrongLine e h))
     by_target (Some to) h = by (not (eqb to.line line)) (not (is_readable known device read)) (leb 4294967295 made) h
+
+-- nor is one of a query that the matcher refuses
+pub next_own : (former : Option OpenOne) (e : MatchError) → next_refusal former ≡ Some e → is_of_store (refused_by e) ≡ false
+next_own None e is = ap (λ x. is_of_store (refused_by x)) (sym (same_Some matching.NoConnection e is))
+next_own (Some on) e is = by (leb 4294967295 on.made) is
+  where
+    by : (b : Bool) → cond b (Some matching.Exhausted) None ≡ Some e → is_of_store (refused_by e) ≡ false
+    by true h = ap (λ x. is_of_store (refused_by x)) (sym (same_Some matching.Exhausted e h))
+    by false h = absurd (cc)

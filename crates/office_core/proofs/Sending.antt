@@ -1,5 +1,5 @@
 -- What the keeper and the matcher answer to a send is what the history says of it.
-use Rattle.std.proofs.Common.{◌≡◌, ℕ, ◌%◌, Bool, true, false, cond, leb, List, length, Some, None, Option, refl, sym, ap, ◌∙◌, subst, ◌⊎◌, inl, inr}
+use Rattle.std.proofs.Common.{◌≡◌, ℕ, ◌%◌, Bool, true, false, cond, leb, List, length, Some, None, Option, refl, sym, ap, ◌∙◌, subst, inl, inr}
 use Rattle.std.specs.Prelude.{option_map}
 use Rattle.std.proofs.lemmas.Bool.{false≢true}
 use Rattle.std.proofs.lemmas.Option.{same_Some}
@@ -22,7 +22,7 @@ use Rattle.office_core.specs.History.{History, open_line, asked, settings}
 use Rattle.office_core.specs.Orders.{send_fault, writing}
 use Rattle.office_core.specs.Queries.{Writing, Writes, asked_of}
 use Rattle.office_core.specs.Sending.{IsRefused, IsSent}
-use Rattle.office_core.specs.Standing.{queries, open_one, StandsFor, Goes, is_store}
+use Rattle.office_core.specs.Standing.{queries, open_one, StandsFor, Goes}
 use Rattle.office_core.proofs.Opens.{line_held}
 use Rattle.office_core.proofs.Queries.{length-queries}
 use Rattle.office_core.proofs.Steps.{send_refused_goes, sent_goes, store_goes}
@@ -80,11 +80,9 @@ module _ (holds : Tables → Type 0) (now : Site) (known : List PointRow) (all :
         by false = refl
 
     -- a query that the matcher refuses
-    pub sending_refused : (e : MatchError) → (e ≡ matching.Memory) ⊎ (next_refusal (held conn all) ≡ Some e) → (all' : List OpenOne) → all' ≡ all
+    pub sending_refused : (e : MatchError) → next_refusal (held conn all) ≡ Some e → (all' : List OpenOne) → all' ≡ all
         → Goes (StandsFor holds now known all) (StandsFor holds' now known all') (event.Send conn number) (answer.Refused (refused_by e))
-    sending_refused e (inl memory) all' same =
-        store_goes holds now known all holds' (λ kept h copy. keeps kept h) all' (λ d. ap (held d) same) (event.Send conn number) (answer.Refused (refused_by e)) (ap (λ x. is_store (answer.Refused (refused_by x))) memory)
-    sending_refused e (inr refused) all' same =
+    sending_refused e refused all' same =
         subst (λ l. Goes (StandsFor holds now known all) (StandsFor holds' now known l) (event.Send conn number) (answer.Refused (refused_by e))) (sym same)
         (send_refused_goes holds now known all conn number (refused_by e) holds' keeps (λ before stands. fault_is before stands ∙ ap (option_map refused_by) refused))
 

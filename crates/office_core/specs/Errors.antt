@@ -1,7 +1,8 @@
 -- How refusals are told, and what causes them.
 use Rattle.poll_book.specs.declared.fault.StoreFault.{StoreFault}
 use Rattle.poll_book.specs.declared.fault.StoreFault.TheVariants as fault
-use Rattle.std.specs.Prelude.{Bool, true, false, ⊤}
+use Rattle.poll_book.specs.Fault.{HasRisen}
+use Rattle.std.specs.Prelude.{ℕ, Bool, true, false, ⊤}
 use Rattle.poll_match.specs.declared.error.MatchError.{MatchError}
 use Rattle.poll_match.specs.declared.error.MatchError.TheVariants as matching
 use Rattle.office_core.specs.declared.error.OfficeError.{OfficeError}
@@ -25,6 +26,10 @@ refused_by matching.Memory = no_memory
 abbrev pub is_of_store : OfficeError → Bool
 is_of_store (error.Store f) = true
 is_of_store _ = false
+
+-- the keeper may answer this fault, and counted a refusal
+abbrev pub IsCounted : (StoreFault → Type 0) → ℕ → ℕ → StoreFault → Type 0
+IsCounted may_refuse old new fault = may_refuse fault × HasRisen old new
 
 -- a refusal that isn't the store's, or one by a fault that has a cause
 abbrev pub IsCaused : (StoreFault → Type 0) → OfficeError → Type 0

@@ -22,7 +22,7 @@ use Rattle.office_core.specs.declared.event.EventAnswer.{EventAnswer}
 use Rattle.office_core.specs.declared.event.EventAnswer.TheVariants as answer
 use Rattle.poll_book.specs.declared.fault.StoreFault.{StoreFault}
 use Rattle.poll_book.specs.Fault.{HasCause}
-use Rattle.office_core.specs.Errors.{IsCaused}
+use Rattle.office_core.specs.Errors.{IsCaused, IsCounted}
 use Rattle.office_core.specs.Loads.{known_named}
 use Rattle.poll_book.specs.Requests.{RequestKey, request_at}
 use Rattle.office_core.specs.History.{History, points, readings, settings, requests, total}
@@ -92,6 +92,10 @@ arrived (Err e) = answer.Refused e
 -- memory was refused, or the keeper may answer this fault and counted a refusal between the one and the other
 abbrev pub CauseFrom : {K : Type 0} {g : Ghosts K} → Office K g → Office K g → StoreFault → Type 0
 CauseFrom {g = g} old new = HasCause g.may_refuse (g.refused old.keeper) (g.refused new.keeper)
+
+-- the keeper may answer this fault, and counted a refusal between the one and the other
+abbrev pub CountedFrom : {K : Type 0} {g : Ghosts K} → Office K g → Office K g → StoreFault → Type 0
+CountedFrom {g = g} old new = IsCounted g.may_refuse (g.refused old.keeper) (g.refused new.keeper)
 
 -- a refusal by the store has its cause
 abbrev pub AnswerCaused : (StoreFault → Type 0) → EventAnswer → Type 0

@@ -131,9 +131,9 @@ impl<K: Keeper> Office<K> {
     ghost use Rattle.office_core.specs.History.{History, Restart, tables, points, settings, requests, open_line};
     ghost use Rattle.office_core.specs.Lacking.{lacks};
     ghost use Rattle.poll_book.specs.Orders.{as_setting, last_order, oldest_waiting};
-    ghost use Rattle.office_core.specs.Errors.{IsCaused, IsOfStore};
+    ghost use Rattle.office_core.specs.Errors.{IsCaused, IsOfStore, is_of_store};
     ghost use Rattle.office_core.specs.Looking.{covered_of};
-    ghost use Rattle.office_core.specs.Offices.{AnswerCaused, CauseFrom, IsAlike, LeavesNoMore, LeavesRun, LeavesSo, LeavesUnused, Shows, Stands, StandsUnused, arrived, asked_so, keeper_of, opened, order_state_of, points_of, readings_of, site_of, told_so, total_of};
+    ghost use Rattle.office_core.specs.Offices.{AnswerCaused, CauseFrom, CountedFrom, IsAlike, LeavesNoMore, LeavesRun, LeavesSo, LeavesUnused, Shows, Stands, StandsUnused, arrived, asked_so, keeper_of, opened, order_state_of, points_of, readings_of, site_of, told_so, total_of};
 
     /// An office over what a keeper holds, with no connection open. A keeper that can't be read is
     /// given back with `Store`, and one with a point whose device isn't in the site with
@@ -315,7 +315,7 @@ impl<K: Keeper> Office<K> {
     /// Asks a device of a connection's line for the values of a slot, and gives the frame to send.
     /// Refusals, in this order: `NoConnection`; `WrongLine` for a device that isn't one of the
     /// connection's line; `NoRead` for a read that isn't valid, passes address 65,535 or holds no
-    /// known point whole; `Exhausted`; `Store(Memory)`. It makes no store call.
+    /// known point whole; `Exhausted`. It makes no store call and takes no memory.
     pub fn ask(
         &mut self,
         conn: Conn,
@@ -325,7 +325,7 @@ impl<K: Keeper> Office<K> {
     ) -> Result<Frame, OfficeError>
         ensures goes { K.is_clean (keeper_of self.new) → Goes (Stands self.old) (Stands self.new) (Event.Ask conn device.now slot read) (asked_so result) }
         ensures leaves { K.is_clean (keeper_of self.new) → LeavesSo self.old self.new (Event.Ask conn device.now slot read) (asked_so result) }
-        ensures cause { IfErr result (λ e. IsCaused (CauseFrom self.old self.new) e) }
+        ensures no_store { IfErr result (λ e. is_of_store e ≡ false) }
         ensures same { OnErr result (IsAlike self.old self.new) }
         ensures keeper { keeper_of self.new ≡ keeper_of self.old }
     {
@@ -344,11 +344,12 @@ impl<K: Keeper> Office<K> {
     /// Sends a waiting order to its device over a connection, and gives the frame to send; an order may
     /// be sent again while it waits. Refusals, in this order: `NoConnection`; `NoOrder`; `WrongLine`
     /// where the device of its point isn't one of the connection's line; `Settled`; `NotNext` where an
-    /// older order waits on that device; `Exhausted`; and `Store`.
+    /// older order waits on that device; `Exhausted`; and `Store`, by a fault that the keeper answered,
+    /// since what is sent takes no memory.
     pub fn send_order(&mut self, conn: Conn, number: u32) -> Result<Frame, OfficeError>
         ensures goes { K.is_clean (keeper_of self.new) → Goes (Stands self.old) (Stands self.new) (Event.Send conn number) (asked_so result) }
         ensures leaves { K.is_clean (keeper_of self.new) → LeavesSo self.old self.new (Event.Send conn number) (asked_so result) }
-        ensures cause { IfErr result (λ e. IsCaused (CauseFrom self.old self.new) e) }
+        ensures cause { IfErr result (λ e. IsCaused (CountedFrom self.old self.new) e) }
         ensures counted { K.refused (keeper_of self.old) ≤ K.refused (keeper_of self.new) }
         ensures same { OnErr result (IsAlike self.old self.new) }
         ensures clean { K.is_clean (keeper_of self.new) → K.is_clean (keeper_of self.old) }

@@ -4,8 +4,8 @@ ghost use Rattle.std.specs.List.{position};
 ghost use Rattle.poll_match.specs.Queries.{is_valid};
 ghost use Rattle.poll_book.specs.Tables.{Tables, Within};
 ghost use Rattle.poll_book.specs.Orders.{Settings, last_order, oldest_waiting, point_at};
-ghost use Rattle.poll_book.specs.Fault.{Accounts, HasCause};
-ghost use Rattle.office_core.specs.Errors.{IsCaused};
+ghost use Rattle.poll_book.specs.Fault.{Accounts};
+ghost use Rattle.office_core.specs.Errors.{IsCaused, IsCounted};
 ghost use Rattle.office_core.specs.Loads.{known_named};
 ghost use Rattle.office_core.specs.Orders as order;
 ghost use Rattle.office_core.specs.Registers as registers;
@@ -151,7 +151,8 @@ fn judge_setting(
 fn is_next<K: Keeper>(keeper: &mut K, device: &str, number: u32) -> Result<bool, StoreFault>
     ensures value { K.is_clean keeper.new → (kept : Tables) → K.holds keeper.old kept
         → IfOk result (λ next. next ≡ order.is_number (oldest_waiting kept.points device.now kept.settings) number) }
-    ensures cause { Accounts K.may_refuse (K.refused keeper.old) (K.refused keeper.new) result }
+    ensures cause { IfErr result (IsCounted K.may_refuse (K.refused keeper.old) (K.refused keeper.new)) }
+    ensures counted { K.refused keeper.old ≤ K.refused keeper.new }
     ensures same { Within (K.holds keeper.old) (K.holds keeper.new) }
     ensures leaves { K.is_clean keeper.new → Within (K.may_leave keeper.new) (K.may_leave keeper.old) }
     ensures clean { K.is_clean keeper.new → K.is_clean keeper.old }
@@ -176,7 +177,7 @@ pub(crate) fn judge_send<K: Keeper>(
         → MatchResult result (λ asked. IsSent line site.now known.now kept.settings number asked)
         (λ e. IsRefused line site.now known.now kept.settings number e) }
     ensures valid { IfOk result (λ asked. is_valid asked ≡ true) }
-    ensures cause { IfErr result (λ e. IsCaused (HasCause K.may_refuse (K.refused keeper.old) (K.refused keeper.new)) e) }
+    ensures cause { IfErr result (λ e. IsCaused (IsCounted K.may_refuse (K.refused keeper.old) (K.refused keeper.new)) e) }
     ensures counted { K.refused keeper.old ≤ K.refused keeper.new }
     ensures same { Within (K.holds keeper.old) (K.holds keeper.new) }
     ensures leaves { K.is_clean keeper.new → Within (K.may_leave keeper.new) (K.may_leave keeper.old) }

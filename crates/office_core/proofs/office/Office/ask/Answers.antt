@@ -1,8 +1,6 @@
 use Rattle.std.proofs.Common.{◌≡◌, ◌∙◌, ℕ, Some, Ok, length, subst, sym, rules}
 use Rattle.poll_match.specs.declared.asked.Asked.TheVariants.{Read}
 use Rattle.poll_match.specs.Window.{IsNextFrame, Changes, held, with_query}
-use Rattle.poll_book.specs.declared.fault.StoreFault.{StoreFault}
-use Rattle.poll_book.specs.Fault.{HasCause}
 use Rattle.office_core.specs.declared.event.Event.TheVariants.{Ask}
 use Rattle.office_core.specs.Errors.{refused_by}
 use Rattle.office_core.specs.Cover.{is_readable}
@@ -10,8 +8,8 @@ use Rattle.office_core.specs.Standing.{Goes, StandsFor}
 use Rattle.office_core.specs.History.{ask_fault}
 use Rattle.office_core.specs.Offices.{asked_so}
 use Rattle.office_core.proofs.Leaving.{ask_writes_nothing, leaves_unwritten}
-use Rattle.office_core.proofs.Asking.{ask_caused, asking_judged, asking_refused, asking_goes}
-use Rattle.office_core.proofs.Telling.{asked_err, caused_err}
+use Rattle.office_core.proofs.Asking.{ask_own, asking_judged, asking_refused, asking_goes, next_own}
+use Rattle.office_core.proofs.Telling.{asked_err, own_err}
 use Rattle.office_core.proofs.office.Office.ask.Goals as goal
 
 pub returns-in_err-to-clause-goes : goal.returns-in_err-to-clause-goes
@@ -52,12 +50,15 @@ returns-clause-goes g c clean =
     c.next_query.new.self
     (subst (λ n. Changes c.args.conn (with_query (Read c.in_ok-to.to.unit_id c.in_ok-to.to.place c.args.slot c.args.read n)) office.matcher c.next_query.new.self) count c.in_ok-next_query.ensures.next)
 
-pub returns-in_err-to-clause-cause : goal.returns-in_err-to-clause-cause
-returns-in_err-to-clause-cause g c =
-    let refused = g.K.Neighbours.refused c.args.self.now.keeper in
-    let cause : StoreFault → Type 0 = HasCause g.K.Neighbours.may_refuse refused refused in
-    caused_err cause c.from_residual.result c.in_err-to.field-0.0 c.from_residual.ensures.1
-    (ask_caused cause c.line_of-line.result c.args.self.now.site c.deref.result.now 0 c.args.device.now c.args.read c.in_err-to.field-0.0 (c.in_err-to.ensures 0))
+pub returns-in_err-to-clause-no_store : goal.returns-in_err-to-clause-no_store
+returns-in_err-to-clause-no_store g c =
+    own_err c.from_residual.result c.in_err-to.field-0.0 c.from_residual.ensures.1
+    (ask_own c.line_of-line.result c.args.self.now.site c.deref.result.now 0 c.args.device.now c.args.read c.in_err-to.field-0.0 (c.in_err-to.ensures 0))
+
+pub returns-in_err-next_query-clause-no_store : goal.returns-in_err-next_query-clause-no_store
+returns-in_err-next_query-clause-no_store g c =
+    own_err c.from_residual-in_err-next_query.result (refused_by c.in_err-next_query.field-0.0) c.from_residual-in_err-next_query.ensures.1
+    (next_own (held c.args.conn c.args.self.now.matcher) c.in_err-next_query.field-0.0 c.in_err-next_query.ensures.refused)
 
 pub returns-in_err-to-clause-leaves : goal.returns-in_err-to-clause-leaves
 returns-in_err-to-clause-leaves g c clean =
