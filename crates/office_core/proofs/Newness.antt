@@ -19,7 +19,7 @@ use Rattle.poll_book.specs.Orders.{Settings, is_waiting, last_order, setting_at,
 use Rattle.poll_book.specs.Requests.{request_at, with_request}
 use Rattle.poll_book.specs.Tables.{Tables, Within, Key, key_cmp, Readings, reading_at, new_rows, sum_at, with_rows, with_sums}
 use Rattle.poll_book.specs.Totals.{totals_of}
-use Rattle.poll_book.specs.Changes.{applied, HaveTotals, as_rows, as_sums, counters, keyed, new_sums, with_order, AreNumbered, AreNew, AreThere, IsNew, IsNextOrSettled, IsNextOrSettledAs}
+use Rattle.poll_book.specs.Changes.{applied, HaveTotals, as_rows, as_sums, counters, keyed, new_sums, with_order, AreNumbered, HasWords, KeepWords, AreThere, IsNew, IsNextOrSettled, IsNextOrSettledAs}
 use Rattle.poll_book.proofs.Tabled.{exact_keys}
 use Rattle.office_core.specs.Leavings.{LeftAfter}
 use Rattle.office_core.specs.Loads.{numbered_on}
@@ -65,14 +65,14 @@ none_is : {T : Type 0} (o : Option T) → is_none o ≡ true → o ≡ None
 none_is None e = refl
 none_is (Some x) e = absurd (cc)
 
--- of rows with rising points those that a table lacks are new to it
-pub rises_new : (table : Readings) (n : ℕ) (given : Readings) → Rises n given → AreNew table (new_rows table given)
+-- of rows with rising points those that a table lacks change nothing of it
+pub rises_new : (table : Readings) (n : ℕ) (given : Readings) → Rises n given → KeepWords table (new_rows table given)
 rises_new table n [] r = tt
 rises_new table n (row ∷ rest) r = by (is_none (reading_at table row.0)) refl (rises_new table row.0.0 rest r.1)
   where
-    by : (b : Bool) → is_none (reading_at table row.0) ≡ b → AreNew table (new_rows table rest) → AreNew table (cond b (row ∷ new_rows table rest) (new_rows table rest))
+    by : (b : Bool) → is_none (reading_at table row.0) ≡ b → KeepWords table (new_rows table rest) → KeepWords table (cond b (row ∷ new_rows table rest) (new_rows table rest))
     by true e fresh = (
-      none_is (reading_at table row.0) e,
+      subst (HasWords row.1.words) (sym (none_is (reading_at table row.0) e)) tt,
       rises_past row.0 (new_rows table rest) (rises-filter (λ x. is_none (reading_at table x.0)) row.0.0 rest r.1),
       fresh,
     )
@@ -97,7 +97,7 @@ pub new_replied : (change : Change) (kept : Tables) (slot : ℕ) (covered : List
     → AreCovered kept.points slot covered → IsNew change kept
 new_replied change kept slot covered is counted are = subst (λ x. IsNew x kept) (sym is.alone) (record {
   points = still_numbered kept counted;
-  readings = subst (AreNew kept.readings) (sym is.readings) (rises_new kept.readings 0 (keyed slot covered) are.rise);
+  readings = subst (KeepWords kept.readings) (sym is.readings) (rises_new kept.readings 0 (keyed slot covered) are.rise);
   totals = of_counters kept counted;
   sums = subst (AreThere kept.totals) (sym is.totals)
       (subst (λ t. AreThere t (new_sums kept.readings slot covered)) (sym counted.totals) (sums_there kept.points kept.readings slot covered counted.points are.known));

@@ -3,10 +3,10 @@ use Rattle.std.proofs.Common.{◌≡◌, ◌⊎◌, ◌<◌, ◌≤◌, ℕ, suc
 use Rattle.std.specs.Prelude.{All, Contains, Option, None, map, option_map}
 use Rattle.std.proofs.lemmas.List.Elements.{All-map}
 use Rattle.std.proofs.lemmas.Option.{none-some, same_Some}
-use Rattle.poll_book.specs.Totals.{steps}
+use Rattle.poll_book.specs.Totals.{first_of, last_of, steps}
 use Rattle.poll_book.specs.Histories.{IsRising}
 use Rattle.office_core.specs.FirstArrivals.{numbers_of}
-use Rattle.office_core.specs.Losses.{first_of, last_of, first_slot, last_slot}
+use Rattle.office_core.specs.Losses.{first_slot, last_slot}
 use Rattle.office_core.proofs.Elements.{among, in_none, further, foremost}
 use Rattle.office_core.proofs.BySlot.{slot_of, rising_rest, rising_first}
 use Rattle.office_core.proofs.StepsLost.{IsPart, lost, rounds_lost}

@@ -5,10 +5,9 @@ use Rattle.std.proofs.Math.Nat.{mod-eq_of_lt, add-mod_right}
 use Rattle.std.proofs.lemmas.Bool.{cases_lt}
 use Rattle.std.proofs.lemmas.List.Elements.{All-head, All-tail}
 use Rattle.std.proofs.lemmas.Option.{none-some, same_Some}
-use Rattle.poll_book.specs.Totals.{steps}
+use Rattle.poll_book.specs.Totals.{first_of, last_of, steps}
 use Rattle.poll_book.proofs.Steps.{by_way}
 use Rattle.office_core.specs.FirstArrivals.{step}
-use Rattle.office_core.specs.Losses.{first_of, last_of}
 
 -- the second list with some elements left out is the first
 abbrev pub IsPart : {X : Type 0} → List X → List X → Type 0

@@ -460,7 +460,7 @@ impl<K: Keeper> Office<K> {
         let Some(row) = known_named(&self.points, point.as_bytes()) else {
             return Ok(None);
         };
-        let rows = self.keeper.readings(self.alloc, row.number, from, to)?;
+        let rows = self.keeper.readings(self.alloc, &row, from, to)?;
         Ok(Some(rows))
     }
 

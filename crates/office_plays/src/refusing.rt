@@ -146,7 +146,7 @@ impl Keeper for Refusing {
     fn readings(
         &mut self,
         alloc: Global,
-        point: u32,
+        point: &PointRow,
         from: u32,
         to: u32,
     ) -> Result<Vec<ReadingRow>, StoreFault> {

@@ -19,7 +19,7 @@ fn add_point<K: Keeper>(
     keeper: &mut K,
     point: &PointRow,
 ) -> Result<(), OfficeError> {
-    let rows = keeper.readings(*text.allocator(), point.number, 0, u32::MAX)?;
+    let rows = keeper.readings(*text.allocator(), point, 0, u32::MAX)?;
     let total = keeper.total(point)?;
     Ok(writeln!(text, "{point:?} {rows:?} {total}")?)
 }

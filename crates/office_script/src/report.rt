@@ -77,7 +77,7 @@ fn push_readings(
     ensures text { OnOk result (out.new.items ≡ out.old.items ++ reading_lines keeper.old.0.readings known.now) }
     ensures same { keeper.new.0 ≡ keeper.old.0 }
 {
-    let Ok(rows) = keeper.readings(alloc, known.number, 0, u32::MAX) else {
+    let Ok(rows) = keeper.readings(alloc, known, 0, u32::MAX) else {
         return Err(AllocError);
     };
     push_rows(alloc, out, known, &rows)

@@ -1,9 +1,10 @@
 -- Whether tables are an office's can be decided.
-use Rattle.std.proofs.Common.{◌≡◌, ◌⊎◌, inl, inr, ℕ, pos, List, [], ◌∷◌, map, Bool, true, false, None, Some, Option, refl, sym, ap, ap₂, subst, ◌∙◌, T, ◌==◌, arith}
+use Rattle.std.proofs.Common.{◌≡◌, ◌⊎◌, inl, inr, ℕ, pos, List, [], ◌∷◌, map, Bool, true, false, None, Some, Option, IsTrue, refl, sym, ap, ap₂, subst, ◌∙◌, T, ◌==◌, arith}
 use Rattle.std.specs.List.{AllByRecursion, IsDistinct}
 use Rattle.std.specs.List.Sorted.{IsPermutation}
 use Rattle.std.specs.FinMap.Entries as rows
 use Rattle.std.specs.declared.cmp.Ordering.{Ordering}
+use Rattle.std.specs.declared.cmp.Ordering.TheVariants.{Less, Equal, Greater}
 use Rattle.std.specs.Ordering.{eq_by_cmp, nat_cmp}
 use Rattle.std.specs.Cmp.{IsTotalOrder}
 use Rattle.std.specs.Coded.{Coded, coded_list}
@@ -17,8 +18,10 @@ use base.Stored.{Gv, gnil, gnum, gcons}
 use Rattle.sqlite_value.specs.declared.value.Value.{Value}
 use Rattle.sqlite_value.specs.declared.value.Value.TheVariants.{Int}
 use Rattle.sqlite_value.specs.contracts.row.Row as row
-use Rattle.sqlite_value.specs.Order.{Row, column}
-use Rattle.sqlite_trees.specs.Tree.{Trees}
+use Rattle.sqlite_value.specs.Order.{Row, column, value_cmp}
+use Rattle.sqlite_trees.specs.Tree.{Trees, IsTable, rowid}
+use Rattle.sqlite_trees.specs.View.{IsShaped, is_int}
+use Rattle.sqlite_trees.specs.declared.store.Shape.TheVariants.{Table}
 use Rattle.sqlite_trees.specs.Objects.{catalog_tree}
 use Rattle.sqlite_schema.specs.declared.schema.Schema.{Schema}
 use Rattle.sqlite_schema.specs.contracts.schema.Schema as schema
@@ -147,14 +150,48 @@ module _ {K X : Type 0} (R : K → K → Ordering) (o : IsTotalOrder R) where
     | inr not ↦ inr (λ it. not (distinct_again R o it.0 es (IsPermutation-sym es it.0 it.1) (IsDistinct-from_sorted R (map (λ (e : K × X). e.0) it.0) (keys_sorted R o it.0 it.2))))
   ]
 
+-- ---- rows whose numbers rise
+
+is_less : (o : Ordering) → Decided (o ≡ Less)
+is_less Less = inl refl
+is_less Equal = inr (λ e. absurd (cc))
+is_less Greater = inr (λ e. absurd (cc))
+
+is_true : (b : Bool) → Decided (IsTrue b)
+is_true true = inl refl
+is_true false = inr (λ e. absurd (cc))
+
+all_decided : {X : Type 0} {P : X → Type 0} → ((x : X) → Decided (P x)) → (xs : List X) → Decided (AllByRecursion P xs)
+all_decided each [] = inl tt
+all_decided each (x ∷ xs) = elim (each x) [
+  | inr not ↦ inr (λ all. not all.0)
+  | inl here ↦ elim (all_decided each xs) [ inl all ↦ inl (here, all) | inr not ↦ inr (λ all. not all.1) ]
+]
+
+rising : (all : List Row) → Decided (IsTable all)
+rising [] = inl tt
+rising (r ∷ all) = elim (all_decided (λ (b : Row). is_less (value_cmp (rowid r) (rowid b))) all) [
+  | inr not ↦ inr (λ it. not it.0)
+  | inl here ↦ elim (rising all) [ inl more ↦ inl (here, more) | inr not ↦ inr (λ it. not it.1) ]
+]
+
+numbered : (all : List Row) → Decided (IsShaped Table all)
+numbered all = elim (rising all) [
+  | inr not ↦ inr (λ it. not it.0)
+  | inl up ↦ elim (all_decided (λ (r : Row). is_true (is_int (rowid r))) all) [ inl ints ↦ inl (up, ints) | inr not ↦ inr (λ it. not it.1) ]
+]
+
 -- ---- the parts of a store
 
 readings_decided : (db : Trees) → Decided ((kept : Readings) × AreReadings db kept)
 readings_decided db = elim (all_some stored_reading (db reading_tree)) [
   | inr not ↦ inr (λ it. not (it.1.entries, it.1.stored))
-  | inl some ↦ elim (has_order key_cmp keys_total some.0) [
-    | inl it ↦ inl (it.0, record { entries = some.0; stored = some.1; same = it.1; sorted = it.2 })
-    | inr not ↦ inr (λ it. not (it.0, subst (λ es. IsPermutation es it.0) (same_list it.1.entries some.0 (sym it.1.stored ∙ some.1)) it.1.same, it.1.sorted))
+  | inl some ↦ elim (numbered (db reading_tree)) [
+    | inr not ↦ inr (λ it. not it.1.numbered)
+    | inl up ↦ elim (has_order key_cmp keys_total some.0) [
+      | inl it ↦ inl (it.0, record { entries = some.0; stored = some.1; numbered = up; same = it.1; sorted = it.2 })
+      | inr not ↦ inr (λ it. not (it.0, subst (λ es. IsPermutation es it.0) (same_list it.1.entries some.0 (sym it.1.stored ∙ some.1)) it.1.same, it.1.sorted))
+    ]
   ]
 ]
 

@@ -1,11 +1,13 @@
 -- The first rows of the table of numbers.
-use Rattle.std.proofs.Common.{◌≡◌, ℕ, ℤ, pos, List, [], ◌∷◌, map, codes, Bool, true, false, cond, None, Ok, Err, Result, refl, ap, subst, ◌∙◌, IfOk, OnOk, arith}
+use Rattle.std.proofs.Common.{◌≡◌, ℕ, ℤ, pos, List, [], ◌∷◌, map, codes, Bool, true, false, cond, None, Ok, Err, Result, refl, sym, ap, subst, ◌∙◌, IfOk, OnOk, arith}
 use Rattle.std.proofs.lemmas.List.Sorted.{IsPermutation-refl}
 use Rattle.sqlite_value.specs.declared.value.Value.{Value}
 use Rattle.sqlite_value.specs.declared.value.Value.TheVariants.{Null, Int, Text}
 use Rattle.sqlite_value.specs.Order.{Row}
 use Rattle.sqlite_value.proofs.OrderLemmas.{value_cmp-Int}
 use Rattle.sqlite_trees.specs.Tree.{Trees}
+use Rattle.sqlite_trees.specs.View.{IsShaped}
+use Rattle.sqlite_trees.specs.declared.store.Shape.TheVariants.{Table}
 use Rattle.sqlite_sql.specs.Ops.{unary}
 use Rattle.sqlite_schema.specs.declared.schema.Kind.TheVariants.{Integer}
 use Rattle.sqlite_schema.specs.declared.schema.Keys.TheVariants.{Enforced}
@@ -85,7 +87,7 @@ puts_numbers old new (Ok count) blank h =
       ap (λ (d : Database). d.schema) now,
       record {
         points = record { stored = ap (map stored_point) points; sorted = tt };
-        readings = record { entries = []; stored = ap (map stored_reading) readings; same = IsPermutation-refl []; sorted = tt };
+        readings = record { entries = []; stored = ap (map stored_reading) readings; numbered = subst (IsShaped Table) (sym readings) (tt, tt); same = IsPermutation-refl []; sorted = tt };
         settings = record { stored = ap (map stored_setting) settings; sorted = tt };
         requests = record { entries = []; stored = ap (map stored_request) requests; same = IsPermutation-refl []; sorted = tt };
         totals = record { stored = ap (map stored_sum) totals; sorted = tt };

@@ -1,5 +1,6 @@
 mod Texts
 mod Tables
+mod StayingRows
 mod FirstRows
 mod Asking
 mod Queries
@@ -14,7 +15,10 @@ mod ByNumber
 mod Counts
 mod Connections
 mod Putting
+mod Unchanged
+mod FreeKeys
 mod PutReading
+mod MarkReading
 mod NewRows
 mod Spoken
 mod ByKey

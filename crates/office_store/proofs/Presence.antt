@@ -58,7 +58,7 @@ module _ (point slot : ℕ) where
   abbrev pub given : Row
   given = Int (pos point) ∷ Int (pos slot) ∷ []
 
-  abbrev keep : Key × Reading → Bool
+  abbrev pub keep : Key × Reading → Bool
   keep e = e.0.0 == point && (e.0.1 == slot && true)
 
   abbrev passes : Row → Bool
@@ -75,7 +75,7 @@ module _ (point slot : ℕ) where
       let two = compares Eq e.0.1 slot ∙ equals e.0.1 slot in
       ap₂ tests it.0 it.1 ∙ rw (one, two) refl
 
-  same : (e : Key × Reading) → keep e ≡ eq_by_cmp key_cmp (point, slot) e.0
+  pub same : (e : Key × Reading) → keep e ≡ eq_by_cmp key_cmp (point, slot) e.0
   same e = grind (arith, nat_tests)
 
   as_many : (all : List Row) (es : Readings) → map stored_reading all ≡ map Some es → length (hits all) ≡ length (filter keep es)

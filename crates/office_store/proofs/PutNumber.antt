@@ -25,11 +25,12 @@ use Rattle.sqlite.specs.State.{State, mode_of, Executes, Shows}
 use Rattle.sqlite.proofs.Callers.{runs_as, one_step, one_permutation, statement_of}
 use Rattle.poll_book.specs.Tables.{Tables}
 use Rattle.office_store.specs.Schema.{meta, office_schema}
-use Rattle.office_store.specs.Rows.{stored_point, stored_reading, stored_setting, stored_request, stored_sum}
+use Rattle.office_store.specs.Rows.{stored_point, stored_setting, stored_request, stored_sum}
 use Rattle.office_store.specs.Kept.{number_rows}
 use Rattle.office_store.specs.Writing.{Within}
 use Rattle.office_store.proofs.Texts.{put_connection_text, put_connection_query, put_connection_is}
 use Rattle.office_store.proofs.Tables.{went, same_value}
+use Rattle.office_store.proofs.StayingRows.{readings_stay}
 use Rattle.office_store.proofs.FirstRows.{cast_int}
 use Rattle.office_store.proofs.Connections.{passes_not, passes_itself, second_alone}
 
@@ -105,7 +106,7 @@ module _ (number : ℕ) where
         sound = w.sound;
         stands = record {
           points = record { stored = ap (map stored_point) points ∙ was.points.stored; sorted = was.points.sorted };
-          readings = record { entries = was.readings.entries; stored = ap (map stored_reading) readings ∙ was.readings.stored; same = was.readings.same; sorted = was.readings.sorted };
+          readings = readings_stay old.now.trees new.now.trees kept.readings readings was.readings;
           settings = record { stored = ap (map stored_setting) settings ∙ was.settings.stored; sorted = was.settings.sorted };
           requests = record { entries = was.requests.entries; stored = ap (map stored_request) requests ∙ was.requests.stored; same = was.requests.same; sorted = was.requests.sorted };
           totals = record { stored = ap (map stored_sum) totals ∙ was.totals.stored; sorted = was.totals.sorted };

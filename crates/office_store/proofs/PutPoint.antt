@@ -40,10 +40,11 @@ use Rattle.poll_book.specs.declared.rows.PointRow.{PointRow}
 use Rattle.poll_book.specs.Tables.{Tables}
 use Rattle.office_store.specs.PointNumbers.{table_number, role_number}
 use Rattle.office_store.specs.Schema.{point as point_schema, office_schema}
-use Rattle.office_store.specs.Rows.{stored_reading, stored_point, stored_setting, stored_request, stored_sum, number_below, table_coded, role_coded, kind_of, small_of, long_of}
+use Rattle.office_store.specs.Rows.{stored_point, stored_setting, stored_request, stored_sum, number_below, table_coded, role_coded, kind_of, small_of, long_of}
 use Rattle.office_store.specs.Writing.{Within}
 use Rattle.office_store.proofs.Texts.{put_point_text, put_point_terms, put_point_is}
 use Rattle.office_store.proofs.Tables.{went, same_value}
+use Rattle.office_store.proofs.StayingRows.{readings_stay}
 use Rattle.office_store.proofs.FirstRows.{cast_null, cast_int}
 use Rattle.office_store.proofs.ByNumber.{numbered, stored_entry, entry_key, as_entries, as_points}
 use Rattle.office_store.proofs.Appending.{stands_last, put_last}
@@ -175,7 +176,7 @@ module _ (n : ℕ) (point : Point) where
             stored = ap (map stored_point) at_two ∙ stands (db 2) kept.points (point_added low is) was.points.stored below;
             sorted = subst (λ es. T (rows.is_sorted nat_cmp es)) (in_order kept.points below) (rows.is_sorted-put nat_cmp nat_cmp_total n point (map numbered kept.points) was.points.sorted);
           };
-          readings = record { entries = was.readings.entries; stored = ap (map stored_reading) readings ∙ was.readings.stored; same = was.readings.same; sorted = was.readings.sorted };
+          readings = readings_stay old.now.trees new.now.trees kept.readings readings was.readings;
           settings = record { stored = ap (map stored_setting) settings ∙ was.settings.stored; sorted = was.settings.sorted };
           requests = record { entries = was.requests.entries; stored = ap (map stored_request) requests ∙ was.requests.stored; same = was.requests.same; sorted = was.requests.sorted };
           totals = record { stored = ap (map stored_sum) totals ∙ was.totals.stored; sorted = was.totals.sorted };

@@ -26,10 +26,11 @@ use Rattle.poll_book.specs.declared.requests.Request.{Request}
 use Rattle.poll_book.specs.Requests.{RequestKey, request_cmp, request_at, with_request}
 use Rattle.poll_book.specs.Tables.{Tables}
 use Rattle.office_store.specs.Schema.{request, office_schema}
-use Rattle.office_store.specs.Rows.{stored_reading, stored_point, stored_setting, stored_request, stored_sum, text_that, body_of, outcome_of}
+use Rattle.office_store.specs.Rows.{stored_point, stored_setting, stored_request, stored_sum, text_that, body_of, outcome_of}
 use Rattle.office_store.specs.Writing.{Within}
 use Rattle.office_store.proofs.Texts.{put_request_text, put_request_terms, put_request_is}
 use Rattle.office_store.proofs.Tables.{went, same_value}
+use Rattle.office_store.proofs.StayingRows.{readings_stay}
 use Rattle.office_store.proofs.FirstRows.{cast_null, cast_int}
 use Rattle.office_store.proofs.Putting.{put_entry, put_same}
 use Rattle.office_store.proofs.PutReading.{only_free}
@@ -102,7 +103,7 @@ module _ (kind : ℕ) (bytes : List ℕ) (answer a b c : ℕ) (e : RequestKey ×
         sound = w.sound;
         stands = record {
           points = record { stored = ap (map stored_point) points ∙ was.points.stored; sorted = was.points.sorted };
-          readings = record { entries = was.readings.entries; stored = ap (map stored_reading) readings ∙ was.readings.stored; same = was.readings.same; sorted = was.readings.sorted };
+          readings = readings_stay old.now.trees new.now.trees kept.readings readings was.readings;
           settings = record { stored = ap (map stored_setting) settings ∙ was.settings.stored; sorted = was.settings.sorted };
           requests = record {
             entries = put.entries;

@@ -23,10 +23,11 @@ use Rattle.sqlite.specs.State.{State, mode_of, Executes, Shows}
 use Rattle.sqlite.proofs.Callers.{runs_as, one_step, statement_of}
 use Rattle.poll_book.specs.Tables.{Tables}
 use Rattle.office_store.specs.Schema.{setting, office_schema}
-use Rattle.office_store.specs.Rows.{stored_reading, stored_point, stored_setting, stored_request, stored_sum, state_of, register_bytes}
+use Rattle.office_store.specs.Rows.{stored_point, stored_setting, stored_request, stored_sum, state_of, register_bytes}
 use Rattle.office_store.specs.Writing.{Within}
 use Rattle.office_store.proofs.Texts.{put_setting_text, put_setting_terms, put_setting_is}
 use Rattle.office_store.proofs.Tables.{went, same_value}
+use Rattle.office_store.proofs.StayingRows.{readings_stay}
 use Rattle.office_store.proofs.FirstRows.{cast_null, cast_int}
 use Rattle.office_store.proofs.Registers.{words_back}
 use Rattle.office_store.proofs.ByNumber.{setting_key}
@@ -98,7 +99,7 @@ module _ (n p : ℕ) (words : List ℕ) (standing : OrderState) where
         sound = w.sound;
         stands = record {
           points = record { stored = ap (map stored_point) points ∙ was.points.stored; sorted = was.points.sorted };
-          readings = record { entries = was.readings.entries; stored = ap (map stored_reading) readings ∙ was.readings.stored; same = was.readings.same; sorted = was.readings.sorted };
+          readings = readings_stay old.now.trees new.now.trees kept.readings readings was.readings;
           settings = record { stored = ap (map stored_setting) at_six ∙ stored; sorted = rows.is_sorted-put nat_cmp nat_cmp_total n value kept.settings was.settings.sorted };
           requests = record { entries = was.requests.entries; stored = ap (map stored_request) requests ∙ was.requests.stored; same = was.requests.same; sorted = was.requests.sorted };
           totals = record { stored = ap (map stored_sum) totals ∙ was.totals.stored; sorted = was.totals.sorted };

@@ -25,10 +25,11 @@ use Rattle.sqlite.specs.State.{State, mode_of, Executes, Shows}
 use Rattle.sqlite.proofs.Callers.{runs_as, one_step, statement_of}
 use Rattle.poll_book.specs.Tables.{Tables, sum_at, with_sum}
 use Rattle.office_store.specs.Schema.{total, office_schema}
-use Rattle.office_store.specs.Rows.{stored_point, stored_reading, stored_setting, stored_request, stored_sum, number_of, wide_of}
+use Rattle.office_store.specs.Rows.{stored_point, stored_setting, stored_request, stored_sum, number_of, wide_of}
 use Rattle.office_store.specs.Writing.{Within}
 use Rattle.office_store.proofs.Texts.{put_total_text, put_total_terms, put_total_is}
 use Rattle.office_store.proofs.Tables.{went, same_value}
+use Rattle.office_store.proofs.StayingRows.{readings_stay}
 use Rattle.office_store.proofs.FirstRows.{cast_null, cast_int}
 use Rattle.office_store.proofs.Comparing.{and_then_some, map_some, number_is}
 use Rattle.office_store.proofs.Sixteen.{from_be_bytes-to_be_bytes_16}
@@ -91,7 +92,7 @@ module _ (n sum : ℕ) where
         sound = w.sound;
         stands = record {
           points = record { stored = ap (map stored_point) points ∙ was.points.stored; sorted = was.points.sorted };
-          readings = record { entries = was.readings.entries; stored = ap (map stored_reading) readings ∙ was.readings.stored; same = was.readings.same; sorted = was.readings.sorted };
+          readings = readings_stay old.now.trees new.now.trees kept.readings readings was.readings;
           settings = record { stored = ap (map stored_setting) settings ∙ was.settings.stored; sorted = was.settings.sorted };
           requests = record { entries = was.requests.entries; stored = ap (map stored_request) requests ∙ was.requests.stored; same = was.requests.same; sorted = was.requests.sorted };
           totals = record { stored = ap (map stored_sum) at_nine ∙ stored; sorted = rows.is_sorted-put nat_cmp nat_cmp_total n sum kept.totals was.totals.sorted };

@@ -25,6 +25,7 @@ use Rattle.sqlite.proofs.Callers.{runs_as, one_step, one_permutation, statement_
 use Rattle.office_store.specs.Schema.{office_schema}
 use Rattle.office_store.specs.Writing.{Within}
 use Rattle.office_store.proofs.Tables.{went, same_value}
+use Rattle.office_store.proofs.StayingRows.{readings_stay}
 use Rattle.office_store.proofs.FirstRows.{cast_null, cast_int}
 use Rattle.office_store.proofs.Comparing.{compares}
 use Rattle.office_store.proofs.Settling.{over}
@@ -38,7 +39,7 @@ use Rattle.sqlite_sql.specs.Ops.{binary, is_true}
 use Rattle.sqlite_value.specs.declared.value.Value.{Value}
 use Rattle.std.specs.Int.{w128, to_be_bytes}
 use Rattle.poll_book.specs.Tables.{Tables, sum_at, with_sum}
-use Rattle.office_store.specs.Rows.{stored_point, stored_reading, stored_setting, stored_request, stored_sum}
+use Rattle.office_store.specs.Rows.{stored_point, stored_setting, stored_request, stored_sum}
 use Rattle.office_store.proofs.Texts.{set_total_text, set_total_query, set_total_is}
 use Rattle.office_store.proofs.ByNumber.{alone_and}
 use Rattle.office_store.proofs.PutTotal.{added, total_added, total_key, total_table}
@@ -109,7 +110,7 @@ module _ (n sum : ℕ) where
         sound = w.sound;
         stands = record {
           points = record { stored = ap (map stored_point) points ∙ was.points.stored; sorted = was.points.sorted };
-          readings = record { entries = was.readings.entries; stored = ap (map stored_reading) readings ∙ was.readings.stored; same = was.readings.same; sorted = was.readings.sorted };
+          readings = readings_stay old.now.trees new.now.trees kept.readings readings was.readings;
           settings = record { stored = ap (map stored_setting) settings ∙ was.settings.stored; sorted = was.settings.sorted };
           requests = record { entries = was.requests.entries; stored = ap (map stored_request) requests ∙ was.requests.stored; same = was.requests.same; sorted = was.requests.sorted };
           totals = record { stored = ap (map stored_sum) at_nine ∙ it.put (added n sum) (refl, total_added n sum low fits); sorted = rows.is_sorted-put nat_cmp nat_cmp_total n sum kept.totals was.totals.sorted };

@@ -80,6 +80,26 @@ pub put_reading_is : (command_of (understood office_schema put_reading_text) ≡
 unfolding understood everything
 put_reading_is = (refl, (refl, refl))
 
+abbrev pub mark_reading_text : List ℕ
+mark_reading_text = codes "UPDATE reading SET counted = ?3 WHERE point = ?1 AND slot = ?2"
+
+abbrev pub mark_reading_query : Query
+mark_reading_query = record {
+  from = inner 4 end;
+  filter = op2 (Compare Eq Binary) (col 1 1) (col 0 0) ∷ op2 (Compare Eq Binary) (col 1 2) (col 0 1) ∷ [];
+  group = None;
+  project = col 1 0 ∷ col 1 0 ∷ col 1 1 ∷ col 1 2 ∷ col 1 3 ∷ col 0 2 ∷ [];
+  distinct = false;
+  collations = [];
+  order = [];
+  limit = lit (Int (negsuc 0));
+  offset = lit (Int (pos 0));
+}
+
+pub mark_reading_is : (command_of (understood office_schema mark_reading_text) ≡ Update 2 (record { lets = []; body = mark_reading_query })) × IsPlain (understood office_schema mark_reading_text)
+unfolding understood everything
+mark_reading_is = (refl, (refl, refl))
+
 abbrev pub put_connection_text : List ℕ
 put_connection_text = codes "UPDATE meta SET value = ?1 WHERE name = 'connections'"
 

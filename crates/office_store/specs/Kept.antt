@@ -7,6 +7,8 @@ use Rattle.sqlite_resolve.specs.declared.compiled.Compiled.{Compiled}
 use Rattle.sqlite_value.specs.declared.value.Value.TheVariants.{Int, Text}
 use Rattle.sqlite_value.specs.Order.{Row}
 use Rattle.sqlite_trees.specs.Tree.{Trees}
+use Rattle.sqlite_trees.specs.View.{IsShaped}
+use Rattle.sqlite_trees.specs.declared.store.Shape.TheVariants.{Table}
 use Rattle.sqlite_trees.specs.Objects.{catalog_tree}
 use Rattle.sqlite_catalog.specs.Listing.{Lists}
 use Rattle.sqlite.specs.Listing.{understood}
@@ -18,10 +20,12 @@ use Rattle.poll_book.specs.Requests.{Requests, request_cmp}
 use Rattle.office_store.specs.Schema.{office_schema, meta_tree, point_tree, reading_tree, setting_tree, request_tree, total_tree}
 use Rattle.office_store.specs.Rows.{stored_point, stored_reading, stored_setting, stored_request, stored_sum}
 
--- each row of the table stands for its entry, and the map has these entries, in the order of their keys
+-- Each row of the table stands for its entry, and the map has these entries, in the order of their keys. The rows' own numbers, by which
+-- one is written over, rise
 pub record AreReadings (db : Trees) (kept : Readings) : Type 0 where
   pub entries : Readings
   pub stored : map stored_reading (db reading_tree) ≡ map Some entries
+  pub numbered : IsShaped Table (db reading_tree)
   pub same : IsPermutation entries kept
   pub sorted : T (is_sorted key_cmp kept)
 

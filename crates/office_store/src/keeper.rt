@@ -155,7 +155,7 @@ impl<S: Alter> Neighbours for SqlKeeper<S> {
 
     fn reading(&mut self, point: &PointRow, slot: u32) -> Result<Option<Reading>, StoreFault> {
         count_look(&mut self.lookups);
-        let found = readings::reading_at(self.alloc, &mut self.connection, point.number, slot);
+        let found = readings::reading_at(self.alloc, &mut self.connection, point, slot);
         counted(&mut self.refusals, found)
     }
 
@@ -201,7 +201,7 @@ impl<S: Alter> Keeper for SqlKeeper<S> {
     fn readings(
         &mut self,
         alloc: Global,
-        point: u32,
+        point: &PointRow,
         from: u32,
         to: u32,
     ) -> Result<Vec<ReadingRow>, StoreFault> {

@@ -1,13 +1,14 @@
 //! The table of readings.
 
-ghost use Rattle.std.specs.Prelude.{◌≡◌, ◌≤◌, false, IfOk, IfSome, IsTrue, OnOk, is_some};
+ghost use Rattle.std.specs.Prelude.{◌≡◌, ◌≤◌, ◌↔◌, false, All, IfOk, IfSome, IsTrue, OnOk, Some, is_some, map};
 ghost use Rattle.sqlite.specs.Held.{state};
 ghost use Rattle.sqlite.specs.State.{HasCleanDisk};
 ghost use Rattle.poll_book.specs.Tables.{Tables, reading_at, readings_between};
 ghost use Rattle.poll_book.specs.Totals.{value_after, value_before};
 ghost use Rattle.poll_book.specs.Changes.{as_rows};
 ghost use Rattle.office_store.specs.Kept.{Holds, Keeps};
-ghost use Rattle.office_store.specs.Counting.{ShowValue, number_in};
+ghost use Rattle.office_store.specs.Counting.{MayBeOf, ShowValue, number_in};
+ghost use Rattle.office_store.specs.Rows.{shown_reading};
 
 use crate::ask::ask;
 use crate::error::fault_of;
@@ -22,7 +23,6 @@ impl FromRow for ReadingRow {
     ghost use Rattle.poll_book.specs.declared.rows.Reading.{Reading};
     ghost use Rattle.poll_book.specs.Changes.{as_row};
     ghost use Rattle.poll_book.specs.Tables.{Key};
-    ghost use Rattle.office_store.specs.Rows.{shown_reading};
 
     ghost Entry = { Key × Reading };
 
@@ -44,17 +44,47 @@ impl FromRow for ReadingRow {
     }
 }
 
+/// Whether a reading may be one of the point: it has the registers of the point's type, and where it is
+/// marked as counted it has a number from 0 to the roll. The mark may have been taken from one that has.
+fn may_be_of(point: &Point, reading: &ReadingRow) -> bool
+    ensures { IsTrue result ↔ MayBeOf point.now reading.now }
+{
+    let words = reading.words.as_slice();
+    point.kind.has_registers(words) && (!reading.counted || counted_number(point, words).is_some())
+}
+
+/// The readings, if each may be one of the point. No office keeps another.
+fn judged(point: &Point, readings: Vec<ReadingRow>) -> Result<Vec<ReadingRow>, StoreFault>
+    ensures same { IfOk result (λ rows. rows.items ≡ readings.items) }
+    ensures judged { IfOk result (λ rows. All (MayBeOf point.now) rows.items) }
+{
+    if !readings.iter().all(|reading| may_be_of(point, reading)) {
+        return Err(StoreFault::Other);
+    }
+    Ok(readings)
+}
+
+/// The readings that the rows of an answer show of a point.
+fn readings_shown(alloc: Global, point: &Point, rows: &[Row]) -> Result<Vec<ReadingRow>, StoreFault>
+    ensures shown { IfOk result (λ readings. map shown_reading rows.now ≡ map Some (as_rows readings.items)) }
+    ensures judged { IfOk result (λ readings. All (MayBeOf point.now) readings.items) }
+{
+    let readings = all_of(alloc, rows)?;
+    judged(point, readings)
+}
+
 /// The readings of a point in the slots from the one to the other, by slot.
 pub(crate) fn readings_between<S: Alter>(
     alloc: Global,
     connection: &mut Connection<S>,
-    point: u32,
+    point: &PointRow,
     from: u32,
     to: u32,
 ) -> Result<Vec<ReadingRow>, StoreFault>
     requires { connection.old.in_transaction ≡ false }
     ensures value { HasCleanDisk (state S.Store connection.new) → (kept : Tables) → Holds (state S.Store connection.old) kept
-        → IfOk result (λ rows. as_rows rows.items ≡ readings_between point from to kept.readings) }
+        → IfOk result (λ rows. as_rows rows.items ≡ readings_between point.now.number from to kept.readings) }
+    ensures judged { IfOk result (λ rows. All (MayBeOf point.now.point) rows.items) }
     ensures open { HasCleanDisk (state S.Store connection.new) → OnOk result (IsTrue (state S.Store connection.old).is_open) }
     ensures keeps { Keeps (state S.Store connection.old) (state S.Store connection.new) }
     ensures idle { connection.new.in_transaction ≡ false }
@@ -62,9 +92,9 @@ pub(crate) fn readings_between<S: Alter>(
     match ask(
         connection,
         "SELECT point, slot, words, counted FROM reading WHERE point = ?1 AND slot >= ?2 AND slot <= ?3 ORDER BY slot",
-        params![point, from, to],
+        params![point.number, from, to],
     ) {
-        Ok(rows) => all_of(alloc, &rows),
+        Ok(rows) => readings_shown(alloc, &point.point, &rows),
         Err(error) => Err(fault_of(error)),
     }
 }
@@ -73,12 +103,12 @@ pub(crate) fn readings_between<S: Alter>(
 pub(crate) fn reading_at<S: Alter>(
     alloc: Global,
     connection: &mut Connection<S>,
-    point: u32,
+    point: &PointRow,
     slot: u32,
 ) -> Result<Option<Reading>, StoreFault>
     requires { connection.old.in_transaction ≡ false }
     ensures value { HasCleanDisk (state S.Store connection.new) → (kept : Tables) → Holds (state S.Store connection.old) kept
-        → IfOk result (λ found. found ≡ reading_at kept.readings (point, slot)) }
+        → IfOk result (λ found. found ≡ reading_at kept.readings (point.now.number, slot)) }
     ensures keeps { Keeps (state S.Store connection.old) (state S.Store connection.new) }
     ensures idle { connection.new.in_transaction ≡ false }
 {

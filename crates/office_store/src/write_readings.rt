@@ -1,15 +1,15 @@
 //! Rows of readings are written.
 
-ghost use Rattle.std.specs.Prelude.{◌≡◌, ◌⊎◌, ◌≤◌, [], IsTrue, None, OnOk, length, take};
+ghost use Rattle.std.specs.Prelude.{◌≡◌, ◌⊎◌, ◌≤◌, ℕ, [], IfOk, IsTrue, List, OnOk, if◌then◌else◌, length, take};
 ghost use Rattle.sqlite.specs.Effect.{Database};
 ghost use Rattle.sqlite.specs.Held.{state};
 ghost use Rattle.sqlite.specs.State.{HasCleanDisk, KeepsCommit, Survives};
 ghost use Rattle.poll_book.specs.Tables.{Tables, reading_at, with_row, with_rows};
-ghost use Rattle.poll_book.specs.Changes.{AreNew, as_rows};
+ghost use Rattle.poll_book.specs.Changes.{HasWords, KeepWords, as_rows};
 ghost use Rattle.office_store.specs.Rows.{register_bytes};
 ghost use Rattle.office_store.specs.Writing.{Within};
 
-use crate::run::run;
+use crate::run::{add, run};
 use poll_book::{ReadingRow, StoreFault, Words};
 use sqlite::{Alter, Transaction, params};
 
@@ -29,18 +29,18 @@ pub(crate) fn put_words(words: &[u16], bytes: &mut [u8; 250]) -> usize
     place
 }
 
-/// Adds a reading at a key that has none.
-pub(crate) fn put_reading<S: Alter>(
+/// Adds a reading; false, and nothing has changed, where its key is taken.
+fn add_reading<S: Alter>(
     tx: &mut Transaction<'_, S>,
     point: u32,
     slot: u32,
     words: &Words,
     counted: bool,
-) -> Result<usize, StoreFault>
+) -> Result<bool, StoreFault>
     ensures same_reference { tx.new.conn.ghost_name ≡ tx.old.conn.ghost_name }
     ensures put { HasCleanDisk (state S.Store tx.new.conn.now) → (base : Database) → (kept : Tables) → Within (state S.Store tx.old.conn.now) base kept
-        → reading_at kept.readings (point, slot) ≡ None
-        → OnOk result (Within (state S.Store tx.new.conn.now) base (record kept { readings = with_row (point, slot) (record { words = words.now; counted = counted }) kept.readings })) }
+        → IfOk result (λ is_added. Within (state S.Store tx.new.conn.now) base (if is_added
+        then record kept { readings = with_row (point, slot) (record { words = words.now; counted = counted }) kept.readings } else kept)) }
     ensures inside { HasCleanDisk (state S.Store tx.new.conn.now) → IsTrue (state S.Store tx.old.conn.now).in_transaction → OnOk result (IsTrue (state S.Store tx.new.conn.now).in_transaction) }
     ensures opened { HasCleanDisk (state S.Store tx.new.conn.now) → IsTrue (state S.Store tx.old.conn.now).in_transaction → OnOk result (IsTrue (state S.Store tx.old.conn.now).is_open) }
     ensures kept { HasCleanDisk (state S.Store tx.new.conn.now) → KeepsCommit (state S.Store tx.old.conn.now) (state S.Store tx.new.conn.now) }
@@ -48,21 +48,88 @@ pub(crate) fn put_reading<S: Alter>(
 {
     let mut bytes = [0; 250];
     let len = put_words(words.as_slice(), &mut bytes);
-    run(
+    add(
         tx,
         "INSERT INTO reading(point, slot, words, counted) VALUES (?1, ?2, ?3, ?4)",
         params![point, slot, &bytes[..len], counted],
     )
 }
 
-/// Adds readings at different keys that have none.
+/// Says how many rows it changed.
+fn set_mark<S: Alter>(
+    tx: &mut Transaction<'_, S>,
+    point: u32,
+    slot: u32,
+    counted: bool,
+) -> Result<usize, StoreFault>
+    ensures same_reference { tx.new.conn.ghost_name ≡ tx.old.conn.ghost_name }
+    ensures put { HasCleanDisk (state S.Store tx.new.conn.now) → (base : Database) → (kept : Tables) → Within (state S.Store tx.old.conn.now) base kept
+        → (words : List ℕ) → HasWords words (reading_at kept.readings (point, slot))
+        → IfOk result (λ changed. changed ≡ 1 → Within (state S.Store tx.new.conn.now) base (record kept { readings = with_row (point, slot) (record { words = words; counted = counted }) kept.readings })) }
+    ensures inside { HasCleanDisk (state S.Store tx.new.conn.now) → IsTrue (state S.Store tx.old.conn.now).in_transaction → OnOk result (IsTrue (state S.Store tx.new.conn.now).in_transaction) }
+    ensures kept { HasCleanDisk (state S.Store tx.new.conn.now) → KeepsCommit (state S.Store tx.old.conn.now) (state S.Store tx.new.conn.now) }
+    ensures survives { Survives (state S.Store tx.old.conn.now) (state S.Store tx.new.conn.now) (λ _. ⊥) }
+{
+    run(
+        tx,
+        "UPDATE reading SET counted = ?3 WHERE point = ?1 AND slot = ?2",
+        params![point, slot, counted],
+    )
+}
+
+/// Writes over the mark of a reading that is there.
+fn mark_reading<S: Alter>(
+    tx: &mut Transaction<'_, S>,
+    point: u32,
+    slot: u32,
+    counted: bool,
+) -> Result<(), StoreFault>
+    ensures same_reference { tx.new.conn.ghost_name ≡ tx.old.conn.ghost_name }
+    ensures put { HasCleanDisk (state S.Store tx.new.conn.now) → (base : Database) → (kept : Tables) → Within (state S.Store tx.old.conn.now) base kept
+        → (words : List ℕ) → HasWords words (reading_at kept.readings (point, slot))
+        → OnOk result (Within (state S.Store tx.new.conn.now) base (record kept { readings = with_row (point, slot) (record { words = words; counted = counted }) kept.readings })) }
+    ensures inside { HasCleanDisk (state S.Store tx.new.conn.now) → IsTrue (state S.Store tx.old.conn.now).in_transaction → OnOk result (IsTrue (state S.Store tx.new.conn.now).in_transaction) }
+    ensures kept { HasCleanDisk (state S.Store tx.new.conn.now) → KeepsCommit (state S.Store tx.old.conn.now) (state S.Store tx.new.conn.now) }
+    ensures survives { Survives (state S.Store tx.old.conn.now) (state S.Store tx.new.conn.now) (λ _. ⊥) }
+{
+    if set_mark(tx, point, slot, counted)? == 1 {
+        Ok(())
+    } else {
+        Err(StoreFault::Other)
+    }
+}
+
+/// Puts a reading at a key that has none, or its mark where the key has one with these registers.
+pub(crate) fn put_reading<S: Alter>(
+    tx: &mut Transaction<'_, S>,
+    point: u32,
+    slot: u32,
+    words: &Words,
+    counted: bool,
+) -> Result<(), StoreFault>
+    ensures same_reference { tx.new.conn.ghost_name ≡ tx.old.conn.ghost_name }
+    ensures put { HasCleanDisk (state S.Store tx.new.conn.now) → (base : Database) → (kept : Tables) → Within (state S.Store tx.old.conn.now) base kept
+        → HasWords words.now (reading_at kept.readings (point, slot))
+        → OnOk result (Within (state S.Store tx.new.conn.now) base (record kept { readings = with_row (point, slot) (record { words = words.now; counted = counted }) kept.readings })) }
+    ensures inside { HasCleanDisk (state S.Store tx.new.conn.now) → IsTrue (state S.Store tx.old.conn.now).in_transaction → OnOk result (IsTrue (state S.Store tx.new.conn.now).in_transaction) }
+    ensures opened { HasCleanDisk (state S.Store tx.new.conn.now) → IsTrue (state S.Store tx.old.conn.now).in_transaction → OnOk result (IsTrue (state S.Store tx.old.conn.now).is_open) }
+    ensures kept { HasCleanDisk (state S.Store tx.new.conn.now) → KeepsCommit (state S.Store tx.old.conn.now) (state S.Store tx.new.conn.now) }
+    ensures survives { Survives (state S.Store tx.old.conn.now) (state S.Store tx.new.conn.now) (λ _. ⊥) }
+{
+    if add_reading(tx, point, slot, words, counted)? {
+        return Ok(());
+    }
+    mark_reading(tx, point, slot, counted)
+}
+
+/// Puts readings at different keys, each where none is, or its mark where one with its registers is.
 pub(crate) fn put_readings<S: Alter>(
     tx: &mut Transaction<'_, S>,
     rows: &[ReadingRow],
 ) -> Result<(), StoreFault>
     ensures same_reference { tx.new.conn.ghost_name ≡ tx.old.conn.ghost_name }
     ensures put { HasCleanDisk (state S.Store tx.new.conn.now) → (base : Database) → (kept : Tables) → Within (state S.Store tx.old.conn.now) base kept
-        → AreNew kept.readings (as_rows rows.now)
+        → KeepWords kept.readings (as_rows rows.now)
         → OnOk result (Within (state S.Store tx.new.conn.now) base (record kept { readings = with_rows (as_rows rows.now) kept.readings })) }
     ensures inside { HasCleanDisk (state S.Store tx.new.conn.now) → IsTrue (state S.Store tx.old.conn.now).in_transaction → OnOk result (IsTrue (state S.Store tx.new.conn.now).in_transaction) }
     ensures opened { HasCleanDisk (state S.Store tx.new.conn.now) → IsTrue (state S.Store tx.old.conn.now).in_transaction → OnOk result ((rows.now ≡ []) ⊎ IsTrue (state S.Store tx.old.conn.now).is_open) }

@@ -73,10 +73,15 @@ abbrev pub AreNumbered : ℕ → List PointRow → Type 0
 AreNumbered n [] = ⊤
 AreNumbered n (row ∷ rest) = (row.number ≡ n + 1) × AreNumbered (n + 1) rest
 
--- rows that a table lacks, no two of them under one key
-abbrev pub AreNew : Readings → Readings → Type 0
-AreNew table [] = ⊤
-AreNew table (row ∷ added) = (reading_at table row.0 ≡ None) × (reading_at added row.0 ≡ None) × AreNew table added
+-- a reading that is there has these words
+abbrev pub HasWords : List ℕ → Option Reading → Type 0
+HasWords words None = ⊤
+HasWords words (Some there) = there.words ≡ words
+
+-- rows under different keys, none of which changes the words of one that the table has
+abbrev pub KeepWords : Readings → Readings → Type 0
+KeepWords table [] = ⊤
+KeepWords table (row ∷ added) = HasWords row.1.words (reading_at table row.0) × (reading_at added row.0 ≡ None) × KeepWords table added
 
 -- the numbers of those points that are counters
 abbrev pub counters : List PointRow → List ℕ
@@ -101,10 +106,10 @@ abbrev pub IsUnused : Requests → Option RequestRow → Type 0
 IsUnused table None = ⊤
 IsUnused table (Some row) = request_at table (row.caller, row.key) ≡ None
 
--- what a keeper need not test of a change
+-- What a keeper need not test of a change. Of rows that are kept it writes over a total, the mark of a reading, and how an order stands
 pub record IsNew (change : Change) (kept : Tables) : Type 0 where
   pub points : AreNumbered 0 (kept.points ++ change.points)
-  pub readings : AreNew kept.readings (as_rows change.readings)
+  pub readings : KeepWords kept.readings (as_rows change.readings)
   pub totals : map (λ row. row.0) kept.totals ≡ counters kept.points
   pub sums : AreThere kept.totals (as_sums change.totals)
   pub setting : IsNextOrSettled kept.settings change.setting

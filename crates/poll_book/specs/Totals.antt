@@ -86,11 +86,11 @@ numbers_before known slot table = counted_numbers known (filter (λ row. nat_lt 
 abbrev pub numbers_after : PointRow → ℕ → Readings → List ℕ
 numbers_after known slot table = counted_numbers known (filter (λ row. nat_lt slot row.0.1) table)
 
-abbrev pub first_of : List ℕ → Option ℕ
-first_of numbers = slice_get numbers 0
+abbrev pub first_of : {X : Type 0} → List X → Option X
+first_of xs = slice_get xs 0
 
-abbrev pub last_of : List ℕ → Option ℕ
-last_of numbers = last_or None numbers
+abbrev pub last_of : {X : Type 0} → List X → Option X
+last_of xs = last_or None xs
 
 -- the nearest of them on either side of the slot
 abbrev pub value_before : PointRow → ℕ → Readings → Option ℕ

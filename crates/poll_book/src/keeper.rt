@@ -118,16 +118,16 @@ pub trait Keeper: Neighbours {
         ensures crash { Self.is_clean self.new
             → Within (Self.may_leave self.new) (Self.may_leave self.old) };
 
-    /// The readings of the point of this number in the slots `from` to `to`, by slot.
+    /// The readings of a point in the slots `from` to `to`, by slot.
     fn readings(
         &mut self,
         alloc: Global,
-        point: u32,
+        point: &PointRow,
         from: u32,
         to: u32,
     ) -> Result<Vec<ReadingRow>, StoreFault>
         ensures value { Self.is_clean self.new → (kept : Tables) → Self.holds self.old kept
-            → IfOk result (λ rows. as_rows rows.items ≡ readings_between point from to kept.readings) }
+            → IfOk result (λ rows. as_rows rows.items ≡ readings_between point.now.number from to kept.readings) }
         ensures cause { IfErr result (λ fault. Self.may_refuse fault) }
         ensures counted { CountsRefusal (Self.refused self.old) (Self.refused self.new) result }
         ensures looked { CountsRows (Self.looked self.old) (Self.looked self.new) result }

@@ -137,11 +137,11 @@ impl Keeper for MemKeeper {
     fn readings(
         &mut self,
         alloc: Global,
-        point: u32,
+        point: &PointRow,
         from: u32,
         to: u32,
     ) -> Result<Vec<ReadingRow>, StoreFault> {
-        let rows = self.tables.readings(alloc, point, from, to);
+        let rows = self.tables.readings(alloc, point.number, from, to);
         let told = counted(&mut self.refusals, rows);
         looked(&mut self.lookups, told)
     }

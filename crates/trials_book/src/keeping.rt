@@ -50,7 +50,7 @@ fn rows(trial: &Trial<'_>) -> Result<(), StoreFault> {
     store_all(trial, &mut keeper, &text)?;
     shows(
         trial,
-        &readings(trial.alloc(), &mut keeper, 2, 10, 20)?,
+        &readings(trial.alloc(), &mut keeper, &text, 10, 20)?,
         ROWS,
     )?;
     shows(
@@ -59,9 +59,10 @@ fn rows(trial: &Trial<'_>) -> Result<(), StoreFault> {
         "Some([1, 2, 3, 4, 30])",
     )?;
     shows(trial, &words(&mut keeper, &text, 31)?, "None")?;
+    let other = PointRow { number: 1, ..text };
     shows(
         trial,
-        &readings(trial.alloc(), &mut keeper, 1, 0, 100)?,
+        &readings(trial.alloc(), &mut keeper, &other, 0, 100)?,
         "[]",
     )?;
     Ok(())
@@ -104,7 +105,7 @@ fn refusals(trial: &Trial<'_>) -> Result<(), StoreFault> {
             Err(fault) => {
                 trial.told(&slot, &fault, &StoreFault::Memory);
                 shows(trial, &words(&mut keeper, &point, slot)?, "None")?;
-                let kept = readings(trial.alloc(), &mut keeper, 1, 0, 100)?;
+                let kept = readings(trial.alloc(), &mut keeper, &point, 0, 100)?;
                 trial.told(&slot, &kept.len(), &(slot as usize));
                 return Ok(());
             }

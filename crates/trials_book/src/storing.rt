@@ -63,7 +63,7 @@ pub(crate) fn words(
 pub(crate) fn readings(
     alloc: Global,
     keeper: &mut MemKeeper,
-    point: u32,
+    point: &PointRow,
     from: u32,
     to: u32,
 ) -> Result<Vec<ReadingRow>, StoreFault> {

@@ -2,7 +2,7 @@ use Rattle.std.proofs.Common.{◌++◌, [], sym, subst, arith}
 use Rattle.sqlite.specs.Held.{state}
 use Rattle.sqlite.specs.State.{HasCleanDisk}
 use Rattle.poll_book.specs.Totals.{totals_of}
-use Rattle.poll_book.specs.Changes.{AreNew, AreNumbered, AreThere, as_rows, as_sums}
+use Rattle.poll_book.specs.Changes.{KeepWords, AreNumbered, AreThere, as_rows, as_sums}
 use Rattle.office_store.specs.Writing.{AreFree}
 use Rattle.office_store.proofs.FirstTotals.{all_free}
 use Rattle.office_store.proofs.apply.put_change.Goals as goal
@@ -19,7 +19,7 @@ returns-clause-put g c clean base kept within new =
     let again = c.as_slice-3.ensures in
     let totals = c.as_slice-4.ensures in
     let one = rw points at (c.in_ok-put_points.ensures.put pointed base kept within (subst (λ ps. AreNumbered 0 (kept.points ++ ps)) (sym points) new.points)) in
-    let two = rw readings at (c.in_ok-put_readings.ensures.put read base _ one (subst (λ rs. AreNew kept.readings (as_rows rs)) (sym readings) new.readings)) in
+    let two = rw readings at (c.in_ok-put_readings.ensures.put read base _ one (subst (λ rs. KeepWords kept.readings (as_rows rs)) (sym readings) new.readings)) in
     let free = all_free kept.points c.args.change.now.points kept.totals new.points new.totals in
     let three = rw (again, totals) at (c.in_ok-put_totals.ensures.put summed base _ two (subst (λ ps. AreFree kept.totals (totals_of ps [])) (sym again) free) (subst (λ rs. AreThere kept.totals (as_sums rs)) (sym totals) new.sums)) in
     let four = c.in_ok-put_order.ensures.put ordered base _ three new.setting in

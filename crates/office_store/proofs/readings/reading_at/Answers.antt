@@ -11,9 +11,9 @@ returns-clause-value g c clean kept holds =
     let is = c.in_ok-rows.ensures.value clean kept holds in
     let taken = sym c.truncate.ensures.items ∙ c.pop.ensures.items in
     elim c.match-pop.branch [
-      | in-Some w ↦ w.result-is ∙ first_between c.args.point c.args.slot kept.readings all c.pop.new.self.items w.in-Some.row is (taken ∙ ap (λ o. c.pop.new.self.items ++ option_to_list o) w.in-Some.is)
+      | in-Some w ↦ w.result-is ∙ first_between c.args.point.now.number c.args.slot kept.readings all c.pop.new.self.items w.in-Some.row is (taken ∙ ap (λ o. c.pop.new.self.items ++ option_to_list o) w.in-Some.is)
       | in-None w ↦
           let left : c.pop.new.self.items ≡ [] = c.pop.ensures.rest ∙ ap (λ n. take (n - 1) c.truncate.new.self.items) w.in-None.ensures.cases.0 in
           let none = nothing_taken all (ap length (sym c.truncate.ensures.items ∙ w.in-None.ensures.items ∙ ap (λ xs. xs ++ []) left)) in
-          w.result-is ∙ none_between c.args.point c.args.slot kept.readings (sym (ap as_rows none) ∙ is)
+          w.result-is ∙ none_between c.args.point.now.number c.args.slot kept.readings (sym (ap as_rows none) ∙ is)
     ]

@@ -1,10 +1,18 @@
+use Rattle.std.proofs.Common.{subst, arith, if◌then◌else◌}
 use Rattle.sqlite.specs.Held.{state}
-use Rattle.office_store.proofs.PutReading.{adds_if}
+use Rattle.sqlite.specs.State.{HasCleanDisk}
+use Rattle.poll_book.specs.Tables.{Tables, with_row}
+use Rattle.office_store.specs.Writing.{Within}
 use Rattle.office_store.proofs.write_readings.put_reading.Goals as goal
 
+pub returns-then-branch-clause-put : goal.returns-then-branch-clause-put
+returns-then-branch-clause-put g c clean base kept within has =
+    let with_it : Tables = record kept { readings = with_row (c.args.point, c.args.slot) (record { words = c.args.words.now; counted = c.args.counted }) kept.readings } in
+    subst (λ is_added. Within (state g.S.Store c.add_reading.new.tx.conn.now) base (if is_added then with_it else kept)) c.if-branch.true (c.in_ok-add_reading.ensures.put clean base kept within)
+
 pub returns-clause-put : goal.returns-clause-put
-returns-clause-put g c clean base kept within none =
-    let old = state g.S.Store c.args.tx.now.conn.now in
-    let new = state g.S.Store c.run.new.tx.conn.now in
-    let ran = rw (c.params-to_sql.ensures, c.params-to_sql-2.ensures, c.params-to_sql-3.ensures, c.params-to_sql-4.ensures, c.put_words-len.ensures.written, c.as_slice.ensures.value) at (c.run.ensures.ran clean within.inside) in
-    adds_if c.args.point c.args.slot c.args.words.now c.args.counted old new base kept c.run.result c.ranges.point.fits c.ranges.slot.fits c.as_slice.ensures.not_empty c.as_slice.ensures.short within none ran
+returns-clause-put g c clean base kept within has =
+    let with_it : Tables = record kept { readings = with_row (c.args.point, c.args.slot) (record { words = c.args.words.now; counted = c.args.counted }) kept.readings } in
+    let before : HasCleanDisk (state g.S.Store c.add_reading.new.tx.conn.now) = omega (arith, clean, c.mark_reading.ensures.survives.clean) in
+    let same = subst (λ is_added. Within (state g.S.Store c.add_reading.new.tx.conn.now) base (if is_added then with_it else kept)) c.if-branch.false (c.in_ok-add_reading.ensures.put before base kept within) in
+    c.mark_reading.ensures.put clean base kept same c.args.words.now has

@@ -5,7 +5,7 @@ use Rattle.sqlite.specs.State.{HasCleanDisk}
 use Rattle.sqlite.proofs.StateLemmas.{survives_then}
 use Rattle.poll_book.specs.declared.rows.ReadingRow.{ReadingRow}
 use Rattle.poll_book.specs.Tables.{with_rows}
-use Rattle.poll_book.specs.Changes.{AreNew, as_rows}
+use Rattle.poll_book.specs.Changes.{KeepWords, as_rows}
 use Rattle.office_store.specs.Writing.{Within}
 use Rattle.office_store.proofs.NewRows.{new_left, new_here}
 use Rattle.office_store.proofs.write_readings.put_readings.Goals as goal
@@ -50,7 +50,7 @@ loop-left-preserved g c =
       in_range = omega (arith, past.in_range);
       put = λ clean base kept within fresh.
           let it = past.put (omega (arith, clean, made.survives.clean)) base kept within fresh in
-          let new = subst (λ (l : List ReadingRow). AreNew kept.readings (as_rows l)) split (new_left kept.readings rows i fresh) in
+          let new = subst (λ (l : List ReadingRow). KeepWords kept.readings (as_rows l)) split (new_left kept.readings rows i fresh) in
           let put = made.put clean base (record kept { readings = with_rows (as_rows (drop c.loop-left.left rows)) kept.readings }) it (new_here kept.readings row (drop c.loop-left.left rows) new) in
           subst (λ (l : List ReadingRow). Within after base (record kept { readings = with_rows (as_rows l) kept.readings })) (sym split) put;
     }

@@ -1,23 +1,20 @@
-use Rattle.std.proofs.Common.{◌≤◌, ◌+◌, ◌-◌, ◌^◌, sym, ap, ◌∙◌, arith}
+use Rattle.std.proofs.Common.{◌≤◌, ◌+◌, ◌-◌, ◌^◌, rules, sym, ap, ◌∙◌, arith}
 use Rattle.std.specs.Prelude.{unwrap_or}
 use Rattle.poll_book.specs.Totals.{repaired, total}
 use Rattle.poll_book.proofs.Bounds.{total_bound}
 use Rattle.poll_book.proofs.Repairs.{repaired_is}
 use Rattle.poll_book.proofs.recording.total_with.Goals as goal
 
+-- `search rules` shows that a keeper was clean before each call, and held these tables
 pub returns-clause-value : goal.returns-clause-value
 returns-clause-value g c clean kept holds sorted stored none reading counts =
     let known = c.args.point.now in
     let roll = known.point.roll in
     let slot = c.args.slot in
-    let after_clean = c.after.ensures.clean clean in
-    let before_clean = c.before-2.ensures.clean after_clean in
-    let total_held = c.total.ensures.same kept holds in
-    let before_held = c.before-2.ensures.same kept total_held in
-    let is_total = c.in_ok-total.ensures.value before_clean kept holds ∙ ap (λ o. unwrap_or o 0) stored in
-    let is_before = c.in_ok-before.ensures.value after_clean kept total_held in
-    let is_after = c.in_ok-after.ensures.value clean kept before_held in
-    let slots = c.in_ok-total.ensures.slots before_clean kept holds in
+    let is_total = c.in_ok-total.ensures.value (search rules) kept (search rules) ∙ ap (λ o. unwrap_or o 0) stored in
+    let is_before = c.in_ok-before.ensures.value (search rules) kept (search rules) in
+    let is_after = c.in_ok-after.ensures.value (search rules) kept (search rules) in
+    let slots = c.in_ok-total.ensures.slots (search rules) kept (search rules) in
     let small = total_bound known kept.readings sorted slots in
     let room : total known kept.readings + (roll + 1) ≤ 2 ^ 127 - 1 = omega (arith, small, c.ranges) in
     λ i. (
