@@ -21,3 +21,5 @@ pub mod Turned
 pub mod Requested
 pub mod Shown
 pub mod Connected
+pub mod Leading
+pub mod Stepped

@@ -7,3 +7,4 @@ pub mod Rounds
 pub mod Turned
 pub mod Replies
 pub mod Serving
+pub mod Drills

@@ -6,6 +6,7 @@
 
 mod answering;
 mod calls;
+mod drilling;
 mod fault;
 mod job;
 pub mod laws;
@@ -19,6 +20,7 @@ mod serving;
 mod turns;
 
 pub use answering::respond;
+pub use drilling::{DrillFault, DrillStep, drill};
 pub use fault::PollFault;
 pub use job::LineJob;
 pub use machine::Poll;
