@@ -4,7 +4,7 @@
 //! `script-1000` write a script for `office replay` of 100 or 1,000 slots. In the folder that it runs in,
 //! `store-file` makes the files `bench-10.db` and `bench-100.db` and `poll-file` makes `bench-poll.db`,
 //! each where there is none yet; `open-file` opens `bench-200.db`, which it makes if there is none. All
-//! are left there. `fuzz` tries each reader on 100,000 inputs that follow from a seed, and `fuzz=SEED` on those of
+//! are left there. `worked` lives through worked examples, for trials of refused memory; `fuzz` tries each reader on 100,000 inputs that follow from a seed, and `fuzz=SEED` on those of
 //! that seed. Without words the program ends at once and prints nothing.
 #![tactic(auto)]
 
@@ -21,9 +21,10 @@ mod polling;
 mod script;
 mod serving;
 mod store;
+mod worked;
 
 const WORDS: &str =
-    "units frames map lists plans office orders store store-pages store-file waiting serve serve-list poll-file open-file script script-1000 fuzz fuzz=SEED";
+    "units frames map lists plans office orders store store-pages store-file waiting serve serve-list poll-file open-file script script-1000 worked fuzz fuzz=SEED";
 
 /// What a measure of this name did; `None` where there is none of it.
 fn measured(rt: &HostRuntime, word: &str) -> Option<io::Result<()>> {
@@ -47,6 +48,7 @@ fn measured(rt: &HostRuntime, word: &str) -> Option<io::Result<()>> {
         "open-file" => store::opening(rt),
         "script" => script::write(rt, 100),
         "script-1000" => script::write(rt, 1_000),
+        "worked" => worked::run(rt),
         "fuzz" => fuzz::run(rt, None),
         _ => fuzz::run(rt, Some(word.strip_prefix("fuzz=")?.parse::<u64>().ok()?)),
     })

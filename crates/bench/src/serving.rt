@@ -50,7 +50,7 @@ fn is_done(asked: Asked, answer: &str) -> bool {
 }
 
 /// An office of a counter with readings, and a setting.
-fn office_of(alloc: Global) -> Result<Office<MemKeeper>, OfficeError> {
+pub fn office_of(alloc: Global) -> Result<Office<MemKeeper>, OfficeError> {
     let mut office = loaded(alloc, MemKeeper::new(alloc), LIST)?;
     let span = Span {
         start: 107,
