@@ -1,11 +1,13 @@
 //! Measures the speed of the office's crates. Each word of the command line is one measure: `units`,
 //! `frames`, `map`, `lists`, `plans`, `office`, `orders`, `store`, `store-pages`, `store-file`, `waiting`,
-//! `serve` (requests over sockets on 127.0.0.1), `serve-list`, `poll-file` and `open-file`. But `script` and
-//! `script-1000` write a script for `office replay` of 100 or 1,000 slots. In the folder that it runs in,
-//! `store-file` makes the files `bench-10.db` and `bench-100.db` and `poll-file` makes `bench-poll.db`,
-//! each where there is none yet; `open-file` opens `bench-200.db`, which it makes if there is none. All
-//! are left there. `worked` lives through worked examples, for trials of refused memory; `fuzz` tries each reader on 100,000 inputs that follow from a seed, and `fuzz=SEED` on those of
-//! that seed. Without words the program ends at once and prints nothing.
+//! `serve` (requests over sockets on 127.0.0.1), `serve-list`, `poll-file`, `open-file` and `window` (the
+//! memory of a connection's queries too). But `script` and `script-1000` write a script for `office replay`
+//! of 100 or 1,000 slots, `worked` lives through worked examples, for trials of refused memory, `fuzz`
+//! tries each reader on 100,000 inputs that follow from a seed, which it prints, and `fuzz=SEED` on those of
+//! that seed. In the folder that it runs in, `store-file` makes the files `bench-10.db` and `bench-100.db`
+//! and `poll-file` makes `bench-poll.db`, each where there is none yet; `open-file` opens `bench-200.db`,
+//! which it makes if there is none. All are left there. Without words the program ends at once and prints
+//! nothing.
 #![tactic(auto)]
 
 use crate::store::Place;
@@ -21,10 +23,11 @@ mod polling;
 mod script;
 mod serving;
 mod store;
+mod window;
 mod worked;
 
 const WORDS: &str =
-    "units frames map lists plans office orders store store-pages store-file waiting serve serve-list poll-file open-file script script-1000 worked fuzz fuzz=SEED";
+    "units frames map lists plans office orders store store-pages store-file waiting serve serve-list poll-file open-file window script script-1000 worked fuzz fuzz=SEED";
 
 /// What a measure of this name did; `None` where there is none of it.
 fn measured(rt: &HostRuntime, word: &str) -> Option<io::Result<()>> {
@@ -46,6 +49,7 @@ fn measured(rt: &HostRuntime, word: &str) -> Option<io::Result<()>> {
         "serve-list" => serving::lists(rt),
         "poll-file" => store::polling(rt),
         "open-file" => store::opening(rt),
+        "window" => window::window(rt),
         "script" => script::write(rt, 100),
         "script-1000" => script::write(rt, 1_000),
         "worked" => worked::run(rt),

@@ -1,6 +1,7 @@
 //! Files of simulators, and simulators under way through the rows of a block.
 use crate::streams::frames_text;
-use crate::texts::outcome;
+use crate::tables::cell_of;
+use crate::texts::{outcome, shown};
 use case_pages::{Block, Outcomes, Trouble, bytes_of, file_of, hex_of};
 use mb_map::{MapError, Sim};
 use mb_mbap::Frame;
@@ -68,9 +69,19 @@ fn frame_of(head: &str, unit: &[u8]) -> Option<Frame> {
     })
 }
 
+/// What comes of `UNIT TABLE ADDRESS NUMBER`.
+fn set(sim: &mut Sim, input: &str) -> Option<bool> {
+    let (unit_id, cell) = input.split_once(' ')?;
+    let (table, address, number) = cell_of(cell)?;
+    Some(sim.set(unit_id.parse::<u8>().ok()?, table, address, number))
+}
+
 impl Outcomes for Simulator {
-    /// The replies that leave with a frame, or at `rest`.
+    /// The replies that leave with a frame, or at `rest`, or what comes of `set UNIT TABLE ADDRESS NUMBER`.
     fn outcome(&mut self, input: &str) -> Result<String, Trouble> {
+        if let Some(cell) = input.strip_prefix("set ") {
+            return Ok(shown(self.alloc, &set(&mut self.sim, cell))?);
+        }
         let replies = match self.replies.take() {
             Some(replies) => replies,
             None => self.take(input)?,

@@ -64,11 +64,17 @@ fn place_of(input: &str) -> Option<(Table, u16)> {
     Some((table_of(table)?, address.parse::<u16>().ok()?))
 }
 
-/// What comes of `TABLE ADDRESS NUMBER`.
-fn set(mapping: &mut Mapping, input: &str) -> Option<bool> {
+/// `TABLE ADDRESS NUMBER`.
+pub(crate) fn cell_of(input: &str) -> Option<(Table, u16, u16)> {
     let (place, number) = input.rsplit_once(' ')?;
     let (table, address) = place_of(place)?;
-    Some(mapping.set(table, address, number.parse::<u16>().ok()?))
+    Some((table, address, number.parse::<u16>().ok()?))
+}
+
+/// What comes of `TABLE ADDRESS NUMBER`.
+fn set(mapping: &mut Mapping, input: &str) -> Option<bool> {
+    let (table, address, number) = cell_of(input)?;
+    Some(mapping.set(table, address, number))
 }
 
 impl Outcomes for Tables {
