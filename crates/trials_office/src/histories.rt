@@ -38,7 +38,7 @@ fn is_given(trial: &Trial<'_>, given: &[Given], point: usize, row: &Row, reading
     }
 }
 
-/// Expects the readings and the total of a known point.
+/// Expects the readings of a known point.
 fn is_kept<K: Keeper>(
     trial: &Trial<'_>,
     office: &mut Office<K>,
@@ -55,12 +55,23 @@ fn is_kept<K: Keeper>(
     for reading in &readings {
         is_given(trial, given, point, row, reading);
     }
-    let sum = if row.role == Role::Counter {
-        Some(total(given, point, SLOTS))
-    } else {
-        None
-    };
-    trial.told(&row.name, &total_of(office, row.name)?, &sum);
+    Ok(())
+}
+
+/// Expects of each known point that what is stored of it is the plain sum of its steps.
+fn are_totals<K: Keeper>(
+    trial: &Trial<'_>,
+    office: &mut Office<K>,
+    book: &Book,
+) -> Result<(), OfficeError> {
+    for (point, row) in book.known.iter().enumerate() {
+        let sum = if row.role == Role::Counter {
+            Some(total(&book.given, point, SLOTS))
+        } else {
+            None
+        };
+        trial.told(&row.name, &total_of(office, row.name)?, &sum);
+    }
     Ok(())
 }
 
@@ -130,7 +141,7 @@ fn happen<K: Keeper>(
     Ok(told)
 }
 
-/// Expects each answer of an office, and its tables after each where what is taken is counted.
+/// Expects each answer of an office and its totals after each, and its tables where what is taken is counted.
 fn go<K: Keeper>(
     trial: &Trial<'_>,
     office: &mut Office<K>,
@@ -142,6 +153,7 @@ fn go<K: Keeper>(
     for place in 0..EVENTS {
         let happened = draw(trial.alloc(), &mut chance, book, place)?;
         let told = happen(trial, office, book, happened)?;
+        are_totals(trial, office, book)?;
         if let Some(taken) = &mut taken {
             taken.count(&told);
             are_tables(trial, office, book)?;
@@ -172,7 +184,7 @@ fn tables_after<K: Keeper + Drop>(
 }
 
 /// Histories over each keeper, of which both hold the same at its end. What is in a database takes long to
-/// look at, so it is looked at there alone.
+/// look at, so but for the totals it is looked at there alone.
 fn histories(trial: &Trial<'_>) -> Result<(), OfficeError> {
     let alloc = trial.alloc();
     let mut taken = Taken {

@@ -1,10 +1,12 @@
-//! Tests of an office that data can't say: memory that is refused, a keeper that refuses, and generated histories
-//! beside a slow model, which works out each answer and each table anew from all that happened, over a keeper in
-//! memory and over a database.
+//! Tests of an office that data can't say: memory that is refused, a keeper that refuses, the edge of the window of
+//! queries, and generated histories beside a slow model, which works out each answer and each table anew from all that
+//! happened, over a keeper in memory and over a database.
 #![tactic(auto)]
 
 #[cfg(test)]
 mod draws;
+#[cfg(test)]
+mod edge;
 #[cfg(test)]
 mod events;
 #[cfg(test)]

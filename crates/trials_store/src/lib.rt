@@ -1,7 +1,10 @@
 //! What an office over a database keeps: which databases and sites open, what a stop at each write
-//! leaves, files that are full, that fail once, and that have a damaged byte; the totals that are stored.
+//! leaves, files that are full, that fail once, and that have a damaged byte; rows that no office writes; the totals
+//! that are stored.
 #![tactic(auto)]
 
+#[cfg(test)]
+mod bad_rows;
 #[cfg(test)]
 mod damage;
 #[cfg(test)]

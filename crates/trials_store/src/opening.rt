@@ -44,7 +44,7 @@ const OTHERS: &[(bool, &[&str], StoreError)] = &[
     (true, CHANGED, StoreError::BadVersion),
 ];
 
-fn run(connection: &mut Connection<MemStore>, sql: &str) -> Result<(), OfficeError> {
+pub(crate) fn run(connection: &mut Connection<MemStore>, sql: &str) -> Result<(), OfficeError> {
     match connection.execute(sql, &[]) {
         Ok(_) => Ok(()),
         Err(Error::SqliteFailure(ErrorCode::OutOfMemory)) => Err(MEMORY),

@@ -1,9 +1,11 @@
-//! The stored total of a counter whose readings arrive in any order, in memory and in a database.
+//! The stored total of a counter whose readings arrive in any order, and of one of which a reading is taken out, in
+//! memory and in a database.
 use mb_pdu::Registers;
 use office_core::OfficeError;
 use office_plays::builders::office_after;
 use office_plays::steps::Happens::{self, Load};
-use poll_book::{Keeper, MemKeeper, PointRow, StoreFault, record};
+use point_list::Items;
+use poll_book::{Change, Keeper, MemKeeper, PointRow, ReadingRow, StoreFault, TotalRow, record};
 use std::alloc::Global;
 use std::test::Fail;
 use store_plays::stored;
@@ -95,4 +97,76 @@ fn totals(trial: &Trial<'_>) -> Result<(), OfficeError> {
 #[test]
 fn a_stored_total_is_the_same_in_each_order(rt: HostRuntime) -> Result<(), Fail> {
     Ok(twice!(rt, totals)?)
+}
+
+/// A reading and a total.
+fn change_of(alloc: Global, reading: ReadingRow, total: TotalRow) -> Result<Change, StoreFault> {
+    Ok(Change {
+        readings: Items::from_vec(vec![in alloc; reading]?),
+        totals: Items::from_vec(vec![in alloc; total]?),
+        ..Change::none(alloc)
+    })
+}
+
+/// Takes a reading of a counter out of its total: the same registers with another mark, and the total without it.
+fn take_out<K: Keeper>(
+    alloc: Global,
+    keeper: &mut K,
+    point: &PointRow,
+    slot: u32,
+    total: u128,
+) -> Result<(), OfficeError> {
+    let kept = keeper.reading(point, slot)?.ok_or(OfficeError::NoRead)?;
+    let reading = ReadingRow {
+        point: point.number,
+        slot,
+        words: kept.words,
+        counted: false,
+    };
+    let total = TotalRow {
+        point: point.number,
+        total,
+    };
+    Ok(keeper.apply(&change_of(alloc, reading, total)?)?)
+}
+
+/// What a keeper tells of the first counter once one of its readings was taken out: the values round that slot,
+/// the reading, and the total, also with one more reading.
+fn told_without<K: Keeper>(alloc: Global, keeper: &mut K) -> Result<String, OfficeError> {
+    let points = keeper.points(alloc)?;
+    let point = points.first().ok_or(OfficeError::NoRead)?;
+    for arrival in [(1, 90), (2, 10), (3, 95), (5, 20)] {
+        keep(alloc, keeper, point, arrival)?;
+    }
+    take_out(alloc, keeper, point, 2, 30)?;
+    let mut text = String::new(alloc);
+    let before = keeper.before(point, 3)?;
+    let after = keeper.after(point, 1)?;
+    let rows = keeper.readings(alloc, point, 2, 2)?;
+    write!(text, "{before:?} {after:?} {rows:?}")?;
+    keep(alloc, keeper, point, (4, 20))?;
+    write!(text, " {}", keeper.total(point)?)?;
+    Ok(text)
+}
+
+fn told_over<K: Keeper + Drop>(alloc: Global, keeper: K) -> Result<String, OfficeError> {
+    let mut keeper = office_after(alloc, keeper, COUNTERS)?.into_keeper();
+    told_without(alloc, &mut keeper)
+}
+
+const WITHOUT: &str =
+    "Some(90) Some(95) [ReadingRow { point: 1, slot: 2, words: [0, 10], counted: false }] 30";
+
+fn without(trial: &Trial<'_>) -> Result<(), OfficeError> {
+    let alloc = trial.alloc();
+    let kept = told_over(alloc, MemKeeper::new(alloc))?;
+    let stored = told_over(alloc, stored(alloc)?)?;
+    trial.told(&"kept", &kept.as_str(), &WITHOUT);
+    trial.told(&"stored", &stored.as_str(), &WITHOUT);
+    Ok(())
+}
+
+#[test]
+fn a_reading_that_is_taken_out_of_its_total_stays(rt: HostRuntime) -> Result<(), Fail> {
+    Ok(twice!(rt, without)?)
 }
