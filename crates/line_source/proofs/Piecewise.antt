@@ -67,7 +67,7 @@ hears_waiting query span reply waiting after held unread first = (
   0,
   omega arith,
   hears_none (λ frames. FirstAnswers query span reply (waiting ++ frames) after) held unread
-  (subst (λ w. FirstAnswers query span reply w after) (sym (append-nil waiting)) first),
+      (subst (λ w. FirstAnswers query span reply w after) (sym (append-nil waiting)) first),
 )
 
 module _ (first mid last unread still left : Option (List ℕ)) where
@@ -102,5 +102,5 @@ module _ (first mid last unread still left : Option (List ℕ)) where
     m + n,
     few,
     hears_then (All (IsOther query span)) (λ frames. FirstAnswers query span reply frames after) (λ frames. FirstAnswers query span reply (waiting ++ frames) after) m n
-    (λ frames later before answers. answers_later query span reply after waiting (frames ++ later) others (answers_later query span reply after frames later before answers)) one two,
+        (λ frames later before answers. answers_later query span reply after waiting (frames ++ later) others (answers_later query span reply after frames later before answers)) one two,
   )

@@ -11,8 +11,8 @@ returns-in-Some c =
     let frame = c.index-frames-place.result in (
       c.loop-place-test.true,
       answers_first c.args.query.now c.args.span c.in-Some.reply frames i frame
-      (take_more frames i frame c.loop-place-test.true ∙ ap (λ e. take i frames ++ e ∷ []) (sym c.index-frames-place.is))
-      c.loop-place.invariant c.in-Some.ensures.answer,
+          (take_more frames i frame c.loop-place-test.true ∙ ap (λ e. take i frames ++ e ∷ []) (sym c.index-frames-place.is))
+          c.loop-place.invariant c.in-Some.ensures.answer,
     )
 
 pub returns : goal.returns
