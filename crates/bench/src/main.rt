@@ -1,5 +1,5 @@
 //! Measures the speed of the office's crates. Each word of the command line is one measure: `units`,
-//! `frames`, `map`, `lists`, `plans`, `office`, `orders`, `store`, `store-pages`, `store-file`, `waiting`,
+//! `frames`, `map`, `lists`, `plans`, `office`, `orders`, `late`, `store`, `store-pages`, `store-file`, `waiting`,
 //! `serve` (requests over sockets on 127.0.0.1), `serve-list`, `poll-file` and `open-file`. But `script` and
 //! `script-1000` write a script for `office replay` of 100 or 1,000 slots. In the folder that it runs in,
 //! `store-file` makes the files `bench-10.db` and `bench-100.db` and `poll-file` makes `bench-poll.db`,
@@ -11,6 +11,7 @@ use crate::store::Place;
 use anyhow::{Result, bail};
 use std::{env, io};
 
+mod late;
 mod lists;
 mod modbus;
 mod office;
@@ -21,7 +22,7 @@ mod serving;
 mod store;
 
 const WORDS: &str =
-    "units frames map lists plans office orders store store-pages store-file waiting serve serve-list poll-file open-file script script-1000";
+    "units frames map lists plans office orders late store store-pages store-file waiting serve serve-list poll-file open-file script script-1000";
 
 /// What a measure of this name did; `None` where there is none of it.
 fn measured(rt: &HostRuntime, word: &str) -> Option<io::Result<()>> {
@@ -33,6 +34,7 @@ fn measured(rt: &HostRuntime, word: &str) -> Option<io::Result<()>> {
         "plans" => lists::plans(rt),
         "office" => office::readings(rt),
         "orders" => office::orders(rt),
+        "late" => late::measure(rt),
         "store" => store::look_ups(rt, Place::Memory, Place::Memory),
         "store-pages" => store::look_ups(rt, Place::Pages, Place::Pages),
         "store-file" => {
