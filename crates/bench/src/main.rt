@@ -1,5 +1,5 @@
 //! Measures the speed of the office's crates. Each word of the command line is one measure: `units`,
-//! `frames`, `map`, `lists`, `plans`, `office`, `orders`, `store`, `store-pages`, `store-file`, `waiting`,
+//! `frames`, `map`, `lists`, `plans`, `office`, `orders`, `late`, `store`, `store-pages`, `store-file`, `waiting`,
 //! `serve` (requests over sockets on 127.0.0.1), `serve-list`, `poll-file`, `open-file` and `window` (the
 //! memory of a connection's queries too). But `script` and `script-1000` write a script for `office replay`
 //! of 100 or 1,000 slots, `worked` lives through worked examples, for trials of refused memory, `fuzz`
@@ -15,6 +15,7 @@ use anyhow::{Result, bail};
 use std::{env, io};
 
 mod fuzz;
+mod late;
 mod lists;
 mod modbus;
 mod office;
@@ -27,7 +28,7 @@ mod window;
 mod worked;
 
 const WORDS: &str =
-    "units frames map lists plans office orders store store-pages store-file waiting serve serve-list poll-file open-file window script script-1000 worked fuzz fuzz=SEED";
+    "units frames map lists plans office orders late store store-pages store-file waiting serve serve-list poll-file open-file window script script-1000 worked fuzz fuzz=SEED";
 
 /// What a measure of this name did; `None` where there is none of it.
 fn measured(rt: &HostRuntime, word: &str) -> Option<io::Result<()>> {
@@ -39,6 +40,7 @@ fn measured(rt: &HostRuntime, word: &str) -> Option<io::Result<()>> {
         "plans" => lists::plans(rt),
         "office" => office::readings(rt),
         "orders" => office::orders(rt),
+        "late" => late::measure(rt),
         "store" => store::look_ups(rt, Place::Memory, Place::Memory),
         "store-pages" => store::look_ups(rt, Place::Pages, Place::Pages),
         "store-file" => {

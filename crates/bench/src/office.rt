@@ -12,6 +12,7 @@ use poll_match::Conn;
 use read_planner::Read;
 use std::alloc::{AllocError, Global};
 use std::io;
+use std::ops::Range;
 
 pub const POINTS: u32 = 1_000;
 
@@ -73,15 +74,15 @@ fn poll_one<K: Keeper>(
     Ok(())
 }
 
-/// Asks for these registers in each of so many slots, and brings the same reply each time.
+/// Asks for these registers in each of these slots, and brings the same reply each time.
 pub fn poll<K: Keeper>(
     office: &mut Office<K>,
-    slots: u32,
+    slots: Range<u32>,
     spans: &[Span],
     unit: &Unit,
 ) -> Result<(), OfficeError> {
     let conn = office.open_line("roof")?;
-    for slot in 0..slots {
+    for slot in slots {
         for span in spans {
             poll_one(office, conn, slot, *span, unit)?;
         }
@@ -89,13 +90,18 @@ pub fn poll<K: Keeper>(
     Ok(())
 }
 
-/// Polls all counters, of which the last has a reading in each slot then; `None` where one was refused.
-fn poll_all<K: Keeper>(office: &mut Office<K>, slots: u32) -> Option<()> {
+/// Polls all counters in these slots; `None` where one was refused.
+pub fn poll_slots<K: Keeper>(office: &mut Office<K>, slots: Range<u32>) -> Option<()> {
     let spans = [0, 125, 250, 375, 500, 625, 750, 875].map(|start| Span {
         start,
         quantity: 125,
     });
-    poll(office, slots, &spans, &Unit::from_bytes(&reply_bytes())?).ok()?;
+    poll(office, slots, &spans, &Unit::from_bytes(&reply_bytes())?).ok()
+}
+
+/// Polls all counters, of which the last has a reading in each slot then; `None` where one was refused.
+fn poll_all<K: Keeper>(office: &mut Office<K>, slots: u32) -> Option<()> {
+    poll_slots(office, 0..slots)?;
     let rows = office.readings("m1.energy-999", 0, u32::MAX).ok()??;
     (rows.len() as u64 == slots as u64).then_some(())
 }
@@ -150,7 +156,11 @@ impl Work {
     }
 
     /// An office over an empty keeper that knows its points.
-    fn begun<K: Keeper + Drop>(self, alloc: Global, keeper: K) -> Result<Office<K>, OfficeError> {
+    pub fn begun<K: Keeper + Drop>(
+        self,
+        alloc: Global,
+        keeper: K,
+    ) -> Result<Office<K>, OfficeError> {
         loaded(alloc, keeper, self.list(alloc)?.as_str())
     }
 

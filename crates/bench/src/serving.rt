@@ -57,7 +57,7 @@ pub fn office_of(alloc: Global) -> Result<Office<MemKeeper>, OfficeError> {
         quantity: 1,
     };
     let unit = Unit::from_bytes(&[3, 2, 0, 80]).ok_or(OfficeError::WrongReply)?;
-    poll(&mut office, SLOTS, &[span], &unit)?;
+    poll(&mut office, 0..SLOTS, &[span], &unit)?;
     Ok(office)
 }
 

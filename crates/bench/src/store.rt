@@ -2,6 +2,7 @@
 //! key; the oldest order that waits, where all orders are settled, searched for the first time, and then
 //! again; and opening an office in a file of 200,000 readings. What names a database's place opens it and
 //! does no more: a proof that carries its files is a dear one.
+use crate::late::compare;
 use crate::office::{POINTS, Work};
 use crate::pace::{granted, print_each, refused, timed};
 use crate::polling::measure;
@@ -32,6 +33,8 @@ pub enum Task {
     Poll,
     /// Readings of so many slots are kept.
     Fill(u32),
+    /// Late readings are compared with others.
+    Late,
     /// An office opens. The database began to open at this time.
     Open(Instant),
 }
@@ -54,6 +57,7 @@ fn done<K: Keeper + Drop>(rt: &HostRuntime, keeper: K, task: Task) -> io::Result
         Task::LookUp(slots) => look_up(rt, keeper, slots),
         Task::Poll => measure(rt, keeper),
         Task::Fill(slots) => fill(rt, keeper, slots),
+        Task::Late => compare(rt, keeper),
         Task::Open(start) => open(rt, keeper, start),
     }
 }
@@ -91,7 +95,7 @@ fn done_in_file(rt: &HostRuntime, path: &str, task: Task) -> io::Result<Duration
 }
 
 /// Does something with a database, which is new but to be opened. Tells how long the last of it took.
-fn done_in(rt: &HostRuntime, place: Place, task: Task) -> io::Result<Duration> {
+pub fn done_in(rt: &HostRuntime, place: Place, task: Task) -> io::Result<Duration> {
     match place {
         Place::Memory => done_in_memory(rt, task),
         Place::Pages => done_in_pages(rt, task),

@@ -1,6 +1,6 @@
 //! Worked examples, each lived through twice, where a call whose memory is refused is made once more. Under
 //! `rt try --fail-alloc 1..` each allocation in turn is refused, once: both lives end in the same.
-use crate::pace::refused;
+use crate::pace::{granted, refused};
 use crate::serving::office_of;
 use mb_mbap::Counted;
 use office_core::{Office, OfficeError};
@@ -126,22 +126,41 @@ fn rounded(alloc: Global) -> Result<String, OfficeError> {
     again!(shown(alloc, &mut office))
 }
 
-/// Two lives came to the same.
-fn same<E: Drop>(one: Result<String, E>, other: Result<String, E>) -> io::Result<()> {
-    match (one, other) {
-        (Ok(one), Ok(other)) if one.as_str() == other.as_str() => Ok(()),
-        _ => Err(refused()),
-    }
+/// Whether two lives came to the same.
+fn are_same(one: &[u8], other: &[u8]) -> io::Result<()> {
+    if one == other { Ok(()) } else { Err(refused()) }
+}
+
+/// Lives through happenings twice.
+fn live(alloc: Global, all: &[Happens]) -> io::Result<()> {
+    let one = granted(lived(alloc, all).ok())?;
+    let other = granted(lived(alloc, all).ok())?;
+    are_same(one.as_bytes(), other.as_bytes())
+}
+
+fn ask(alloc: Global) -> io::Result<()> {
+    let one = granted(asked(alloc).ok())?;
+    let other = granted(asked(alloc).ok())?;
+    are_same(one.as_bytes(), other.as_bytes())
+}
+
+fn poll(alloc: Global) -> io::Result<()> {
+    let one = granted(rounded(alloc).ok())?;
+    let other = granted(rounded(alloc).ok())?;
+    are_same(one.as_bytes(), other.as_bytes())
+}
+
+fn play(alloc: Global) -> io::Result<()> {
+    let one = granted(again!(played(alloc)).ok())?;
+    let other = granted(again!(played(alloc)).ok())?;
+    are_same(&one, &other)
 }
 
 pub fn run(rt: &HostRuntime) -> io::Result<()> {
     let alloc = rt.alloc();
-    same(lived(alloc, GAUGES), lived(alloc, GAUGES))?;
-    same(lived(alloc, ORDERS), lived(alloc, ORDERS))?;
-    same(asked(alloc), asked(alloc))?;
-    same(rounded(alloc), rounded(alloc))?;
-    match (again!(played(alloc)), again!(played(alloc))) {
-        (Ok(one), Ok(other)) if one == other => Ok(()),
-        _ => Err(refused()),
-    }
+    live(alloc, GAUGES)?;
+    live(alloc, ORDERS)?;
+    ask(alloc)?;
+    poll(alloc)?;
+    play(alloc)
 }

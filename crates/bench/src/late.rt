@@ -1,0 +1,49 @@
+//! Readings that arrive late, between a million others, beside readings at the end.
+use crate::office::{POINTS, Work, poll_slots};
+use crate::pace::{granted, print_each, timed};
+use crate::store::{Place, Task, done_in};
+use office_core::Office;
+use poll_book::{Keeper, MemKeeper};
+use std::io;
+use std::ops::Range;
+use std::time::Duration;
+
+/// The slots before and behind the one that is left out.
+const BEFORE: Range<u32> = 0..500;
+
+const BEHIND: Range<u32> = 501..1_001;
+
+/// Brings each point a reading in each of these slots, and tells how long that took.
+fn brought<K: Keeper>(
+    rt: &HostRuntime,
+    office: &mut Office<K>,
+    slots: Range<u32>,
+) -> io::Result<Duration> {
+    let (done, took) = timed!(rt, poll_slots(office, slots));
+    granted(done)?;
+    Ok(took)
+}
+
+fn compared<K: Keeper>(rt: &HostRuntime, office: &mut Office<K>) -> io::Result<Duration> {
+    brought(rt, office, BEFORE)?;
+    brought(rt, office, BEHIND)?;
+    let last = brought(rt, office, 1_001..1_002)?;
+    let late = brought(rt, office, 500..501)?;
+    print_each(rt, "reading at the end of 1,000,000", POINTS, last)?;
+    print_each(rt, "late reading between them", POINTS, late)?;
+    let percent = late.as_nanos().saturating_mul(100) / last.as_nanos().max(1);
+    println!(rt; "a late reading: {percent}% of the time")?;
+    Ok(late)
+}
+
+/// Prints how a late reading compares, over an empty keeper. Tells how long the late ones took.
+pub fn compare<K: Keeper + Drop>(rt: &HostRuntime, keeper: K) -> io::Result<Duration> {
+    let mut office = granted(Work::Slots(0).begun(rt.alloc(), keeper).ok())?;
+    compared(rt, &mut office)
+}
+
+pub fn measure(rt: &HostRuntime) -> io::Result<()> {
+    compare(rt, MemKeeper::new(rt.alloc()))?;
+    done_in(rt, Place::Pages, Task::Late)?;
+    Ok(())
+}
