@@ -43,9 +43,9 @@ fn ask(alloc: Global, slot: u32, quantity: u16) -> Result<DrillStep, OfficeError
 /// A register is set, and then asked for a slot, for each value one slot after the other.
 fn asks(alloc: Global, values: &[u16]) -> Result<Vec<DrillStep>, OfficeError> {
     let mut steps = Vec::new(alloc);
-    for (place, value) in values.iter().enumerate() {
+    for (slot, value) in (1..u32::MAX).zip(values.iter()) {
         push(&mut steps, DrillStep::Set(17, Table::Holding, 107, *value))?;
-        push(&mut steps, ask(alloc, (place as u32).wrapping_add(1), 1)?)?;
+        push(&mut steps, ask(alloc, slot, 1)?)?;
     }
     Ok(steps)
 }
@@ -114,9 +114,9 @@ const SEVERAL: &[Happens] = &[
 struct Chance(u32);
 
 impl Chance {
-    fn below(&mut self, count: u32) -> u32 {
+    fn below(&mut self, count: u16) -> u16 {
         self.0 = self.0.wrapping_mul(1_664_525).wrapping_add(1_013_904_223);
-        (self.0 >> 16) % count.max(1)
+        ((self.0 >> 16) % u32::from(count.max(1))) as u16
     }
 }
 
@@ -136,9 +136,9 @@ fn script(alloc: Global, chance: &mut Chance) -> Result<String, OfficeError> {
 /// Values that change, and each slot asked for once; in some slot the order is sent.
 fn steps(alloc: Global, chance: &mut Chance) -> Result<Vec<DrillStep>, OfficeError> {
     let mut steps = Vec::new(alloc);
-    let sent = chance.below(8);
+    let sent = u32::from(chance.below(8));
     for slot in 0..8u32 {
-        let value = chance.below(10_000) as u16;
+        let value = chance.below(10_000);
         push(&mut steps, DrillStep::Set(17, Table::Holding, 107, value))?;
         push(
             &mut steps,
