@@ -16,7 +16,6 @@ use std::time::{Duration, SystemTime};
 mod dice;
 mod readers;
 mod samples;
-mod stores;
 
 /// How many inputs each reader gets.
 const CASES: u32 = 100_000;
@@ -218,19 +217,6 @@ fn try_offices(rt: &HostRuntime, dice: &mut Dice) -> io::Result<()> {
     tally.print(rt, "Call")
 }
 
-fn try_stores(rt: &HostRuntime, dice: &mut Dice) -> io::Result<()> {
-    let mut tally = Tally::NONE;
-    let file = stores::sound(rt.alloc())?;
-    for _ in 0..CASES {
-        let Ok(bytes) = stores::damaged(rt.alloc(), dice, &file) else {
-            return Err(io::Error::from(io::ErrorKind::OutOfMemory));
-        };
-        let (came, took) = timed!(rt, stores::store(rt.alloc(), &bytes));
-        tally.count(rt, &bytes, came, took)?;
-    }
-    tally.print(rt, "Store")
-}
-
 /// The nanoseconds of the clock's second.
 fn nanos(rt: &HostRuntime) -> io::Result<u64> {
     match SystemTime::now(rt)?.duration_since(SystemTime::UNIX_EPOCH) {
@@ -253,6 +239,5 @@ pub fn run(rt: &HostRuntime, given: Option<u64>) -> io::Result<()> {
     for reader in READERS {
         try_reader(rt, &mut dice, &known, *reader)?;
     }
-    try_offices(rt, &mut dice)?;
-    try_stores(rt, &mut dice)
+    try_offices(rt, &mut dice)
 }

@@ -42,13 +42,12 @@ fn random(alloc: Global, dice: &mut Dice) -> Result<Vec<u8>, AllocError> {
 
 /// Some part of bytes.
 fn part<'a>(dice: &mut Dice, bytes: &'a [u8]) -> &'a [u8] {
-    let from = dice.below(bytes.len());
-    let to = from + dice.below(bytes.len() - from + 1);
-    bytes.get(from..to).unwrap_or(bytes)
+    let rest = bytes.get(dice.below(bytes.len())..).unwrap_or(bytes);
+    rest.get(..dice.below(rest.len())).unwrap_or(rest)
 }
 
 /// Puts a byte at a random place, takes one away or puts one in, or repeats a part.
-pub fn change(dice: &mut Dice, bytes: &mut Vec<u8>) -> Result<(), AllocError> {
+fn change(dice: &mut Dice, bytes: &mut Vec<u8>) -> Result<(), AllocError> {
     let place = dice.below(bytes.len());
     let byte = dice.byte();
     match dice.below(4) {
@@ -60,7 +59,7 @@ pub fn change(dice: &mut Dice, bytes: &mut Vec<u8>) -> Result<(), AllocError> {
         1 if place < bytes.len() => {
             bytes.remove(place);
         }
-        2 => bytes.insert(place, byte)?,
+        2 if place <= bytes.len() => bytes.insert(place, byte)?,
         _ => {
             let again = Vec::from_slice(*bytes.allocator(), part(dice, bytes))?;
             bytes.extend_from_slice(&again)?;
