@@ -6,8 +6,7 @@ ghost use Rattle.std.specs.Global.{Global};
 ghost use Rattle.mb_mbap.specs.declared.frame.Frame.{Frame};
 ghost use Rattle.office_core.specs.declared.event.Event.{Event};
 ghost use Rattle.office_core.specs.declared.event.EventAnswer.{EventAnswer};
-ghost use Rattle.office_core.specs.Offices.{LeavesRun, Stands, keeper_of};
-ghost use Rattle.office_core.specs.Standing.{Runs};
+ghost use Rattle.office_core.specs.Offices.{keeper_of};
 ghost use Rattle.office_net.specs.Drills.{Begins, BreaksOff, BringsHeld, DoAll, Does, Drills, IsGiven, Leads, Makes, arrivals, conn_of, last_over, query_in};
 
 use mb_map::{MapError, Sim};
@@ -216,9 +215,9 @@ pub fn drill<K: Keeper>(
 ) -> Result<Vec<EventAnswer>, DrillFault>
     ensures runs { K.is_clean (keeper_of office.new) → MatchResult result
         (λ told. (events : List Event) × Drills sim.old steps.now events told.items sim.new
-        × Runs (Stands office.old) (Stands office.new) events told.items × LeavesRun office.old office.new events told.items)
+        × Leads office.old office.new events told.items)
         (λ _. (events : List Event) × (told : List EventAnswer) × BreaksOff sim.old steps.now events told
-        × Runs (Stands office.old) (Stands office.new) events told × LeavesRun office.old office.new events told) }
+        × Leads office.old office.new events told) }
     ensures counted { K.refused (keeper_of office.old) ≤ K.refused (keeper_of office.new) }
     ensures clean { K.is_clean (keeper_of office.new) → K.is_clean (keeper_of office.old) }
 {

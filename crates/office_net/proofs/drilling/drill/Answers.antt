@@ -1,7 +1,5 @@
 use Rattle.std.proofs.Common.{◌++◌, List, refl, sym, subst}
 use Rattle.office_core.specs.Offices.{Stands, keeper_of}
-use Rattle.office_core.specs.Leavings.{LeavesAll}
-use Rattle.office_core.specs.Standing.{Runs}
 use Rattle.office_core.specs.declared.office.Office.{Office}
 use Rattle.office_core.specs.declared.event.EventAnswer.{EventAnswer}
 use Rattle.office_core.proofs.Newness.{on_refusal}
@@ -13,7 +11,7 @@ use Rattle.office_net.proofs.drilling.drill.Goals as goal
 pub returns-in_err-last-clause-runs : goal.returns-in_err-last-clause-runs
 returns-in_err-last-clause-runs g c = λ clean.
     let broke = c.in_err-last.ensures.err clean in
-    on_refusal _ c.from_residual.result c.from_residual.ensures.0 (broke.0, broke.1, broke.2, broke.3.runs, broke.3.leaves)
+    on_refusal _ c.from_residual.result c.from_residual.ensures.0 (broke.0, broke.1, broke.2, broke.3)
 
 pub returns-in_err-finish-clause-runs : goal.returns-in_err-finish-clause-runs
 returns-in_err-finish-clause-runs g c = λ clean.
@@ -24,7 +22,7 @@ returns-in_err-finish-clause-runs g c = λ clean.
     let same = sym c.in_err-finish.ensures.err in
     let led = subst (λ (o : Office g.row.K.Denot g.K.Neighbours). IsLed (Stands old) (Stands o) (may (keeper_of old)) (may (keeper_of o)) went.0 c.go_through.new.told.items) same went.2 in
     on_refusal _ c.from_residual-in_err-finish.result c.from_residual-in_err-finish.ensures.0
-    (went.0, c.go_through.new.told.items, broken_at_end c.args.sim.now c.go_through.new.sim c.in_ok-last.last c.args.steps.now went.0 c.go_through.new.told.items went.1, led.runs, led.leaves)
+    (went.0, c.go_through.new.told.items, broken_at_end c.args.sim.now c.go_through.new.sim c.in_ok-last.last c.args.steps.now went.0 c.go_through.new.told.items went.1, led)
 
 pub returns-clause-runs : goal.returns-clause-runs
 returns-clause-runs g c = λ clean.
@@ -52,6 +50,5 @@ returns-clause-runs g c = λ clean.
     let led = led_then (Stands old) (Stands mid) (Stands new) (may (keeper_of old)) (may (keeper_of mid)) (may (keeper_of new)) went.0 brought told ended.1 went.2 ended.4 in (
       events,
       subst (λ (t : List EventAnswer). Drills c.args.sim.now c.args.steps.now events t c.finish.new.sim) (sym ended.2) drilled,
-      subst (Runs (Stands old) (Stands new) events) (sym ended.2) led.runs,
-      subst (LeavesAll (Stands old) (may (keeper_of old)) (may (keeper_of new)) events) (sym ended.2) led.leaves,
+      subst (IsLed (Stands old) (Stands new) (may (keeper_of old)) (may (keeper_of new)) events) (sym ended.2) led,
     )
