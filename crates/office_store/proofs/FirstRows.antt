@@ -6,6 +6,7 @@ use Rattle.sqlite_value.specs.declared.value.Value.TheVariants.{Null, Int, Text}
 use Rattle.sqlite_value.specs.Order.{Row}
 use Rattle.sqlite_value.proofs.OrderLemmas.{value_cmp-Int}
 use Rattle.sqlite_trees.specs.Tree.{Trees}
+use Rattle.sqlite_trees.specs.Objects.{catalog_tree}
 use Rattle.sqlite_trees.specs.View.{IsShaped}
 use Rattle.sqlite_trees.specs.declared.store.Shape.TheVariants.{Table}
 use Rattle.sqlite_sql.specs.Ops.{unary}
@@ -17,6 +18,7 @@ use Rattle.sqlite_rules.specs.declared.error.Rowids.TheVariants.{Chosen}
 use Rattle.sqlite_rules.specs.Edit.{Edit, edit_of, edited, put_all}
 use Rattle.sqlite_rules.specs.Cast.{cast}
 use Rattle.sqlite_rules.specs.Action.{Writes}
+use Rattle.sqlite_catalog.specs.Listing.{Lists}
 use Rattle.poll_book.specs.declared.fault.StoreFault.{StoreFault}
 use Rattle.sqlite.specs.Listing.{understood}
 use Rattle.sqlite.specs.Effect.{Database}
@@ -26,7 +28,7 @@ use Rattle.sqlite.specs.State.{State, mode_of, Executes, Shows}
 use Rattle.sqlite.proofs.Callers.{runs_as, one_step, statement_of}
 use Rattle.poll_book.specs.Tables.{no_tables}
 use Rattle.office_store.specs.Schema.{meta, office_schema}
-use Rattle.office_store.specs.Blank.{AreBlank}
+use Rattle.office_store.specs.Blank.{AreBlank, IsEmptyOffice}
 use Rattle.office_store.specs.Rows.{stored_point, stored_reading, stored_setting, stored_request, stored_sum}
 use Rattle.office_store.specs.Kept.{StandFor, number_rows}
 use Rattle.office_store.proofs.Texts.{numbers_text, numbers_terms, numbers_are}
@@ -94,3 +96,12 @@ puts_numbers old new (Ok count) blank h =
         numbers = at 0 ∙ made.rows ∙ filled db blank.meta;
       },
     )
+
+-- the insertion ends the making: the tables are those of an office that knows nothing
+pub makes_office : (old new : State) (r : Result ℕ StoreFault) → AreBlank old.now → IfOk r (λ n. Executes numbers_text [] old new (Ok n) × Shows old new new.now old.committed true)
+    → OnOk r (IsEmptyOffice new.now.trees)
+makes_office old new (Err e) blank h = tt
+makes_office old new (Ok count) blank h =
+    let w = runs_as numbers_text [] old new office_schema blank.schema (Insert 0 (Values numbers_terms 3)) numbers_are.0 numbers_are.1 count h.0 in
+    let made : (new.now.schema ≡ office_schema) × StandFor new.now.trees no_tables = puts_numbers old new (Ok count) blank h in
+    record { listed = subst (Lists (new.now.trees catalog_tree)) made.0 w.sound.lists; stands = made.1 }

@@ -46,3 +46,4 @@ mod PutTotal
 mod SetTotal
 mod FirstTotals
 mod ShownTotals
+pub mod Versions

@@ -1,6 +1,6 @@
 //! A keeper over tables of a database.
 
-ghost use Rattle.std.specs.Prelude.{◌≡◌, ◌≢◌, ◌⊎◌, [], ◌∷◌, false, IfOk, IfErr, IsTrue, Some};
+ghost use Rattle.std.specs.Prelude.{◌≡◌, ◌≢◌, ◌⊎◌, ◌≤◌, length, List, [], ◌∷◌, false, IfOk, IfErr, IsTrue, Some};
 ghost use Rattle.sqlite.specs.Held.{state};
 ghost use Rattle.sqlite.specs.State.{HasCleanDisk, Shown, FailsToQuery};
 ghost use Rattle.sqlite_value.specs.Order.{Row, column};
@@ -58,6 +58,8 @@ impl<S: Alter> SqlKeeper<S> {
         ensures not_office { IfErr result (λ error. error.0 ≡ StoreError.NotOffice → HasCleanDisk (state S.Store error.1)
             → Shown version_text [] (state S.Store connection) (state S.Store error.1) []
             ⊎ ((cause : _) × FailsToQuery version_text [] (state S.Store connection) (state S.Store error.1) cause × (fault_of cause ≡ StoreFault.Other))) }
+        ensures other { IfErr result (λ error. error.0 ≡ StoreError.Store StoreFault.Other → HasCleanDisk (state S.Store error.1)
+            → IsTrue connection.in_transaction ⊎ ((rows : List Row) × Shown version_text [] (state S.Store connection) (state S.Store error.1) rows × (2 ≤ length rows))) }
     {
         if !connection.is_autocommit() {
             return Err((StoreError::Store(StoreFault::Other), connection));

@@ -8,7 +8,7 @@ ghost use Rattle.poll_book.specs.Tables.{no_tables};
 ghost use Rattle.office_store.specs.Schema.{no_schema, office_schema};
 ghost use Rattle.poll_book.specs.declared.fault.StoreFault.{StoreFault};
 ghost use Rattle.office_store.specs.Kept.{IsHeld, StandFor};
-ghost use Rattle.office_store.specs.Blank.{AreFirst, AreBlank};
+ghost use Rattle.office_store.specs.Blank.{AreFirst, AreBlank, IsEmptyOffice};
 
 use crate::error::{StoreError, fault_of};
 use crate::run::run;
@@ -71,6 +71,8 @@ fn put_numbers<S: Alter>(tx: &mut Transaction<'_, S>) -> Result<usize, StoreFaul
     ensures same_reference { tx.new.conn.ghost_name ≡ tx.old.conn.ghost_name }
     ensures made { HasCleanDisk (state S.Store tx.new.conn.now) → IsTrue (state S.Store tx.old.conn.now).in_transaction → AreBlank (state S.Store tx.old.conn.now).now
         → OnOk result (((state S.Store tx.new.conn.now).now.schema ≡ office_schema) × StandFor (state S.Store tx.new.conn.now).now.trees no_tables) }
+    ensures office { HasCleanDisk (state S.Store tx.new.conn.now) → IsTrue (state S.Store tx.old.conn.now).in_transaction → AreBlank (state S.Store tx.old.conn.now).now
+        → OnOk result (IsEmptyOffice (state S.Store tx.new.conn.now).now.trees) }
     ensures open { HasCleanDisk (state S.Store tx.new.conn.now) → IsTrue (state S.Store tx.old.conn.now).in_transaction
         → OnOk result (IsTrue (state S.Store tx.old.conn.now).is_open × IsTrue (state S.Store tx.new.conn.now).in_transaction) }
     ensures kept { HasCleanDisk (state S.Store tx.new.conn.now) → KeepsCommit (state S.Store tx.old.conn.now) (state S.Store tx.new.conn.now) }
@@ -87,6 +89,8 @@ fn make_all<S: Alter>(tx: &mut Transaction<'_, S>) -> Result<usize, StoreFault>
     ensures same_reference { tx.new.conn.ghost_name ≡ tx.old.conn.ghost_name }
     ensures made { HasCleanDisk (state S.Store tx.new.conn.now) → IsTrue (state S.Store tx.old.conn.now).in_transaction → (state S.Store tx.old.conn.now).now.schema ≡ no_schema
         → OnOk result (((state S.Store tx.new.conn.now).now.schema ≡ office_schema) × StandFor (state S.Store tx.new.conn.now).now.trees no_tables) }
+    ensures office { HasCleanDisk (state S.Store tx.new.conn.now) → IsTrue (state S.Store tx.old.conn.now).in_transaction → (state S.Store tx.old.conn.now).now.schema ≡ no_schema
+        → OnOk result (IsEmptyOffice (state S.Store tx.new.conn.now).now.trees) }
     ensures open { HasCleanDisk (state S.Store tx.new.conn.now) → IsTrue (state S.Store tx.old.conn.now).in_transaction
         → OnOk result (IsTrue (state S.Store tx.old.conn.now).is_open × IsTrue (state S.Store tx.new.conn.now).in_transaction) }
     ensures kept { HasCleanDisk (state S.Store tx.new.conn.now) → KeepsCommit (state S.Store tx.old.conn.now) (state S.Store tx.new.conn.now) }
@@ -98,7 +102,7 @@ fn make_all<S: Alter>(tx: &mut Transaction<'_, S>) -> Result<usize, StoreFault>
 }
 
 /// Makes the tables of an office that knows nothing, in one transaction, or changes nothing. A stop
-/// inside it leaves no table, or all of them.
+/// inside it leaves what could be left before, or the tables of an office that knows nothing, all of them.
 pub fn create<S: Alter>(connection: &mut Connection<S>) -> Result<(), StoreError>
     requires { connection.old.in_transaction ≡ false }
     ensures made { HasCleanDisk (state S.Store connection.new) → (state S.Store connection.old).now.schema ≡ no_schema → OnOk result (IsHeld (state S.Store connection.new) no_tables) }
@@ -107,7 +111,7 @@ pub fn create<S: Alter>(connection: &mut Connection<S>) -> Result<(), StoreError
     ensures cause { IfErr result (λ error. (fault : StoreFault) × (error ≡ StoreError.Store fault)) }
     ensures crash { HasCleanDisk (state S.Store connection.new) → OnOk result ((db : Trees) → (state S.Store connection.new).may_leave db → db ≡ (state S.Store connection.new).committed.trees) }
     ensures stop { HasCleanDisk (state S.Store connection.new) → (state S.Store connection.old).now.schema ≡ no_schema → (db : Trees) → (state S.Store connection.new).may_leave db
-        → (state S.Store connection.old).may_leave db ⊎ StandFor db no_tables }
+        → (state S.Store connection.old).may_leave db ⊎ IsEmptyOffice db }
     ensures idle { connection.new.in_transaction ≡ false }
 {
     let mut tx = connection.transaction();

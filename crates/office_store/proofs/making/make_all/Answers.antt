@@ -14,3 +14,15 @@ returns-clause-made g c clean inside none =
     let open_b = (one.open clean_b inside).1 in
     let open_d = (two.open clean_d open_b).1 in
     c.put_numbers.ensures.made clean open_d (two.made clean_d open_b (one.made clean_b inside none))
+
+pub returns-clause-office : goal.returns-clause-office
+returns-clause-office g c clean inside none =
+    let b = state g.S.Store c.make_first.new.tx.conn.now in
+    let d = state g.S.Store c.make_others.new.tx.conn.now in
+    let clean_d : HasCleanDisk d = omega (arith, clean, c.put_numbers.ensures.survives.clean) in
+    let clean_b : HasCleanDisk b = omega (arith, clean_d, c.make_others.ensures.survives.clean) in
+    let one = c.in_ok-make_first.ensures in
+    let two = c.in_ok-make_others.ensures in
+    let open_b = (one.open clean_b inside).1 in
+    let open_d = (two.open clean_d open_b).1 in
+    c.put_numbers.ensures.office clean open_d (two.made clean_d open_b (one.made clean_b inside none))

@@ -1,11 +1,12 @@
-use Rattle.std.proofs.Common.{◌≡◌, [], inl, inr, Some, ap, subst, ◌∙◌, rules}
+use Rattle.std.proofs.Common.{◌≡◌, ◌≤◌, List, [], length, inl, inr, Some, ap, subst, ◌∙◌, rules}
+use Rattle.sqlite_value.specs.Order.{Row}
 use Rattle.sqlite.specs.Held.{state}
 use Rattle.sqlite.specs.State.{Shown}
 use Rattle.office_store.specs.Texts.{version_text}
 use Rattle.office_store.specs.Rows.{number_of}
-use Rattle.office_store.proofs.Asking.{after_ok}
 use Rattle.office_store.proofs.Queries.{version_is_query}
 use Rattle.office_store.proofs.Only.{nothing, only}
+use Rattle.office_store.proofs.Versions.{shown_open}
 use Rattle.office_store.proofs.keeper.SqlKeeper.open.Goals.{then-eq, else-eq}
 use Rattle.office_store.proofs.keeper.SqlKeeper.open.Goals as goal
 
@@ -42,4 +43,7 @@ returns-in-len1-clause-bad_version g c told clean =
 
 pub returns-then-eq-2-clause-was_open : goal.returns-then-eq-2-clause-was_open
 returns-then-eq-2-clause-was_open g c clean =
-    (after_ok version_text [] (state g.S.Store c.args.connection) (state g.S.Store c.ask.new.connection) version_is_query c.in-Ok.rows.items (c.in-Ok.ensures.rows clean)).0.was_open
+    shown_open (state g.S.Store c.args.connection) (state g.S.Store c.ask.new.connection) c.in-Ok.rows.items (c.in-Ok.ensures.rows clean)
+
+pub returns-clause-other : goal.returns-clause-other
+returns-clause-other g c told clean = inr (c.in-Ok.rows.items, c.in-Ok.ensures.rows clean, subst (λ (rows : List Row). 2 ≤ length rows) c.as_slice.ensures.value c.in_default.len_at_least)
