@@ -1,1 +1,2 @@
 mod Leftovers
+mod Makings

@@ -1,20 +1,21 @@
 //! What an office stands for that is opened again on what a crash left of another.
 #![tactic(auto)]
 
-ghost use Rattle.std.specs.Prelude.{◌≡◌, ◌∷◌, List, IfSome, IsTrue};
+ghost use Rattle.std.specs.Prelude.{◌≡◌, [], ◌∷◌, List, false, IfErr, IfOk, IfSome, IsTrue, MatchResult};
 ghost use Rattle.sqlite.specs.Held.{state};
 ghost use Rattle.sqlite.specs.State.{HasCleanDisk};
-ghost use Rattle.poll_book.specs.Tables.{Tables};
-ghost use Rattle.office_store.specs.Kept.{Holds, MayLeave};
-ghost use Rattle.office_store.specs.Keepers.{connection_of};
+ghost use Rattle.poll_book.specs.Tables.{Tables, no_tables};
+ghost use Rattle.office_store.specs.Kept.{Holds, IsHeld, MayLeave};
+ghost use Rattle.office_store.specs.Keepers.{IsKeptBy, connection_of};
 ghost use Rattle.office_core.specs.History.{Happening, History, Restart, tables};
 ghost use Rattle.office_core.specs.Leavings.{IsTold};
 ghost use Rattle.office_core.specs.Offices.{Stands, keeper_of};
 ghost use Rattle.point_list.specs.Sites.{IsSound};
 ghost use Rattle.reopening.specs.Leftover.{IsLeftOf};
+ghost use Rattle.reopening.specs.Making.{IsBareOrEmpty, IsLeftByMaking, IsRefusal};
 
-use office_core::{Event, EventAnswer, Office};
-use office_store::{SqlKeeper, laws};
+use office_core::{Event, EventAnswer, Office, OfficeError};
+use office_store::{SqlKeeper, StoreError, create, laws};
 use point_list::Site;
 use sqlite::{Alter, Connection};
 use std::alloc::Global;
@@ -75,4 +76,50 @@ pub fn run_and_reopen<S: Alter + Drop>(
     };
     let again = over(alloc, found, site_again)?;
     Some((told, office, again))
+}
+
+/// Makes an office's tables. What a stop of that may leave, as another connection shows it, has no table, or it is an
+/// office that knows nothing.
+fn make_beside<S: Alter>(fresh: &mut Connection<S>, found: &Connection<S>)
+    requires idle { fresh.old.in_transaction ≡ false }
+    requires found_idle { found.now.in_transaction ≡ false }
+    ensures { IsLeftByMaking (state S.Store fresh.old) (state S.Store fresh.new) (state S.Store found.now).now.trees → IsTrue (state S.Store found.now).is_open
+        → IsBareOrEmpty (state S.Store found.now) }
+{
+    let _ = fresh.is_autocommit();
+    let _ = fresh.schema();
+    let _ = found.is_autocommit();
+    let _ = found.schema();
+    // Whatever it answers: a stop inside it doesn't come to that.
+    let _ = create(fresh);
+}
+
+/// Makes an office's tables on a connection whose database has none, and opens an office over what another connection
+/// found: the office, or why it isn't opened.
+///
+/// Where a stop before the making, inside it or behind it may leave what the second connection found, that has no
+/// table, or it is an office that knows nothing. Only the latter is opened. What isn't opened is refused as no office,
+/// for want of a table or for a limit on steps, or by a fault of the store itself, and never for its version.
+pub fn create_and_reopen<S: Alter + Drop>(
+    alloc: Global,
+    fresh: &mut Connection<S>,
+    found: Connection<S>,
+    site: Site,
+) -> Result<Result<Office<SqlKeeper<S>>, (OfficeError, SqlKeeper<S>)>, (StoreError, Connection<S>)>
+    requires sound { IsSound site }
+    requires idle { fresh.old.in_transaction ≡ false }
+    requires found_idle { found.in_transaction ≡ false }
+    ensures left { IsLeftByMaking (state S.Store fresh.old) (state S.Store fresh.new) (state S.Store found).now.trees → IsTrue (state S.Store found).is_open
+        → IsBareOrEmpty (state S.Store found) }
+    ensures opened { IsLeftByMaking (state S.Store fresh.old) (state S.Store fresh.new) (state S.Store found).now.trees → IfOk result (λ made. MatchResult made
+        (λ office. HasCleanDisk (state S.Store (connection_of (keeper_of office))) → IsHeld (state S.Store found) no_tables × Stands office (Restart site ∷ []))
+        (λ error. HasCleanDisk (state S.Store (connection_of error.1)) → IsHeld (state S.Store found) no_tables × IsKeptBy error.1 no_tables)) }
+    ensures refused { IsLeftByMaking (state S.Store fresh.old) (state S.Store fresh.new) (state S.Store found).now.trees → IfErr result (λ error.
+        HasCleanDisk (state S.Store error.1) → IsRefusal (state S.Store found) error.0) }
+{
+    make_beside(fresh, &found);
+    match SqlKeeper::open(found) {
+        Ok(keeper) => Ok(Office::new(alloc, keeper, site)),
+        Err(error) => Err(error),
+    }
 }
