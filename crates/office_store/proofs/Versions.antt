@@ -1,5 +1,6 @@
 -- What the query of the version shows, of a database without tables and of an office's.
-use Rattle.std.proofs.Common.{◌≡◌, inl, inr, ◌≤◌, ℕ, pos, negsuc, List, [], ◌∷◌, map, Bool, true, false, ◌&&◌, ◌++◌, flat_map, if◌then◌else◌, Option, None, Some, Ok, Err, Result, IsTrue, IsSome, Any, length, lit≤, refl, sym, ap, subst, subst₂, ◌∙◌, codes}
+use Rattle.std.proofs.Common.{◌≡◌, inl, inr, ◌≤◌, ℕ, pos, negsuc, List, [], ◌∷◌, map, Bool, true, false, ◌&&◌, ◌++◌, flat_map, if◌then◌else◌, Option, None, Some, Ok, Err, Result, IsTrue, IsSome, Any, length, lit≤, refl, sym, ap, subst, ◌∙◌, codes}
+use Rattle.std.specs.Prelude.{◌≢◌}
 use Rattle.std.specs.List.{list_all}
 use Rattle.std.specs.List.Sorted.{IsPermutation}
 use Rattle.sqlite_tied.specs.Compute.{everything}
@@ -16,17 +17,17 @@ use Rattle.sqlite_trees.specs.Tree.{Trees}
 use Rattle.sqlite_trees.specs.declared.error.StoreError.{StoreError as StoreFailure}
 use Rattle.sqlite_trees.specs.declared.error.StoreError.TheVariants.{OutOfMemory, Io, Corrupt, Full, Broken, Unstorable}
 use Rattle.sqlite_schema.specs.declared.command.Command.{Command}
-use Rattle.sqlite_schema.specs.declared.command.Command.TheVariants.{Select}
+use Rattle.sqlite_schema.specs.declared.command.Command.TheVariants.{Select, Rows}
 use Rattle.sqlite_resolve.specs.declared.compiled.Compiled.{Compiled}
 use Rattle.sqlite_resolve.specs.declared.error.CompileError.{CompileError}
 use Rattle.sqlite.specs.declared.error.Error.{Error}
 use Rattle.sqlite.specs.Effect.{Database, RefusesQuery, RefusesToRead}
 use Rattle.sqlite.specs.Listing.{understood, reads_listing, listing_schema, IsSourceOf}
 use Rattle.sqlite.specs.Clock.{timed}
-use Rattle.sqlite.specs.State.{State, FailsToQuery, FailsToShow, IsNoStatement, IsNotRun, Shown, store_error}
+use Rattle.sqlite.specs.State.{State, FailsToQuery, FailsToShow, HasCause, IsNoStatement, IsNotRun, Shown, store_error}
 use Rattle.sqlite.proofs.Callers.{IsPlain, command_of, reads_as, one_permutation}
 use Rattle.poll_book.specs.declared.fault.StoreFault.TheVariants.{Other}
-use Rattle.office_store.specs.Faults.{fault_of}
+use Rattle.office_store.specs.Faults.{IsOfStore, fault_of}
 use Rattle.office_store.specs.Schema.{no_schema, office_schema}
 use Rattle.office_store.specs.Texts.{version_text}
 use Rattle.office_store.specs.Rows.{number_of}
@@ -53,6 +54,36 @@ unfolding FailsToQuery IsNotRun
 other_open old new error (inl (inl none)) other = none.1.0.was_open
 other_open old new error (inl (inr fails)) other = absurd (named fails.0 (ap fault_of (sym fails.1) ∙ other))
 other_open old new error (inr h) other = (subst (FailsToShow old new version_text h.0 (timed [] h.0.formats h.1.now) error) (version_is_query old.now.schema h.0 h.1.is) h.2).3.0.was_open
+
+-- what isn't run without a fault of the store is told as `Other`
+no_statement : (s : State) (error : Error) → IsNoStatement s version_text [] error → fault_of error ≡ Other
+no_statement s error (inl none) = ap fault_of none.2
+no_statement s error (inr h) = elim h.2 [ inl long ↦ ap fault_of long.1 | inr (inl given) ↦ ap fault_of given.1 | inr (inr clock) ↦ ap fault_of clock.1 ]
+
+not_read : (limit : Option ℕ) (command : Command) (db : Database) (params : Row) (error : Error) → RefusesToRead limit command db params error → fault_of error ≡ Other
+not_read limit (Select q names) db params error (inl untyped) = ap fault_of untyped.0
+not_read limit (Select q names) db params error (inr (inl over)) = ap fault_of over.0
+not_read limit (Select q names) db params error (inr (inr limited)) = ap fault_of limited.0
+not_read limit (Rows values width names) db params error h = ap fault_of h.0
+not_read limit _ db params error h = ap fault_of h
+
+caused : (old new : State) (cause : StoreFailure) → HasCause old new ⊥ cause → IsOfStore old new (fault_of (store_error cause))
+caused old new OutOfMemory h = tt
+caused old new Io h = inr h
+caused old new Corrupt h = inr h
+caused old new Full h = inr h
+caused old new Broken h = inl h
+caused old new Unstorable h = absurd h
+
+-- What fails is told as `Other`, or the store itself failed.
+pub by_store : (old new : State) (error : Error) → FailsToQuery version_text [] old new error → fault_of error ≢ Other → IsOfStore old new (fault_of error)
+unfolding FailsToQuery IsNotRun
+by_store old new error (inl (inl none)) known = absurd (known (no_statement old error none.0))
+by_store old new error (inl (inr fails)) known = subst (λ e. IsOfStore old new (fault_of e)) (sym fails.1) (caused old new fails.0 fails.2)
+by_store old new error (inr h) known =
+    let full = timed [] h.0.formats h.1.now in
+    let it = subst (FailsToShow old new version_text h.0 full error) (version_is_query old.now.schema h.0 h.1.is) h.2 in
+    absurd (known (not_read old.step_limit h.0.command it.0 full error it.2))
 
 -- ---- of a database without tables
 
@@ -171,5 +202,6 @@ module _ (old new : State) (connections : ℕ) (schema : old.now.schema ≡ offi
       let it = rw (plain.0, plain.1) at h.2 in
       let db : it.0 ≡ old.now = subst (λ b. IsSourceOf b old.now it.0) (ap (λ s. reads_listing s version_text) schema ∙ version_is.1) it.1 in
       let selects : h.0.command ≡ version_command = ap command_of known ∙ version_is.0 in
-      let refuses = subst₂ (λ k (d : Database). RefusesToRead old.step_limit k d [] error) selects db it.2 in
+      let asked = subst (λ (d : Database). RefusesToRead old.step_limit h.0.command d [] error) db it.2 in
+      let refuses = subst (λ k. RefusesToRead old.step_limit k old.now [] error) selects asked in
       refused old.step_limit old.now.trees error (subst (λ s. RefusesToRead old.step_limit version_command (record old.now { schema = s }) [] error) schema refuses)

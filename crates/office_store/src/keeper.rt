@@ -60,6 +60,8 @@ impl<S: Alter> SqlKeeper<S> {
             ⊎ ((cause : _) × FailsToQuery version_text [] (state S.Store connection) (state S.Store error.1) cause × (fault_of cause ≡ StoreFault.Other))) }
         ensures other { IfErr result (λ error. error.0 ≡ StoreError.Store StoreFault.Other → HasCleanDisk (state S.Store error.1)
             → IsTrue connection.in_transaction ⊎ ((rows : List Row) × Shown version_text [] (state S.Store connection) (state S.Store error.1) rows × (2 ≤ length rows))) }
+        ensures failed { IfErr result (λ error. (fault : StoreFault) → error.0 ≡ StoreError.Store fault → fault ≢ StoreFault.Other → HasCleanDisk (state S.Store error.1)
+            → (cause : _) × FailsToQuery version_text [] (state S.Store connection) (state S.Store error.1) cause × (fault_of cause ≡ fault)) }
     {
         if !connection.is_autocommit() {
             return Err((StoreError::Store(StoreFault::Other), connection));

@@ -10,16 +10,17 @@ use Rattle.sqlite.specs.declared.error.Error.{Error}
 use Rattle.sqlite.specs.Effect.{Database}
 use Rattle.sqlite.specs.State.{State, HasCleanDisk, IsLive, FailsToQuery, Shown}
 use Rattle.poll_book.specs.Tables.{no_tables}
+use Rattle.poll_book.specs.declared.fault.StoreFault.{StoreFault}
 use Rattle.poll_book.specs.declared.fault.StoreFault.TheVariants.{Other}
 use Rattle.office_store.specs.Schema.{no_schema, office_schema}
 use Rattle.office_store.specs.Blank.{IsEmptyOffice}
 use Rattle.office_store.specs.Kept.{IsHeld}
-use Rattle.office_store.specs.Faults.{fault_of}
+use Rattle.office_store.specs.Faults.{IsOfStore, fault_of}
 use Rattle.office_store.specs.Rows.{number_of}
 use Rattle.office_store.specs.Texts.{version_text}
 use Rattle.office_store.specs.declared.error.StoreError.{StoreError}
 use Rattle.office_store.specs.declared.error.StoreError.TheVariants.{Store, BadVersion, NotOffice}
-use Rattle.office_store.proofs.Versions.{bare_shows, fails_limited, other_open, row_shown, shown_open, version_shown}
+use Rattle.office_store.proofs.Versions.{bare_shows, by_store, fails_limited, other_open, row_shown, shown_open, version_shown}
 use Rattle.reopening.specs.Making.{IsBareOrEmpty, IsLeftByMaking, IsRefusal}
 
 -- What a stop leaves has no table, or is an office that knows nothing.
@@ -49,12 +50,14 @@ module _ (found new : State) (left : IsTrue found.is_open → IsBareOrEmpty foun
   -- What isn't opened is no office, or the store failed.
   pub refusal : (error : StoreError) → (error ≡ BadVersion → (row : Row) × Shown version_text [] found new (row ∷ []) × (number_of (column row 0) ≢ Some 1))
       → (error ≡ NotOffice → Shown version_text [] found new [] ⊎ ((cause : Error) × FailsToQuery version_text [] found new cause × (fault_of cause ≡ Other)))
-      → (error ≡ Store Other → IsTrue found.in_transaction ⊎ ((rows : List Row) × Shown version_text [] found new rows × (2 ≤ length rows))) → found.in_transaction ≡ false → IsRefusal found error
-  refusal BadVersion bad none other idle =
+      → (error ≡ Store Other → IsTrue found.in_transaction ⊎ ((rows : List Row) × Shown version_text [] found new rows × (2 ≤ length rows)))
+      → ((fault : StoreFault) → error ≡ Store fault → fault ≢ Other → (cause : Error) × FailsToQuery version_text [] found new cause × (fault_of cause ≡ fault)) → found.in_transaction ≡ false
+      → IsRefusal found new error
+  refusal BadVersion bad none other failed idle =
       let it = bad refl in
       let held = is_empty it.0 it.1 in
       absurd (it.2 (version_shown found new 0 held.schema held.stands.numbers it.0 it.1))
-  refusal NotOffice bad none other idle = elim (none refl) [
+  refusal NotOffice bad none other failed idle = elim (none refl) [
     | inl shown ↦ elim (left (shown_open found new [] shown)) [
       | inl bare ↦ inl bare
       | inr held ↦ absurd (let no = row_shown found new 0 held.schema held.stands.numbers [] shown in omega arith)
@@ -64,13 +67,16 @@ module _ (found new : State) (left : IsTrue found.is_open → IsBareOrEmpty foun
       | inr held ↦ inr (fails_limited found new 0 held.schema held.stands.numbers fails.0 fails.1 fails.2)
     ]
   ]
-  refusal (Store fault) bad none other idle = λ is. elim (other (ap Store is)) [
-    | inl inside ↦ absurd (let no = sym inside ∙ idle in cc)
-    | inr several ↦ elim (left (shown_open found new several.0 several.1)) [
-      | inl bare ↦ absurd (bare_shows found new several.0 bare several.1)
-      | inr held ↦ absurd (let one = row_shown found new 0 held.schema held.stands.numbers several.0 several.1 in let many = several.2 in omega arith)
-    ]
-  ]
+  refusal (Store fault) bad none other failed idle =
+      let known : fault ≢ Other = λ is. elim (other (ap Store is)) [
+        | inl inside ↦ absurd (let no = sym inside ∙ idle in cc)
+        | inr several ↦ elim (left (shown_open found new several.0 several.1)) [
+          | inl bare ↦ absurd (bare_shows found new several.0 bare several.1)
+          | inr held ↦ absurd (let one = row_shown found new 0 held.schema held.stands.numbers several.0 several.1 in let many = several.2 in omega arith)
+        ]
+      ] in
+      let it = failed fault refl known in
+      subst (IsOfStore found new) it.2 (by_store found new it.0 it.1 (λ is. known (sym it.2 ∙ is)))
 
 -- three facts of an outcome together
 pub of_three : {T E : Type 0} (r : Result T E) {A B C P : T → Type 0} {D F Q : E → Type 0} → IfOk r A → MatchResult r B D → MatchResult r C F

@@ -1,11 +1,11 @@
 -- What a stop while an office's tables are made may leave, and what to open it comes to.
-use Rattle.std.specs.Prelude.{◌≡◌, ◌≢◌, ◌⊎◌, IsSome, IsTrue}
+use Rattle.std.specs.Prelude.{◌≡◌, ◌⊎◌, IsSome, IsTrue}
 use Rattle.sqlite_trees.specs.Tree.{Trees}
 use Rattle.sqlite.specs.State.{State, HasCleanDisk}
 use Rattle.poll_book.specs.Tables.{no_tables}
-use Rattle.poll_book.specs.declared.fault.StoreFault.TheVariants.{Other}
 use Rattle.office_store.specs.Schema.{no_schema}
 use Rattle.office_store.specs.Kept.{IsHeld}
+use Rattle.office_store.specs.Faults.{IsOfStore}
 use Rattle.office_store.specs.declared.error.StoreError.{StoreError}
 use Rattle.office_store.specs.declared.error.StoreError.TheVariants.{Store, BadVersion, NotOffice}
 
@@ -20,8 +20,8 @@ pub record IsLeftByMaking (old new : State) (db : Trees) : Type 0 where
 abbrev pub IsBareOrEmpty : State → Type 0
 IsBareOrEmpty s = (s.now.schema ≡ no_schema) ⊎ IsHeld s no_tables
 
--- no office, since there is no table or the steps of a query are limited; or a fault of the store itself
-abbrev pub IsRefusal : State → StoreError → Type 0
-IsRefusal s NotOffice = (s.now.schema ≡ no_schema) ⊎ IsSome s.step_limit
-IsRefusal s (Store fault) = fault ≢ Other
-IsRefusal s BadVersion = ⊥
+-- a refusal of a call that reads: no office, since there is no table or the steps of a query are limited; or a fault of the store itself
+abbrev pub IsRefusal : State → State → StoreError → Type 0
+IsRefusal old new NotOffice = (old.now.schema ≡ no_schema) ⊎ IsSome old.step_limit
+IsRefusal old new (Store fault) = IsOfStore old new fault
+IsRefusal old new BadVersion = ⊥

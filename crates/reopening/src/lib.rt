@@ -115,7 +115,7 @@ pub fn create_and_reopen<S: Alter + Drop>(
         (λ office. HasCleanDisk (state S.Store (connection_of (keeper_of office))) → IsHeld (state S.Store found) no_tables × Stands office (Restart site ∷ []))
         (λ error. HasCleanDisk (state S.Store (connection_of error.1)) → IsHeld (state S.Store found) no_tables × IsKeptBy error.1 no_tables)) }
     ensures refused { IsLeftByMaking (state S.Store fresh.old) (state S.Store fresh.new) (state S.Store found).now.trees → IfErr result (λ error.
-        HasCleanDisk (state S.Store error.1) → IsRefusal (state S.Store found) error.0) }
+        HasCleanDisk (state S.Store error.1) → IsRefusal (state S.Store found) (state S.Store error.1) error.0) }
 {
     make_beside(fresh, &found);
     match SqlKeeper::open(found) {

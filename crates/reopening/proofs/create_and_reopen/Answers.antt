@@ -19,4 +19,4 @@ pub returns-in-Err-clause-refused : goal.returns-in-Err-clause-refused
 returns-in-Err-clause-refused g c it clean =
     let told = c.in-Err.ensures in
     refusal (state g.S.Store c.args.found) (state g.S.Store c.in-Err.error.1) (c.make_beside.ensures it) c.in-Err.error.0 (λ is. told.bad_version is clean) (λ is. told.not_office is clean)
-    (λ is. told.other is clean) c.requires.found_idle
+    (λ is. told.other is clean) (λ fault is known. told.failed fault is known clean) c.requires.found_idle

@@ -19,6 +19,12 @@ returns-in-Err-clause-not_office g c told clean = elim c.if-eq.branch [
   | else-eq w ↦ absurd (let no = w.told-is in cc)
 ]
 
+pub returns-in-Err-clause-failed : goal.returns-in-Err-clause-failed
+returns-in-Err-clause-failed g c fault told known clean = elim c.if-eq.branch [
+  | then-eq w ↦ absurd (let no = w.told-is in cc)
+  | else-eq w ↦ (c.in-Err.error, c.in-Err.ensures.fails clean, cc (w.told-is, told, c.fault_of-fault.ensures))
+]
+
 pub returns-in-empty-clause-not_office : goal.returns-in-empty-clause-not_office
 returns-in-empty-clause-not_office g c told clean =
     let none = nothing c.in-Ok.rows.items c.as_slice.result.now c.as_slice.ensures.value c.in-empty.len_below in
