@@ -70,6 +70,31 @@ of_new P new (r ∷ all) h = by (value_cmp (rowid r) (rowid new)) (of_new P new 
     by Equal rest h = h.0
     by Greater rest h = h.0
 
+-- where no row passes a test once a row was put in at a free number, none passed before
+pub none_before : (test : Row → Bool) (new : Row) (all : List Row) → is_taken all new ≡ false → list_any test (put_row new all) ≡ false → list_any test all ≡ false
+none_before test new [] free h = refl
+none_before test new (r ∷ all) free h = by (value_cmp (rowid r) (rowid new)) (none_before test new all) free h
+  where
+    by : (o : Ordering) → (is_taken all new ≡ false → list_any test (put_row new all) ≡ false → list_any test all ≡ false)
+        → (is_eq o || is_taken all new) ≡ false → list_any test (match_ordering o (r ∷ put_row new all) (new ∷ all) (new ∷ r ∷ all)) ≡ false → (test r || list_any test all) ≡ false
+    by Less rest free h =
+        let both = either_false (test r) (list_any test (put_row new all)) h in
+        let here = both.0 in
+        rw here (rest free both.1)
+    by Equal rest free h = absurd (cc)
+    by Greater rest free h = (either_false (test new) (test r || list_any test all) h).1
+
+-- what holds of each row held of each before one was put in at a free number
+pub of_old : (P : Row → Type 0) (new : Row) (all : List Row) → is_taken all new ≡ false → AllByRecursion P (put_row new all) → AllByRecursion P all
+of_old P new [] free h = tt
+of_old P new (r ∷ all) free h = by (value_cmp (rowid r) (rowid new)) (of_old P new all) free h
+  where
+    by : (o : Ordering) → (is_taken all new ≡ false → AllByRecursion P (put_row new all) → AllByRecursion P all) → (is_eq o || is_taken all new) ≡ false
+        → AllByRecursion P (match_ordering o (r ∷ put_row new all) (new ∷ all) (new ∷ r ∷ all)) → AllByRecursion P (r ∷ all)
+    by Less rest free h = (h.0, rest free h.1)
+    by Equal rest free h = absurd (cc)
+    by Greater rest free h = h.1
+
 pub none_left : {X : Type 0} (xs : List X) → length xs ≡ 0 → xs ≡ []
 none_left [] h = refl
 none_left (x ∷ xs) h = absurd (omega (arith, h))
@@ -78,19 +103,6 @@ module _ (point slot : ℕ) (new : Row) (first : column new 1 ≡ Int (pos point
   -- another row has the key
   abbrev pub clash : Row → Bool
   clash other = agree plain (1 ∷ 2 ∷ []) other (1 ∷ 2 ∷ []) new && differ (rowid other) (rowid new)
-
-  among_others : (all : List Row) → is_taken all new ≡ false → list_any clash (put_row new all) ≡ false → list_any clash all ≡ false
-  among_others [] free h = refl
-  among_others (r ∷ all) free h = by (value_cmp (rowid r) (rowid new)) (among_others all) free h
-    where
-      by : (o : Ordering) → (is_taken all new ≡ false → list_any clash (put_row new all) ≡ false → list_any clash all ≡ false)
-          → (is_eq o || is_taken all new) ≡ false → list_any clash (match_ordering o (r ∷ put_row new all) (new ∷ all) (new ∷ r ∷ all)) ≡ false → (clash r || list_any clash all) ≡ false
-      by Less rest free h =
-          let both = either_false (clash r) (list_any clash (put_row new all)) h in
-          let here = both.0 in
-          rw here (rest free both.1)
-      by Equal rest free h = absurd (cc)
-      by Greater rest free h = (either_false (clash new) (clash r || list_any clash all) h).1
 
   agrees : (r : Row) (e : Key × Reading) → stored_reading r ≡ Some e → agree plain (1 ∷ 2 ∷ []) r (1 ∷ 2 ∷ []) new ≡ keep point slot e
   unfolding first_key
@@ -119,6 +131,6 @@ module _ (point slot : ℕ) (new : Row) (first : column new 1 ≡ Int (pos point
   pub was_free : (all : List Row) (es kept : Readings) → map stored_reading all ≡ map Some es → IsPermutation es kept → AllByRecursion (λ r. IsTrue (is_int (rowid r))) all → is_taken all new ≡ false
       → list_any clash (put_row new all) ≡ false → reading_at kept (point, slot) ≡ None
   was_free all es kept stored permuted ints free clear =
-      let none = none_kept all es stored ints free (among_others all free clear) in
+      let none = none_kept all es stored ints free (none_before clash new all free clear) in
       let as_many = length_permutation (filter (keep point slot) es) (filter (keep point slot) kept) (IsPermutation-filter (keep point slot) es kept permuted) in
       finds_none key_cmp (point, slot) (keep point slot) (same point slot) kept (none_left (filter (keep point slot) kept) (as_many ∙ ap length none))

@@ -18,6 +18,8 @@ mod Putting
 mod Unchanged
 mod FreeKeys
 mod PutReading
+mod RowsTogether
+mod PutFive
 mod MarkReading
 mod NewRows
 mod Spoken

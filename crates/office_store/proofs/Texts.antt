@@ -80,6 +80,18 @@ pub put_reading_is : (command_of (understood office_schema put_reading_text) ≡
 unfolding understood everything
 put_reading_is = (refl, (refl, refl))
 
+abbrev pub put_five_text : List ℕ
+put_five_text = codes "INSERT INTO reading(point, slot, words, counted) VALUES (?, ?, ?, ?), (?, ?, ?, ?), (?, ?, ?, ?), (?, ?, ?, ?), (?, ?, ?, ?)"
+
+abbrev pub put_five_terms : List Term
+put_five_terms =
+    lit Null ∷ col 0 0 ∷ col 0 1 ∷ col 0 2 ∷ col 0 3 ∷ lit Null ∷ col 0 4 ∷ col 0 5 ∷ col 0 6 ∷ col 0 7 ∷ lit Null ∷ col 0 8 ∷ col 0 9 ∷ col 0 10 ∷ col 0 11
+    ∷ lit Null ∷ col 0 12 ∷ col 0 13 ∷ col 0 14 ∷ col 0 15 ∷ lit Null ∷ col 0 16 ∷ col 0 17 ∷ col 0 18 ∷ col 0 19 ∷ []
+
+pub put_five_is : (command_of (understood office_schema put_five_text) ≡ Insert 2 (Values put_five_terms 5)) × IsPlain (understood office_schema put_five_text)
+unfolding understood everything
+put_five_is = (refl, (refl, refl))
+
 abbrev pub mark_reading_text : List ℕ
 mark_reading_text = codes "UPDATE reading SET counted = ?3 WHERE point = ?1 AND slot = ?2"
 

@@ -18,10 +18,12 @@ use Rattle.point_list.specs.declared.point.Role.{Role}
 use Rattle.point_list.specs.declared.point.Role.TheVariants.{Gauge, Counter, Setting as Set}
 use Rattle.poll_book.specs.declared.rows.PointRow.{PointRow}
 use Rattle.poll_book.specs.declared.rows.Reading.{Reading}
+use Rattle.poll_book.specs.declared.rows.ReadingRow.{ReadingRow}
 use Rattle.poll_book.specs.declared.rows.Setting.{Setting}
 use Rattle.poll_book.specs.declared.rows.OrderState.{OrderState}
 use Rattle.poll_book.specs.declared.rows.OrderState.TheVariants.{Waiting, Done, Refused}
 use Rattle.poll_book.specs.Tables.{Key}
+use Rattle.poll_book.specs.Changes.{as_row}
 use Rattle.poll_book.specs.Totals.{is_counter}
 use Rattle.poll_book.specs.Callers.{is_caller, is_key}
 use Rattle.poll_book.specs.Requests.{RequestKey}
@@ -140,6 +142,11 @@ stored_reading = reading_from 1
 
 abbrev pub shown_reading : Row → Option (Key × Reading)
 shown_reading = reading_from 0
+
+-- these values are those of a reading's row
+pub record IsRowOf (row : ReadingRow) (values : Row) : Type 0 where
+  pub are : values ≡ Int (pos row.point) ∷ Int (pos row.slot) ∷ Blob (register_bytes row.words) ∷ Int (if row.counted then pos 1 else pos 0) ∷ []
+  pub reads : shown_reading values ≡ Some (as_row row)
 
 -- ---- totals
 

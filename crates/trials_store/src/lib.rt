@@ -1,6 +1,6 @@
 //! What an office over a database keeps: which databases and sites open, what a stop at each write
-//! leaves, files that are full, that fail once, and that have a damaged byte; rows that no office writes; the totals
-//! that are stored.
+//! leaves, files that are full, that fail once, and that have a damaged byte; rows that no office writes;
+//! readings that are written together; the totals that are stored.
 #![tactic(auto)]
 
 #[cfg(test)]
@@ -15,5 +15,7 @@ mod opening;
 mod plays;
 #[cfg(test)]
 mod stops;
+#[cfg(test)]
+mod together;
 #[cfg(test)]
 mod totals;
