@@ -41,3 +41,24 @@ pub(crate) fn list(alloc: Global, page: &[Block<'_>], input: &str) -> Result<Str
 pub(crate) fn records(alloc: Global, page: &[Block<'_>], input: &str) -> Result<String, Trouble> {
     list(alloc, page, format!(in alloc; "{HEADER}{input}")?.as_str())
 }
+
+/// What comes of the beginnings of a list, and of the whole: from which length on, and what.
+pub(crate) fn beginnings(
+    alloc: Global,
+    page: &[Block<'_>],
+    input: &str,
+) -> Result<String, Trouble> {
+    let site = file_of(page, "site.toml")?;
+    let bytes = bytes_of(alloc, input)?;
+    let mut all = String::new(alloc);
+    let mut last = String::new(alloc);
+    for length in 0..=bytes.len() {
+        let beginning = bytes.get(..length).unwrap_or(&[]);
+        let now = outcome(alloc, last_of(alloc, site, beginning))?;
+        if now.as_str() != last.as_str() {
+            write!(all, "; from {length} {now}")?;
+            last = now;
+        }
+    }
+    Ok(String::from_str(alloc, all.as_str().trim_start_matches("; "))?)
+}

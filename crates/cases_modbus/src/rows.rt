@@ -34,6 +34,7 @@ impl Outcomes for Rows<'_> {
             "common" => chains::common_model(alloc, input),
             "records" => lists::records(alloc, page, input),
             "lists" => lists::list(alloc, page, input),
+            "list beginnings" => lists::beginnings(alloc, page, input),
             "sites" => sites::site(alloc, input),
             "devices" => sites::devices(alloc, input),
             "names" => sites::name(alloc, page, input),

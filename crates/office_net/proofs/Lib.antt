@@ -23,3 +23,4 @@ pub mod Shown
 pub mod Connected
 pub mod Leading
 pub mod Stepped
+pub mod Readable

@@ -1,24 +1,16 @@
 -- The jobs of a line, from those of its devices.
 use Rattle.std.proofs.Common.{◌≡◌, ℕ, ◌+◌, Bool, true, false, cond, List, [], ◌∷◌, ◌++◌, take, refl, sym, ap, ◌∙◌, subst, append_assoc}
-use Rattle.std.specs.Prelude.{All, ◌==◌, filter}
-use Rattle.std.specs.Str.{bytes_eq}
+use Rattle.std.specs.Prelude.{◌==◌, filter}
 use Rattle.std.proofs.lemmas.List.{append-nil}
-use Rattle.std.proofs.lemmas.List.Elements.{All-map, All-filter}
 use Rattle.point_list.specs.declared.point.Point.{Point}
 use Rattle.point_list.specs.declared.site.Device.{Device}
 use Rattle.read_planner.specs.declared.Read.{Read as AskedRead}
 use Rattle.read_planner.specs.Allowed.{AreAllowed, AreFewest, HoldsAll}
 use Rattle.read_planner.specs.Chosen.{AreChosen}
-use Rattle.read_planner.specs.Place.{CanBeRead, places_of}
+use Rattle.read_planner.specs.Place.{places_of}
 use Rattle.poll_book.specs.declared.rows.PointRow.{PointRow}
 use Rattle.office_net.specs.declared.job.LineJob.{LineJob}
 use Rattle.office_net.specs.Jobs.{AreDeviceJobs, ArePlanned, device_jobs, points_on}
-
--- the points of a device can be read, where all can
-pub readable_on : (known : List PointRow) (device : List ℕ) → All (λ (row : PointRow). CanBeRead row.point) known → All CanBeRead (points_on known device)
-readable_on known device all =
-    let of : PointRow → Bool = λ row. bytes_eq row.point.device device in
-    All-map CanBeRead (λ (row : PointRow). row.point) (filter of known) (All-filter of (λ (row : PointRow). CanBeRead row.point) known all)
 
 -- what is planned for these points is planned for the device's
 pub planned_for : (known : List PointRow) (device : Device) (points : List Point) (reads : List AskedRead) → points ≡ points_on known device.name
@@ -72,7 +64,3 @@ jobs_next known line i all device old new next are other own =
     by false is =
         subst (AreDeviceJobs known (filter (λ (d : Device). d.line == line) (take i all) ++ [])) (sym (other is))
         (subst (λ l. AreDeviceJobs known l old) (sym (append-nil (filter (λ (d : Device). d.line == line) (take i all)))) are)
-
--- a test that was passed didn't fail
-pub refused_none : {P : Type 0} {b : Bool} → b ≡ true → b ≡ false → P
-refused_none {P} {b} passed failed = let same : true ≡ false = sym passed ∙ failed in absurd (cc)

@@ -1,13 +1,15 @@
 -- What a round has to do.
-use Rattle.std.specs.Prelude.{◌≡◌, ℕ, true, ◌==◌, List, [], ◌∷◌, ◌++◌, map, filter, Some, option_map}
+use Rattle.std.specs.Prelude.{◌≡◌, ℕ, ◌+◌, ◌&&◌, Bool, true, ◌==◌, leb, List, [], ◌∷◌, ◌++◌, map, filter, Some, option_map}
 use Rattle.std.specs.Str.{bytes_eq}
+use Rattle.sunspec.specs.declared.point_type.PointType.{PointType}
+use Rattle.sunspec.specs.declared.point_type.PointType.TheVariants.{Str}
 use Rattle.point_list.specs.declared.point.Point.{Point}
 use Rattle.point_list.specs.declared.site.Device.{Device}
 use Rattle.point_list.specs.declared.site.Site.{Site}
 use Rattle.point_list.specs.Sites.{device_named}
 use Rattle.read_planner.specs.declared.Read.{Read as AskedRead}
 use Rattle.read_planner.specs.Read.{is_valid_read}
-use Rattle.read_planner.specs.Place.{places_of}
+use Rattle.read_planner.specs.Place.{places_of, size_of}
 use Rattle.read_planner.specs.Allowed.{AreAllowed, AreFewest, HoldsAll}
 use Rattle.read_planner.specs.Chosen.{AreChosen}
 use Rattle.poll_book.specs.declared.rows.PointRow.{PointRow}
@@ -17,6 +19,19 @@ use Rattle.office_net.specs.declared.job.LineJob.{LineJob}
 use Rattle.office_net.specs.declared.job.LineJob.TheVariants.{Order, Read}
 
 -- ---- the jobs of a line
+
+-- a type that has 1 to 125 registers
+abbrev pub has_size : PointType → Bool
+has_size (Str registers) = leb 1 registers && leb registers 125
+has_size _ = true
+
+-- a point that a read can hold: its type has 1 to 125 registers, and it ends by the last address
+abbrev pub can_read : Point → Bool
+can_read point = has_size point.kind && leb (point.address + size_of point) 65536
+
+-- those of the known points that a read can hold: all of them, where lists said them
+abbrev pub readable : List PointRow → List PointRow
+readable known = filter (λ (row : PointRow). can_read row.point) known
 
 -- the known points of a device
 abbrev pub points_on : List PointRow → List ℕ → List Point

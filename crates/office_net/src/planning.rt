@@ -1,10 +1,10 @@
 //! The jobs of a line.
-ghost use Rattle.std.specs.Prelude.{◌≡◌, ◌++◌, ◌↔◌, ◌==◌, All, IfOk, IsTrue, List, false, true};
+ghost use Rattle.std.specs.Prelude.{◌≡◌, ◌++◌, ◌==◌, All, IfOk, List, false, true};
 ghost use Rattle.std.specs.Str.{bytes_eq};
 ghost use Rattle.read_planner.specs.declared.Read.{Read};
 ghost use Rattle.read_planner.specs.Place.{CanBeRead};
 ghost use Rattle.office_net.specs.declared.job.LineJob.TheVariants as jobs;
-ghost use Rattle.office_net.specs.Jobs.{AreDeviceJobs, ArePlanned, device_jobs, devices_on, points_on};
+ghost use Rattle.office_net.specs.Jobs.{AreDeviceJobs, ArePlanned, can_read, device_jobs, devices_on, points_on, readable};
 
 use crate::job::LineJob;
 use point_list::{Device, Point, Site, Text};
@@ -19,32 +19,32 @@ fn is_of(row: &PointRow, device: &str) -> bool
     row.point.device.as_str() == device
 }
 
-/// The known points of a device.
+/// Whether a point can be read.
+fn is_readable(row: &PointRow) -> bool
+    ensures { result ≡ can_read row.now.point }
+{
+    can_be_read(&row.point)
+}
+
+/// The known points of a device that can be read.
 fn points_of(alloc: Global, known: &[PointRow], device: &str) -> Result<Vec<Point>, AllocError>
-    ensures { IfOk result (λ points. points.items ≡ points_on known.now device.now) }
+    ensures read { IfOk result (λ points. points.items ≡ points_on (readable known.now) device.now) }
+    ensures all { IfOk result (λ points. All CanBeRead points.items) }
 {
     known
         .iter()
+        .filter(|row| is_readable(row))
         .filter(|row| is_of(row, device))
         .map(|row| row.point)
         .collect(alloc)
 }
 
-/// Whether all points can be read.
-fn are_readable(points: &[Point]) -> bool
-    ensures { IsTrue result ↔ All CanBeRead points.now }
-{
-    points.iter().all(|point| can_be_read(point))
-}
-
-/// The reads of a device. Points that were accepted can be read; of others there are none.
+/// The reads of a device: those that are planned for its known points. One that can't be read, which no list
+/// says, is left out.
 pub fn reads_of(alloc: Global, known: &[PointRow], device: &Device) -> Result<Vec<Read>, AllocError>
-    ensures { All (λ row. CanBeRead row.point) known.now → IfOk result (λ reads. ArePlanned known.now device.now reads.items) }
+    ensures { IfOk result (λ reads. ArePlanned (readable known.now) device.now reads.items) }
 {
     let points = points_of(alloc, known, device.name.as_str())?;
-    if !are_readable(points.as_slice()) {
-        return Ok(Vec::new(alloc));
-    }
     let reads = plan(alloc, points.as_slice(), device.gap)?;
     Ok(reads)
 }
