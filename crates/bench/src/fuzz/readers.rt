@@ -129,12 +129,8 @@ pub fn words(alloc: Global, bytes: &[u8]) -> Result<Came, Trouble> {
     }
 }
 
-/// What is answered to a connection's bytes over HTTP.
-pub fn answer(
-    alloc: Global,
-    office: &mut Office<MemKeeper>,
-    bytes: &[u8],
-) -> Result<Vec<u8>, Trouble> {
+/// A connection's bytes over HTTP. What is refused before an office hears of it changes nothing there.
+pub fn call(alloc: Global, office: &mut Office<MemKeeper>, bytes: &[u8]) -> Result<Came, Trouble> {
     let mut reader = Counted::new(bytes);
     let mut writer = Counted::new(Vec::new(alloc));
     if serve_one(alloc, office, &mut reader, &mut writer).is_err() {
@@ -142,12 +138,10 @@ pub fn answer(
     }
     let answer = writer.into_inner();
     if answer.starts_with(b"HTTP/1.1 503") {
-        return Err(Trouble::Memory);
+        Err(Trouble::Memory)
+    } else if answer.starts_with(b"HTTP/1.1 2") {
+        Ok(Came::Value)
+    } else {
+        Ok(Came::Refused)
     }
-    Ok(answer)
-}
-
-/// Whether an office may keep something behind an answer: a request that was taken, or one whose refusal is kept.
-pub fn may_keep(answer: &[u8]) -> bool {
-    answer.starts_with(b"HTTP/1.1 201") || answer.starts_with(b"HTTP/1.1 422")
 }
