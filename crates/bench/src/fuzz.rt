@@ -16,6 +16,7 @@ use std::time::{Duration, SystemTime};
 mod dice;
 mod readers;
 mod samples;
+mod stores;
 
 /// How many inputs each reader gets.
 const CASES: u32 = 100_000;
@@ -182,21 +183,34 @@ fn kept_by(alloc: Global, office: &mut Office<MemKeeper>) -> io::Result<String> 
     granted(shown(alloc, office).ok())
 }
 
-/// A request that comes to an office. Where it asks for nothing that is kept, the office stays as it was.
-fn call(rt: &HostRuntime, office: &mut Office<MemKeeper>, bytes: &[u8]) -> io::Result<Came> {
+/// What is wrong with an office that was asked for something, if anything is: what it keeps is another, though the
+/// answer says that nothing new is kept.
+fn wrong_behind(answer: &[u8], before: &str, after: &str) -> Option<Trouble> {
+    if before == after || readers::may_keep(answer) {
+        return None;
+    }
+    Some(Trouble::Wrong("an office that isn't as before"))
+}
+
+/// What came of a request to an office.
+fn call(
+    rt: &HostRuntime,
+    office: &mut Office<MemKeeper>,
+    bytes: &[u8],
+) -> io::Result<Result<Came, Trouble>> {
     let before = kept_by(rt.alloc(), office)?;
-    let came = match readers::call(rt.alloc(), office, bytes) {
-        Ok(came) => came,
-        Err(trouble) => {
-            told(rt, bytes, trouble)?;
-            return Ok(Came::Refused);
-        }
+    let answer = match readers::answer(rt.alloc(), office, bytes) {
+        Ok(answer) => answer,
+        Err(trouble) => return Ok(Err(trouble)),
     };
     let after = kept_by(rt.alloc(), office)?;
-    if came == Came::Refused && !bytes.starts_with(b"PUT") && before.as_str() != after.as_str() {
-        told(rt, bytes, Trouble::Wrong("an office that isn't as before"))?;
-    }
-    Ok(came)
+    Ok(
+        match wrong_behind(&answer, before.as_str(), after.as_str()) {
+            Some(trouble) => Err(trouble),
+            None if answer.starts_with(b"HTTP/1.1 2") => Ok(Came::Value),
+            None => Ok(Came::Refused),
+        },
+    )
 }
 
 fn try_calls(rt: &HostRuntime, dice: &mut Dice, tally: &mut Tally) -> io::Result<()> {
@@ -204,7 +218,7 @@ fn try_calls(rt: &HostRuntime, dice: &mut Dice, tally: &mut Tally) -> io::Result
     for _ in 0..CALLS {
         let bytes = drawn(rt.alloc(), dice, samples::CALLS)?;
         let (came, took) = timed!(rt, call(rt, &mut office, &bytes)?);
-        tally.count(rt, &bytes, Ok(came), took)?;
+        tally.count(rt, &bytes, came, took)?;
     }
     Ok(())
 }
@@ -215,6 +229,17 @@ fn try_offices(rt: &HostRuntime, dice: &mut Dice) -> io::Result<()> {
         try_calls(rt, dice, &mut tally)?;
     }
     tally.print(rt, "Call")
+}
+
+fn try_stores(rt: &HostRuntime, dice: &mut Dice) -> io::Result<()> {
+    let sound = stores::sound(rt.alloc())?;
+    let mut tally = Tally::NONE;
+    for _ in 0..CASES {
+        let bytes = stores::damaged(rt.alloc(), dice, &sound)?;
+        let (came, took) = timed!(rt, stores::looked_in(rt.alloc(), &bytes));
+        tally.count(rt, &bytes, came, took)?;
+    }
+    tally.print(rt, "Store")
 }
 
 /// The nanoseconds of the clock's second.
@@ -239,5 +264,6 @@ pub fn run(rt: &HostRuntime, given: Option<u64>) -> io::Result<()> {
     for reader in READERS {
         try_reader(rt, &mut dice, &known, *reader)?;
     }
-    try_offices(rt, &mut dice)
+    try_offices(rt, &mut dice)?;
+    try_stores(rt, &mut dice)
 }

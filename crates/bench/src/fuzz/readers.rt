@@ -129,8 +129,12 @@ pub fn words(alloc: Global, bytes: &[u8]) -> Result<Came, Trouble> {
     }
 }
 
-/// A connection's bytes over HTTP. What is refused before an office hears of it changes nothing there.
-pub fn call(alloc: Global, office: &mut Office<MemKeeper>, bytes: &[u8]) -> Result<Came, Trouble> {
+/// What is answered to a connection's bytes over HTTP.
+pub fn answer(
+    alloc: Global,
+    office: &mut Office<MemKeeper>,
+    bytes: &[u8],
+) -> Result<Vec<u8>, Trouble> {
     let mut reader = Counted::new(bytes);
     let mut writer = Counted::new(Vec::new(alloc));
     if serve_one(alloc, office, &mut reader, &mut writer).is_err() {
@@ -138,10 +142,12 @@ pub fn call(alloc: Global, office: &mut Office<MemKeeper>, bytes: &[u8]) -> Resu
     }
     let answer = writer.into_inner();
     if answer.starts_with(b"HTTP/1.1 503") {
-        Err(Trouble::Memory)
-    } else if answer.starts_with(b"HTTP/1.1 2") {
-        Ok(Came::Value)
-    } else {
-        Ok(Came::Refused)
+        return Err(Trouble::Memory);
     }
+    Ok(answer)
+}
+
+/// Whether an office may keep something behind an answer: a request that was taken, or one whose refusal is kept.
+pub fn may_keep(answer: &[u8]) -> bool {
+    answer.starts_with(b"HTTP/1.1 201") || answer.starts_with(b"HTTP/1.1 422")
 }
