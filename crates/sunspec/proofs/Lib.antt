@@ -10,3 +10,4 @@ pub mod PrintableBytes
 pub mod Walked
 pub mod OneWalk
 pub mod CommonModel
+pub mod Arranged

@@ -100,6 +100,48 @@ address_row Ipaddr e = refl
 address_row (Str registers) e = cc
 address_row Bit e = cc
 
+-- a cell is one
+pub cell_row : (kind : PointType) → (row kind).content ≡ Cell → (row kind).registers ≡ 1
+unfolding row
+cell_row Int16 e = cc
+cell_row Uint16 e = cc
+cell_row Acc16 e = cc
+cell_row Enum16 e = cc
+cell_row Bitfield16 e = cc
+cell_row Sunssf e = cc
+cell_row Int32 e = cc
+cell_row Uint32 e = cc
+cell_row Acc32 e = cc
+cell_row Enum32 e = cc
+cell_row Bitfield32 e = cc
+cell_row Int64 e = cc
+cell_row Uint64 e = cc
+cell_row Acc64 e = cc
+cell_row Ipaddr e = cc
+cell_row (Str registers) e = cc
+cell_row Bit e = refl
+
+-- every type has some register
+pub some_registers : (kind : PointType) → IsSized kind → 0 < (row kind).registers
+unfolding row
+some_registers (Str registers) sized = omega (arith, sized.0)
+some_registers Int16 sized = omega arith
+some_registers Uint16 sized = omega arith
+some_registers Acc16 sized = omega arith
+some_registers Enum16 sized = omega arith
+some_registers Bitfield16 sized = omega arith
+some_registers Sunssf sized = omega arith
+some_registers Int32 sized = omega arith
+some_registers Uint32 sized = omega arith
+some_registers Acc32 sized = omega arith
+some_registers Enum32 sized = omega arith
+some_registers Bitfield32 sized = omega arith
+some_registers Int64 sized = omega arith
+some_registers Uint64 sized = omega arith
+some_registers Acc64 sized = omega arith
+some_registers Ipaddr sized = omega arith
+some_registers Bit sized = omega arith
+
 -- a bit is the one type of a cell
 not_cell : (kind : PointType) → kind ≢ Bit → (row kind).content ≢ Cell
 unfolding row

@@ -3,6 +3,7 @@ pub mod Digits
 pub mod FixedText
 pub mod Text
 pub mod Value
+pub mod WordOrder
 pub mod Sources
 pub mod Chains
 pub mod Walks

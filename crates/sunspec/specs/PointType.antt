@@ -1,6 +1,6 @@
 -- The table of point types (SunSpec Device Information Model, point types; which values mean
 -- unimplemented is this project's profile).
-use Rattle.std.specs.Prelude.{◌≤◌, ℕ, ◌*◌, Bool, false, true, List, [], ◌∷◌, Option, Some, None, ◌&&◌, nat_le, ◌==◌, if◌then◌else◌, bytes_eq, codes, find}
+use Rattle.std.specs.Prelude.{◌≤◌, ℕ, ◌*◌, Bool, false, true, List, [], ◌∷◌, Option, Some, None, ◌&&◌, ◌||◌, nat_le, ◌==◌, if◌then◌else◌, bytes_eq, codes, find}
 use Rattle.sunspec.specs.declared.point_type.PointType.{PointType}
 use Rattle.sunspec.specs.declared.point_type.PointType.TheVariants.{Int16, Uint16, Acc16, Enum16, Bitfield16, Sunssf, Int32, Uint32, Acc32, Enum32, Bitfield32, Int64, Uint64, Acc64, Ipaddr, Str, Bit}
 use Rattle.sunspec.specs.declared.point_type.Row.{Row}
@@ -104,6 +104,14 @@ bits Text registers = 0
 
 abbrev pub bits_of : PointType → ℕ
 bits_of kind = bits (row kind).content (row kind).registers
+
+-- whether registers can be sent with the least significant one first: those of a number that has two or four
+abbrev pub swaps : Content → ℕ → Bool
+swaps Text registers = false
+swaps content registers = registers == 2 || registers == 4
+
+abbrev pub can_be_swapped : PointType → Bool
+can_be_swapped kind = swaps (row kind).content (row kind).registers
 
 -- whether a sum of registers is that of a point which is not implemented
 abbrev pub is_unimplemented : Option ℕ → ℕ → Bool

@@ -1,9 +1,11 @@
 ghost use Rattle.std.specs.Prelude.{◌≡◌, ◌≢◌, ◌≤◌, ◌<◌, ◌^◌, ◌*◌, ℕ, List, pos, length, IfErr, IfNone, IfOk, IfSome};
 ghost use Rattle.sunspec.specs.declared.value.Value.{Value};
 ghost use Rattle.sunspec.specs.Value.{AreRegistersOf, AreWords, number_meant, register_sum, twos_complement, value};
+ghost use Rattle.sunspec.specs.WordOrder.{arranged};
 
 use crate::error::SunError;
 use crate::point_type::{Content, PointType, greatest_of};
+use crate::word_order::{WordOrder, swapped};
 use mb_pdu::Registers;
 
 /// The registers of a type whose value is the number. `OutOfRange` comes exactly where there are
@@ -29,6 +31,23 @@ pub fn to_registers(kind: &PointType, number: i128) -> Result<Registers, SunErro
             Ok(words_of(sum, row.registers))
         }
     }
+}
+
+/// The registers of a type whose value is the number where they are sent in the order: swapped ones
+/// have the most significant register last. `OutOfRange` comes exactly where there are none, which
+/// is in no order or in both. `to_registers` is this for `Big`.
+pub fn to_ordered(kind: &PointType, order: WordOrder, number: i128) -> Result<Registers, SunError>
+    ensures registers { IfOk result (λ words. AreWords words × AreRegistersOf kind.now words) }
+    ensures value { IfOk result (λ words. value kind.now (arranged order words) ≡ Value.Number number) }
+    ensures refused { IfErr result (λ e. e ≡ SunError.OutOfRange) }
+    ensures none { IfErr result (λ _. (words : List ℕ) → AreWords words
+        → AreRegistersOf kind.now words → value kind.now (arranged order words) ≢ Value.Number number) }
+{
+    let words = to_registers(kind, number)?;
+    Ok(match order {
+        WordOrder::Big => words,
+        WordOrder::Swapped => swapped(words.as_slice()),
+    })
 }
 
 // The sum of the registers that mean the number.

@@ -5,10 +5,12 @@ ghost use Rattle.sunspec.specs.Chains.{IsChain, IsChainless};
 ghost use Rattle.sunspec.specs.PointType.{IsSized, coded, named, resized, row};
 ghost use Rattle.sunspec.specs.Sources.{Image};
 ghost use Rattle.sunspec.specs.Value.{AreRegistersOf, AreWords, value};
+ghost use Rattle.sunspec.specs.WordOrder.{arranged};
 ghost use Rattle.sunspec.specs.declared.chain.Chain.{Chain};
 ghost use Rattle.sunspec.specs.declared.error.SunError.{SunError};
 ghost use Rattle.sunspec.specs.declared.point_type.PointType.{PointType};
 ghost use Rattle.sunspec.specs.declared.value.Value.{Value};
+ghost use Rattle.sunspec.specs.declared.word_order.WordOrder.{WordOrder};
 
 /// A type is told by its name and its number of registers, and by its code and that number.
 pub fn table()
@@ -18,10 +20,10 @@ pub fn table()
     ensures codes { (a b : PointType) → IsSized a → IsSized b → (row a).registers ≡ (row b).registers → (row a).code ≡ (row b).code → a ≡ b }
 {}
 
-/// A number has one spelling in registers of a type.
+/// A number has one spelling in registers of a type that are sent in an order.
 pub fn one_spelling()
-    ensures { (kind : PointType) (number : ℤ) (a b : List ℕ) → AreWords a → AreWords b → AreRegistersOf kind a → AreRegistersOf kind b
-        → value kind a ≡ Value.Number number → value kind b ≡ Value.Number number → a ≡ b }
+    ensures { (kind : PointType) (order : WordOrder) (number : ℤ) (a b : List ℕ) → AreWords a → AreWords b → AreRegistersOf kind a → AreRegistersOf kind b
+        → value kind (arranged order a) ≡ Value.Number number → value kind (arranged order b) ≡ Value.Number number → a ≡ b }
 {}
 
 /// An image says one thing: one chain of models, or one reason why it has none.

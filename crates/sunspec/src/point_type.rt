@@ -1,6 +1,6 @@
 ghost use Rattle.std.specs.Prelude.{◌≡◌, ◌↔◌, ◌^◌, ◌-◌, ◌≤◌, IfSome, IsTrue, MatchResult, None, Some};
 ghost use Rattle.sunspec.specs.Value.{AreRegistersOf};
-ghost use Rattle.sunspec.specs.PointType.{IsSized, bits, bits_of, coded, is_unimplemented, named, resized, row, row_shown};
+ghost use Rattle.sunspec.specs.PointType.{IsSized, bits, bits_of, can_be_swapped, coded, is_unimplemented, named, resized, row, row_shown};
 
 use std::fmt;
 use std::str::FromStr;
@@ -257,6 +257,18 @@ impl PointType {
         ensures { result ≡ (row self.now).can_be_set }
     {
         self.row().can_be_set
+    }
+
+    /// Whether a device may send the registers of the type with the least significant one first: those
+    /// of a number that has two or four.
+    pub fn can_be_swapped(&self) -> bool
+        ensures { result ≡ can_be_swapped self.now }
+    {
+        let row = self.row();
+        match row.content {
+            Content::Text => false,
+            _ => row.registers == 2 || row.registers == 4,
+        }
     }
 
     /// The greatest number of the type's bits: 2^16 - 1, 2^32 - 1 or 2^64 - 1, 1 for a bit and 0

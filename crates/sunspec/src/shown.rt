@@ -4,11 +4,13 @@ ghost use Rattle.sunspec.specs.declared.error.SunError.{SunError};
 ghost use Rattle.sunspec.specs.PointType.{IsSized, row};
 ghost use Rattle.sunspec.specs.Text.{IsScale, dotted, number_shown, printable, shown, value_shown};
 ghost use Rattle.sunspec.specs.Value.{AreRegistersOf};
+ghost use Rattle.sunspec.specs.WordOrder.{arranged};
 
 use crate::error::SunError;
 use crate::point_type::{Content, PointType};
 use crate::scaled::{is_scale, text_at};
 use crate::value::{Value, read_value};
+use crate::word_order::{WordOrder, swapped};
 use std::alloc::{AllocError, Global};
 
 /// The text of registers as reports, scripts and answers show it, or `None` where the point is not
@@ -35,6 +37,33 @@ pub fn shown_text(
         return Err(SunError::BadScale);
     }
     Ok(text_within(alloc, kind, words, scale)?)
+}
+
+/// The text of registers that are sent in an order; `shown_text` is this for `Big`.
+pub fn shown_ordered(
+    alloc: Global,
+    kind: &PointType,
+    order: WordOrder,
+    words: &[u16],
+    scale: i32,
+) -> Result<Option<String>, SunError>
+    requires sized { IsSized kind.now }
+    requires registers { AreRegistersOf kind.now words.now }
+    ensures text { IfOk result (λ text. option_map string_bytes text
+        ≡ shown kind.now scale (arranged order words.now)) }
+    ensures within { OnOk result (IsScale scale) }
+    ensures bad_scale { IsErrOf result SunError.BadScale
+        ↔ ((scale <ℤ negsuc 9) ⊎ (pos 10 <ℤ scale)) }
+    ensures memory { IfErr result (λ e. (e ≡ SunError.BadScale)
+        ⊎ ((e ≡ SunError.Memory) × IsScale scale)) }
+{
+    match order {
+        WordOrder::Big => shown_text(alloc, kind, words, scale),
+        WordOrder::Swapped => {
+            let words = swapped(words);
+            shown_text(alloc, kind, words.as_slice(), scale)
+        }
+    }
 }
 
 fn text_within(

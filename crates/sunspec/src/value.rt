@@ -3,9 +3,11 @@ ghost use Rattle.std.specs.List.{before_first, list_all};
 ghost use Rattle.mb_pdu.specs.Packing.{words_text};
 ghost use Rattle.sunspec.specs.PointType.{IsSized, bits};
 ghost use Rattle.sunspec.specs.Value.{AreRegistersOf, number_meant, register_sum, text_meant, value};
+ghost use Rattle.sunspec.specs.WordOrder.{arranged};
 
 use crate::fixed_text::ShortText;
 use crate::point_type::{Content, PointType, greatest_of};
+use crate::word_order::{WordOrder, swapped};
 
 /// What the registers of a point mean.
 #[derive(Clone, Copy, Debug, PartialEq, Eq)]
@@ -37,6 +39,23 @@ pub fn read_value(kind: &PointType, words: &[u16]) -> Value
                 return Value::Unimplemented;
             }
             Value::Number(number_of(content, row.bits(), sum))
+        }
+    }
+}
+
+/// What registers of a type mean that are sent in an order: of swapped ones the last is the most
+/// significant. `read_value` is this for `Big`.
+#[inline(always)]
+pub fn read_ordered(kind: &PointType, order: WordOrder, words: &[u16]) -> Value
+    requires sized { IsSized kind.now }
+    requires registers { AreRegistersOf kind.now words.now }
+    ensures { result ≡ value kind.now (arranged order words.now) }
+{
+    match order {
+        WordOrder::Big => read_value(kind, words),
+        WordOrder::Swapped => {
+            let words = swapped(words);
+            read_value(kind, words.as_slice())
         }
     }
 }

@@ -1,5 +1,5 @@
-use Rattle.sunspec.proofs.RoundTrips.{one_number}
+use Rattle.sunspec.proofs.Arranged.{one_arranged}
 use Rattle.sunspec.proofs.laws.one_spelling.Goals as goal
 
 pub returns : goal.returns
-returns c = one_number
+returns c = one_arranged
