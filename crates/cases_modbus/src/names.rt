@@ -52,7 +52,14 @@ pub(crate) fn kind(alloc: Global, input: &str) -> Result<String, Trouble> {
         return Ok(String::from_str(alloc, "no type")?);
     };
     let (code, registers, greatest) = (kind.code(), kind.registers(), kind.greatest());
-    let text = format!(in alloc; "{kind:?}: code {code}, registers {registers}, to {greatest}")?;
+    let orders = if kind.can_be_swapped() {
+        ", in either order"
+    } else {
+        ""
+    };
+    let text = format!(in alloc;
+        "{kind:?}: code {code}, registers {registers}, to {greatest}{orders}",
+    )?;
     unless(
         is_found_again(kind),
         ", and ANOTHER TYPE by its name or code",

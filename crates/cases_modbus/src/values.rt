@@ -5,12 +5,24 @@ use case_pages::{Trouble, hex_of};
 use mb_pdu::Registers;
 use std::alloc::{AllocError, Global};
 use std::str;
-use sunspec::{PointType, SunError, Value, read_value, scaled_text, shown_text, to_registers};
+use sunspec::{
+    PointType, SunError, Value, WordOrder, read_ordered, read_value, scaled_text, shown_ordered,
+    shown_text, to_ordered, to_registers,
+};
 
 /// What registers mean, if they can be registers of the type.
 fn value_of(kind: &PointType, words: &[u16]) -> Option<Value> {
     if kind.is_sized() && kind.has_registers(words) {
         Some(read_value(kind, words))
+    } else {
+        None
+    }
+}
+
+/// The same of registers that are sent in an order.
+fn value_in_order(kind: &PointType, order: WordOrder, words: &[u16]) -> Option<Value> {
+    if kind.is_sized() && kind.has_registers(words) {
+        Some(read_ordered(kind, order, words))
     } else {
         None
     }
@@ -47,6 +59,15 @@ fn split(input: &str) -> Result<(&str, &str), Trouble> {
     input.split_once(' ').ok_or(Trouble::Page("a word alone"))
 }
 
+/// An order's word, and what stands behind it.
+fn ordered(input: &str) -> Result<(WordOrder, &str), Trouble> {
+    let (word, rest) = split(input)?;
+    let order = word
+        .parse::<WordOrder>()
+        .map_err(|_| Trouble::Page("no order"))?;
+    Ok((order, rest))
+}
+
 /// The registers that bytes in hexadecimal digits are.
 fn registers_of(alloc: Global, text: &str) -> Result<Vec<u16>, Trouble> {
     let mut words = Vec::new(alloc);
@@ -67,32 +88,76 @@ fn bytes_text(alloc: Global, words: &[u16]) -> Result<String, AllocError> {
     hex_text(alloc, &bytes)
 }
 
-/// `TYPE REGISTERS`.
-pub(crate) fn read(alloc: Global, input: &str) -> Result<String, Trouble> {
-    let (kind, words) = typed(input)?;
-    match value_of(&kind, &registers_of(alloc, words)?) {
+/// The text of a value, or that there is none.
+fn found(alloc: Global, value: Option<Value>) -> Result<String, Trouble> {
+    match value {
         Some(value) => Ok(value_text(alloc, &value)?),
         None => Ok(String::from_str(alloc, "no registers of the type")?),
     }
+}
+
+/// `TYPE REGISTERS`.
+pub(crate) fn read(alloc: Global, input: &str) -> Result<String, Trouble> {
+    let (kind, words) = typed(input)?;
+    found(alloc, value_of(&kind, &registers_of(alloc, words)?))
+}
+
+/// `ORDER TYPE REGISTERS`.
+pub(crate) fn read_in_order(alloc: Global, input: &str) -> Result<String, Trouble> {
+    let (order, point) = ordered(input)?;
+    let (kind, words) = typed(point)?;
+    let words = registers_of(alloc, words)?;
+    found(alloc, value_in_order(&kind, order, &words))
 }
 
 fn written(kind: &PointType, number: i128) -> Result<Registers, SunError> {
     to_registers(kind, number)
 }
 
-/// `TYPE NUMBER`. The registers have to mean the number again.
+fn written_in_order(
+    kind: &PointType,
+    order: WordOrder,
+    number: i128,
+) -> Result<Registers, SunError> {
+    to_ordered(kind, order, number)
+}
+
+/// The registers of a number in hexadecimal digits, which have to mean the number again.
+fn again(
+    alloc: Global,
+    words: &[u16],
+    value: Option<Value>,
+    number: i128,
+) -> Result<String, Trouble> {
+    unless(
+        value == Some(Value::Number(number)),
+        ", read as ANOTHER NUMBER",
+        bytes_text(alloc, words)?,
+    )
+}
+
+/// `TYPE NUMBER`.
 pub(crate) fn write(alloc: Global, input: &str) -> Result<String, Trouble> {
     let (kind, number) = typed(input)?;
     let number = numbered(number)?;
     match written(&kind, number) {
         Ok(registers) => {
             let words = registers.as_slice();
-            let is_same = value_of(&kind, words) == Some(Value::Number(number));
-            unless(
-                is_same,
-                ", read as ANOTHER NUMBER",
-                bytes_text(alloc, words)?,
-            )
+            again(alloc, words, value_of(&kind, words), number)
+        }
+        Err(error) => refusal(alloc, &error),
+    }
+}
+
+/// `ORDER TYPE NUMBER`.
+pub(crate) fn write_in_order(alloc: Global, input: &str) -> Result<String, Trouble> {
+    let (order, point) = ordered(input)?;
+    let (kind, number) = typed(point)?;
+    let number = numbered(number)?;
+    match written_in_order(&kind, order, number) {
+        Ok(registers) => {
+            let words = registers.as_slice();
+            again(alloc, words, value_in_order(&kind, order, words), number)
         }
         Err(error) => refusal(alloc, &error),
     }
@@ -126,4 +191,30 @@ pub(crate) fn shown(alloc: Global, input: &str) -> Result<String, Trouble> {
     let (kind, words) = typed(point)?;
     let words = registers_of(alloc, words)?;
     outcome(alloc, text_of(alloc, &kind, &words, scale_of(scale)?))
+}
+
+fn text_in_order(
+    alloc: Global,
+    kind: &PointType,
+    order: WordOrder,
+    words: &[u16],
+    scale: i32,
+) -> Result<Option<String>, SunError> {
+    if kind.is_sized() && kind.has_registers(words) {
+        shown_ordered(alloc, kind, order, words, scale)
+    } else {
+        Ok(None)
+    }
+}
+
+/// `ORDER SCALE TYPE REGISTERS`.
+pub(crate) fn shown_in_order(alloc: Global, input: &str) -> Result<String, Trouble> {
+    let (order, point) = ordered(input)?;
+    let (scale, point) = split(point)?;
+    let (kind, words) = typed(point)?;
+    let words = registers_of(alloc, words)?;
+    outcome(
+        alloc,
+        text_in_order(alloc, &kind, order, &words, scale_of(scale)?),
+    )
 }
