@@ -1,5 +1,5 @@
 -- The command line of the program.
-use Rattle.std.specs.Prelude.{List, [], ◌∷◌, true, Some, codes}
+use Rattle.std.specs.Prelude.{List, [], ◌∷◌, ◌++◌, true, Some, codes}
 use Rattle.clap.specs.Words.{App, Rule, Shape, Text, app_of, new_app, new_rule, with_rule, with_subcommand}
 use Rattle.clap.specs.declared.builder.command.Command.{Command}
 
@@ -92,8 +92,20 @@ abbrev pub with_lines : App → List App → App
 with_lines a [] = a
 with_lines a (line ∷ lines) = with_lines (with_line a line) lines
 
+-- for scripts and point lists
+abbrev pub list_lines : List App
+list_lines = replay_line ∷ load_line ∷ plan_line ∷ []
+
+-- that ask devices
+abbrev pub device_lines : List App
+device_lines = discover_line ∷ poll_line ∷ order_line ∷ []
+
+-- that tell and play
+abbrev pub answer_lines : List App
+answer_lines = report_line ∷ serve_line ∷ sim_line ∷ []
+
 unfoldable pub with_commands : App → App
-with_commands a = with_lines a (replay_line ∷ load_line ∷ plan_line ∷ discover_line ∷ poll_line ∷ order_line ∷ report_line ∷ serve_line ∷ sim_line ∷ [])
+with_commands a = with_lines a (list_lines ++ device_lines ++ answer_lines)
 
 -- no word is the program's own name, and a command must be there
 abbrev pub plain_top : Shape → Shape

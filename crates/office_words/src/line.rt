@@ -1,7 +1,7 @@
 //! The command line, with what help says of each command.
 ghost use Rattle.std.specs.Prelude.{◌≡◌, IfOk, false};
 ghost use Rattle.clap.specs.declared.builder.command.Command.TheViews.{out-Command};
-ghost use Rattle.office_words.specs.Line.{bare_line, discover_line, help_line, without_help, line_of, load_line, named, office_line, order_line, plan_line, poll_line, replay_line, report_line, serve_line, sim_line, with_version, with_commands};
+ghost use Rattle.office_words.specs.Line.{bare_line, answer_lines, device_lines, discover_line, help_line, list_lines, without_help, line_of, load_line, named, office_line, order_line, plan_line, poll_line, replay_line, report_line, serve_line, sim_line, with_version, with_commands, with_lines};
 
 use crate::builders::{
     with_caller, with_key, with_office, with_option, with_place, with_site, with_spare,
@@ -273,20 +273,44 @@ fn sim<'a>(alloc: Global) -> Result<Command<'a>, AllocError>
     Ok(command)
 }
 
+/// The commands for scripts and point lists after those that a command has.
+fn with_list_commands<'a>(alloc: Global, command: Command<'a>) -> Result<Command<'a>, AllocError>
+    ensures { IfOk result (λ c. line_of c ≡ with_lines (line_of command.entry) list_lines) }
+{
+    let command = with_subcommand(command, replay(alloc)?)?;
+    let command = with_subcommand(command, load(alloc)?)?;
+    let command = with_subcommand(command, plan(alloc)?)?;
+    Ok(command)
+}
+
+/// The commands that ask devices after those that a command has.
+fn with_device_commands<'a>(alloc: Global, command: Command<'a>) -> Result<Command<'a>, AllocError>
+    ensures { IfOk result (λ c. line_of c ≡ with_lines (line_of command.entry) device_lines) }
+{
+    let command = with_subcommand(command, discover(alloc)?)?;
+    let command = with_subcommand(command, poll(alloc)?)?;
+    let command = with_subcommand(command, order(alloc)?)?;
+    Ok(command)
+}
+
+/// The commands that tell and play after those that a command has.
+fn with_answer_commands<'a>(alloc: Global, command: Command<'a>) -> Result<Command<'a>, AllocError>
+    ensures { IfOk result (λ c. line_of c ≡ with_lines (line_of command.entry) answer_lines) }
+{
+    let command = with_subcommand(command, report(alloc)?)?;
+    let command = with_subcommand(command, serve(alloc)?)?;
+    let command = with_subcommand(command, sim(alloc)?)?;
+    Ok(command)
+}
+
 /// The commands after those that a command has.
 #[tactic(auto, unfolding(crate::specs::Line::with_commands))]
 fn with_commands<'a>(alloc: Global, command: Command<'a>) -> Result<Command<'a>, AllocError>
     ensures { IfOk result (λ c. line_of c ≡ with_commands (line_of command.entry)) }
 {
-    let command = with_subcommand(command, replay(alloc)?)?;
-    let command = with_subcommand(command, load(alloc)?)?;
-    let command = with_subcommand(command, plan(alloc)?)?;
-    let command = with_subcommand(command, discover(alloc)?)?;
-    let command = with_subcommand(command, poll(alloc)?)?;
-    let command = with_subcommand(command, order(alloc)?)?;
-    let command = with_subcommand(command, report(alloc)?)?;
-    let command = with_subcommand(command, serve(alloc)?)?;
-    let command = with_subcommand(command, sim(alloc)?)?;
+    let command = with_list_commands(alloc, command)?;
+    let command = with_device_commands(alloc, command)?;
+    let command = with_answer_commands(alloc, command)?;
     Ok(command)
 }
 

@@ -1,0 +1,9 @@
+use Rattle.std.proofs.Common.{refl}
+use Rattle.office_words.proofs.Added.{more}
+use Rattle.office_words.proofs.line.with_device_commands.Goals as goal
+
+pub returns : goal.returns
+returns c =
+    let one = more _ _ _ _ _ c.in_ok-command.ensures refl c.in_ok-discover.ensures.line in
+    let two = more _ _ _ _ _ c.in_ok-command-2.ensures one c.in_ok-poll.ensures.line in
+    more _ _ _ _ _ c.in_ok-command-3.ensures two c.in_ok-order.ensures.line
