@@ -21,6 +21,9 @@ mod stores;
 /// How many inputs each reader gets.
 const CASES: u32 = 100_000;
 
+/// How many damaged stores are tried where they are tried alone.
+const STORES: u32 = 10_000;
+
 /// So many requests come to one office.
 const CALLS: u32 = 100;
 
@@ -231,10 +234,10 @@ fn try_offices(rt: &HostRuntime, dice: &mut Dice) -> io::Result<()> {
     tally.print(rt, "Call")
 }
 
-fn try_stores(rt: &HostRuntime, dice: &mut Dice) -> io::Result<()> {
+fn try_stores(rt: &HostRuntime, dice: &mut Dice, count: u32) -> io::Result<()> {
     let sound = stores::sound(rt.alloc())?;
     let mut tally = Tally::NONE;
-    for _ in 0..CASES {
+    for _ in 0..count {
         let bytes = stores::damaged(rt.alloc(), dice, &sound)?;
         let (came, took) = timed!(rt, stores::looked_in(rt.alloc(), &bytes));
         tally.count(rt, &bytes, came, took)?;
@@ -265,5 +268,11 @@ pub fn run(rt: &HostRuntime, given: Option<u64>) -> io::Result<()> {
         try_reader(rt, &mut dice, &known, *reader)?;
     }
     try_offices(rt, &mut dice)?;
-    try_stores(rt, &mut dice)
+    try_stores(rt, &mut dice, CASES)
+}
+
+/// Tries damaged stores alone, which follow from a seed.
+pub fn run_stores(rt: &HostRuntime, seed: u64) -> io::Result<()> {
+    println!(rt; "seed {seed}")?;
+    try_stores(rt, &mut Dice::new(seed), STORES)
 }

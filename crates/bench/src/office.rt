@@ -39,9 +39,9 @@ pub fn loaded<K: Keeper + Drop>(
     Ok(office)
 }
 
-/// Counters of one register: so many of them from address 0, and so many from each other multiple of the
-/// stride.
-pub fn counters(alloc: Global, quantity: u32, stride: u32) -> Result<String, AllocError> {
+/// Points of one register and this role: so many of them from address 0, and so many from each other
+/// multiple of the stride.
+fn registers(alloc: Global, role: &str, quantity: u32, stride: u32) -> Result<String, AllocError> {
     let mut text = String::from_str(alloc, HEADER)?;
     for number in 0..POINTS {
         let block = number / quantity.max(1);
@@ -50,10 +50,15 @@ pub fn counters(alloc: Global, quantity: u32, stride: u32) -> Result<String, All
             .wrapping_add(number % quantity.max(1));
         writeln!(
             text,
-            "m1.energy-{number},m1,holding,{address},uint16,,,counter,"
+            "m1.energy-{number},m1,holding,{address},uint16,,,{role},"
         )?;
     }
     Ok(text)
+}
+
+/// Such counters.
+pub fn counters(alloc: Global, quantity: u32, stride: u32) -> Result<String, AllocError> {
+    registers(alloc, "counter", quantity, stride)
 }
 
 /// Asks for registers in a slot, and brings this reply.
@@ -90,7 +95,7 @@ pub fn poll<K: Keeper>(
     Ok(())
 }
 
-/// Polls all counters in these slots; `None` where one was refused.
+/// Polls all points in these slots; `None` where one was refused.
 pub fn poll_slots<K: Keeper>(office: &mut Office<K>, slots: Range<u32>) -> Option<()> {
     let spans = [0, 125, 250, 375, 500, 625, 750, 875].map(|start| Span {
         start,
@@ -99,7 +104,7 @@ pub fn poll_slots<K: Keeper>(office: &mut Office<K>, slots: Range<u32>) -> Optio
     poll(office, slots, &spans, &Unit::from_bytes(&reply_bytes())?).ok()
 }
 
-/// Polls all counters, of which the last has a reading in each slot then; `None` where one was refused.
+/// Polls all points, of which the last has a reading in each slot then; `None` where one was refused.
 fn poll_all<K: Keeper>(office: &mut Office<K>, slots: u32) -> Option<()> {
     poll_slots(office, 0..slots)?;
     let rows = office.readings("m1.energy-999", 0, u32::MAX).ok()??;
@@ -132,10 +137,11 @@ fn carry_out_all<K: Keeper>(alloc: Global, office: &mut Office<K>, count: u32) -
     (state(office, count) == Ok(Some(OrderState::Done))).then_some(())
 }
 
-/// What an office is used for: readings of so many slots, or so many orders.
+/// What an office is used for: readings of so many slots, of counters or of gauges, or so many orders.
 #[derive(Clone, Copy)]
 pub enum Work {
     Slots(u32),
+    Gauges(u32),
     Orders(u32),
 }
 
@@ -144,13 +150,14 @@ impl Work {
     fn list(self, alloc: Global) -> Result<String, AllocError> {
         match self {
             Work::Slots(_) => counters(alloc, 125, 125),
+            Work::Gauges(_) => registers(alloc, "gauge", 125, 125),
             Work::Orders(_) => format!(in alloc; "{HEADER}{SETTING}"),
         }
     }
 
     fn done<K: Keeper>(self, alloc: Global, office: &mut Office<K>) -> Option<()> {
         match self {
-            Work::Slots(slots) => poll_all(office, slots),
+            Work::Slots(slots) | Work::Gauges(slots) => poll_all(office, slots),
             Work::Orders(count) => carry_out_all(alloc, office, count),
         }
     }
@@ -170,6 +177,9 @@ impl Work {
         granted(done)?;
         match self {
             Work::Slots(slots) => print_each(rt, "reading", POINTS.wrapping_mul(slots), took),
+            Work::Gauges(slots) => {
+                print_each(rt, "reading of a gauge", POINTS.wrapping_mul(slots), took)
+            }
             Work::Orders(count) => print_each(rt, "event of an order", count.wrapping_mul(3), took),
         }
     }

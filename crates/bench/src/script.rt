@@ -1,4 +1,7 @@
 //! A script for `office replay`: 1,000 counters of one device, read in slot after slot.
+use crate::pace::{granted, print_each, timed};
+use mb_mbap::Counted;
+use office_script::{Replayed, replay};
 use std::alloc::{AllocError, Global};
 use std::io;
 
@@ -70,4 +73,28 @@ pub fn write<R: Print + AllocGlobal>(rt: &R, slots: u32) -> io::Result<()> {
         rt.print(slot_text(rt.alloc(), slot)?.as_str())?;
     }
     Ok(())
+}
+
+/// A script of so many slots.
+fn text(alloc: Global, slots: u32) -> Result<String, AllocError> {
+    let mut text = opening_text(alloc)?;
+    for slot in 0..slots {
+        text.push_str(slot_text(alloc, slot)?.as_str())?;
+    }
+    Ok(text)
+}
+
+/// Whether a script is played to its end. What it prints is kept in memory.
+fn is_played(alloc: Global, script: &[u8]) -> bool {
+    let mut reader = Counted::new(script);
+    let mut writer = Counted::new(Vec::new(alloc));
+    matches!(replay(alloc, &mut reader, &mut writer), Ok(Replayed::Done))
+}
+
+/// Prints how long a script of so many slots takes, for each reading.
+pub fn play(rt: &HostRuntime, slots: u32) -> io::Result<()> {
+    let script = text(rt.alloc(), slots)?;
+    let (played, took) = timed!(rt, is_played(rt.alloc(), script.as_bytes()));
+    granted(played.then_some(()))?;
+    print_each(rt, "reading by a script", POINTS.wrapping_mul(slots), took)
 }

@@ -31,8 +31,8 @@ pub enum Task {
     LookUp(u32),
     /// Two rounds are polled.
     Poll,
-    /// Readings of so many slots are kept.
-    Fill(u32),
+    /// This work is done.
+    Fill(Work),
     /// Late readings are compared with others.
     Late,
     /// An office opens. The database began to open at this time.
@@ -47,8 +47,8 @@ const PAGES: Options = Options {
     seed: 7,
 };
 
-fn fill<K: Keeper + Drop>(rt: &HostRuntime, keeper: K, slots: u32) -> io::Result<Duration> {
-    let (_keeper, took) = timed!(rt, Work::Slots(slots).measured(rt, keeper)?);
+fn fill<K: Keeper + Drop>(rt: &HostRuntime, keeper: K, work: Work) -> io::Result<Duration> {
+    let (_keeper, took) = timed!(rt, work.measured(rt, keeper)?);
     Ok(took)
 }
 
@@ -56,7 +56,7 @@ fn done<K: Keeper + Drop>(rt: &HostRuntime, keeper: K, task: Task) -> io::Result
     match task {
         Task::LookUp(slots) => look_up(rt, keeper, slots),
         Task::Poll => measure(rt, keeper),
-        Task::Fill(slots) => fill(rt, keeper, slots),
+        Task::Fill(work) => fill(rt, keeper, work),
         Task::Late => compare(rt, keeper),
         Task::Open(start) => open(rt, keeper, start),
     }
@@ -145,6 +145,12 @@ pub fn look_ups(rt: &HostRuntime, few: Place, many: Place) -> io::Result<()> {
     println!(rt; "a look-up among ten times the readings: {percent}% of the time")
 }
 
+/// Over files in memory.
+pub fn filling(rt: &HostRuntime, work: Work) -> io::Result<()> {
+    done_in(rt, Place::Pages, Task::Fill(work))?;
+    Ok(())
+}
+
 /// How often an order is searched for again.
 const AGAIN: u32 = 1_000;
 
@@ -213,7 +219,7 @@ const OPENED: &str = "bench-200.db";
 /// Over the file, which is made if there is none.
 pub fn opening(rt: &HostRuntime) -> io::Result<()> {
     if !fs::exists(rt, OPENED)? {
-        done_in(rt, Place::File(OPENED), Task::Fill(200))?;
+        done_in(rt, Place::File(OPENED), Task::Fill(Work::Slots(200)))?;
     }
     done_in(rt, Place::File(OPENED), Task::Open(Instant::now(rt)?))?;
     Ok(())
