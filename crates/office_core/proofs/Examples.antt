@@ -34,7 +34,7 @@ use Rattle.office_core.specs.declared.event.EventAnswer.{EventAnswer}
 use Rattle.office_core.specs.declared.event.EventAnswer.TheVariants as answer
 use Rattle.office_core.specs.declared.event.RequestAnswer.TheVariants.{Kept, KeyReused}
 use Rattle.office_core.specs.Queries.{Query, Reads}
-use Rattle.office_core.specs.History.{Happening, Restart, Load, Order, Open, Ask, Send, Reply, Noise, History, after, points, open_line, asked, settings, readings, tables, total}
+use Rattle.office_core.specs.History.{Happening, Restart, Load, Order, Void, Open, Ask, Send, Reply, Noise, History, after, points, open_line, asked, settings, readings, tables, total}
 use Rattle.office_core.specs.Loads.{Taken, loading}
 use Rattle.office_core.specs.Answers.{answer_of, answers_of}
 use Rattle.office_core.specs.Legal.{IsNoise, IsTimely, MayHappen, Legal, frame_answers}
@@ -177,6 +177,7 @@ abbrev three_tables : Tables
 three_tables = record {
   points = three_rows;
   readings = three_words;
+  voids = [];
   totals = [];
   settings = [];
   requests = ((codes "ann", codes "l1"), record { body = body.List gauges; outcome = outcome.Loaded 3 }) ∷ [];

@@ -35,7 +35,7 @@ use Rattle.poll_book.specs.declared.rows.PointRow.{PointRow}
 use Rattle.office_core.specs.Fitting.{HasForm}
 use Rattle.office_core.specs.Legal.{Legal}
 use Rattle.office_core.specs.Loads.{Loading, Refused, Taken, known_named, unknown_of, points_of, too_many, loading_rows, differing, loading_of, loading, numbered_on, added}
-use Rattle.office_core.specs.History.{Restart, Load, Order, Open, Ask, Send, Reply, Noise, History, site_of, points, is_used}
+use Rattle.office_core.specs.History.{Restart, Load, Order, Void, Open, Ask, Send, Reply, Noise, History, site_of, points, is_used}
 
 -- the form of a point, a bit only in a table of bits, and an end by the last address
 abbrev pub IsFormed : Point → Type 0
@@ -268,6 +268,7 @@ site_sound [] legal = refl
 site_sound (Restart site ∷ before) legal = legal.0.0
 site_sound (Load caller key list ∷ before) legal = site_sound before legal.2
 site_sound (Order caller key point value ∷ before) legal = site_sound before legal.2
+site_sound (Void caller key point at ∷ before) legal = site_sound before legal.2
 site_sound (Open line ∷ before) legal = site_sound before legal.2
 site_sound (Ask c device slot read ∷ before) legal = site_sound before legal.2
 site_sound (Send c number ∷ before) legal = site_sound before legal.2
@@ -338,6 +339,7 @@ points_formed (Load caller key list ∷ before) legal = by (is_used before (call
         (resolved_formed (site_of before) _ (site_sound before legal.2) (meaning_formed _ (records_of list)))))
 points_formed (Restart site ∷ before) legal = points_formed before legal.2
 points_formed (Order caller key point value ∷ before) legal = points_formed before legal.2
+points_formed (Void caller key point at ∷ before) legal = points_formed before legal.2
 points_formed (Open line ∷ before) legal = points_formed before legal.2
 points_formed (Ask c device slot read ∷ before) legal = points_formed before legal.2
 points_formed (Send c number ∷ before) legal = points_formed before legal.2

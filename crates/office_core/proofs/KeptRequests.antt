@@ -13,7 +13,7 @@ use Rattle.std.proofs.lemmas.Option.{none-some, same_Some}
 use Rattle.poll_book.specs.declared.requests.Body.{Body}
 use Rattle.poll_book.specs.declared.requests.Body.TheVariants as body
 use Rattle.poll_book.specs.declared.requests.Outcome.{Outcome}
-use Rattle.poll_book.specs.declared.requests.Outcome.TheVariants.{Loaded, Ordered, RefusedFor}
+use Rattle.poll_book.specs.declared.requests.Outcome.TheVariants.{Loaded, Ordered, Voided, RefusedFor}
 use Rattle.poll_book.specs.declared.requests.Request.{Request}
 use Rattle.poll_book.specs.declared.rows.OrderState.{OrderState}
 use Rattle.poll_book.specs.declared.rows.OrderState.TheVariants.{Waiting}
@@ -22,8 +22,9 @@ use Rattle.poll_book.specs.Orders.{Settings, is_waiting, setting_at, with_settin
 use Rattle.poll_book.specs.Requests.{RequestKey, Requests, request_cmp, request_at, with_request}
 use Rattle.office_core.specs.Loads.{Loading, Refused as NotLoaded, Taken as IsLoaded, loading, outcome}
 use Rattle.office_core.specs.Orders.{Ordering, Refused, Taken, ordered, with_ordered, settled_by, state_by, settle, settle_at}
+use Rattle.office_core.specs.Voids.{Voiding, voided, Refused as NotVoided, Taken as IsVoided}
 use Rattle.office_core.specs.Queries.{Query, Reads, Writes, fits}
-use Rattle.office_core.specs.History.{Happening, Restart, Load, Order, Open, Ask, Send, Reply, Noise, History, site_of, points, settings, requests, asked, is_answered, is_same_key, is_used, ordering, outcome_of, first_asked}
+use Rattle.office_core.specs.History.{Happening, Restart, Load, Order, Void, Open, Ask, Send, Reply, Noise, History, site_of, points, settings, requests, asked, is_answered, is_same_key, is_used, ordering, voiding, outcome_of, first_asked}
 use Rattle.office_core.specs.FirstArrivals.{Happened}
 use Rattle.office_core.specs.KeptRequests.{asked_for, IsFirstRequest, OrderedUnder}
 use Rattle.office_core.proofs.Kept.{requests_total, exact_requests, equal_key, own_key, tied_key, used_is}
@@ -37,12 +38,14 @@ use Rattle.office_core.proofs.Standings.{step_later, or_true}
 asked_used : (key : RequestKey) (now : Body) (older : History) → is_used (asked_for key now ∷ older) key ≡ true
 asked_used key (body.List list) older = ap (λ b. b || is_used older key) (own_key key)
 asked_used key (body.Order point value) older = ap (λ b. b || is_used older key) (own_key key)
+asked_used key (body.Void point slot) older = ap (λ b. b || is_used older key) (own_key key)
 
 used_on : (later : List Happening) (older : History) (key : RequestKey) (now : Body) → is_used (later ++ asked_for key now ∷ older) key ≡ true
 used_on [] older key now = asked_used key now older
 used_on (Restart site ∷ later) older key now = used_on later older key now
 used_on (Load caller word list ∷ later) older key now = or_true _ _ (used_on later older key now)
 used_on (Order caller word point value ∷ later) older key now = or_true _ _ (used_on later older key now)
+used_on (Void caller word point slot ∷ later) older key now = or_true _ _ (used_on later older key now)
 used_on (Open line ∷ later) older key now = used_on later older key now
 used_on (Ask c device slot read ∷ later) older key now = used_on later older key now
 used_on (Send c number ∷ later) older key now = used_on later older key now
@@ -73,6 +76,7 @@ used_so [] key e = absurd (cc)
 used_so (Restart site ∷ before) key e = used_later _ before key (used_so before key e)
 used_so (Load caller word list ∷ before) key e = used_first before (caller, word) key (body.List list) (λ f. used_so before key f) e
 used_so (Order caller word point value ∷ before) key e = used_first before (caller, word) key (body.Order point value) (λ f. used_so before key f) e
+used_so (Void caller word point slot ∷ before) key e = used_first before (caller, word) key (body.Void point slot) (λ f. used_so before key f) e
 used_so (Open line ∷ before) key e = used_later _ before key (used_so before key e)
 used_so (Ask c device slot read ∷ before) key e = used_later _ before key (used_so before key e)
 used_so (Send c number ∷ before) key e = used_later _ before key (used_so before key e)
@@ -148,6 +152,8 @@ row_first (Restart site ∷ before) key request e = first_later _ before key req
 row_first (Load caller word list ∷ before) key request e = first_more before (caller, word) key (body.List list) request (λ f. row_first before key request f) e
 row_first (Order caller word point value ∷ before) key request e =
     first_more before (caller, word) key (body.Order point value) request (λ f. row_first before key request f) e
+row_first (Void caller word point slot ∷ before) key request e =
+    first_more before (caller, word) key (body.Void point slot) request (λ f. row_first before key request f) e
 row_first (Open line ∷ before) key request e = first_later _ before key request (row_first before key request e)
 row_first (Ask c device slot read ∷ before) key request e = first_later _ before key request (row_first before key request e)
 row_first (Send c number ∷ before) key request e = first_later _ before key request (row_first before key request e)
@@ -180,6 +186,8 @@ row_stays (Restart site ∷ later) before key request e = row_stays later before
 row_stays (Load caller word list ∷ later) before key request e = stays_by (later ++ before) (caller, word) key (body.List list) request (row_stays later before key request e)
 row_stays (Order caller word point value ∷ later) before key request e =
     stays_by (later ++ before) (caller, word) key (body.Order point value) request (row_stays later before key request e)
+row_stays (Void caller word point slot ∷ later) before key request e =
+    stays_by (later ++ before) (caller, word) key (body.Void point slot) request (row_stays later before key request e)
 row_stays (Open line ∷ later) before key request e = row_stays later before key request e
 row_stays (Ask c device slot read ∷ later) before key request e = row_stays later before key request e
 row_stays (Send c number ∷ later) before key request e = row_stays later before key request e
@@ -189,6 +197,7 @@ row_stays (Noise c frame ∷ later) before key request e = row_stays later befor
 requests_asked : (before : History) (key : RequestKey) (now : Body) → requests (asked_for key now ∷ before) ≡ first_asked before key now (requests before)
 requests_asked before key (body.List list) = refl
 requests_asked before key (body.Order point value) = refl
+requests_asked before key (body.Void point slot) = refl
 
 row_made : (before : History) (key : RequestKey) (now : Body) → is_used before key ≡ false
     → request_at (requests (asked_for key now ∷ before)) key ≡ Some (told before now)
@@ -319,6 +328,7 @@ numbered [] = tt
 numbered (Restart site ∷ before) = numbered before
 numbered (Load caller word list ∷ before) = numbered before
 numbered (Open line ∷ before) = numbered before
+numbered (Void caller key point at ∷ before) = numbered before
 numbered (Ask c device slot read ∷ before) = numbered before
 numbered (Send c number ∷ before) = numbered before
 numbered (Noise c frame ∷ before) = numbered before
@@ -367,11 +377,16 @@ reply_same before c n unit =
 abbrev number_of : Outcome → ℕ
 number_of (Loaded count) = 0
 number_of (Ordered number) = number
+number_of (Voided slot) = 0
 number_of (RefusedFor reason) = 0
 
 list_none : (loaded : Loading) (number : ℕ) → outcome loaded ≡ Ordered number → ⊥
 list_none (NotLoaded reason) number e = absurd (cc)
 list_none (IsLoaded count points) number e = absurd (cc)
+
+void_none : (slot : ℕ) (v : Voiding) (number : ℕ) → voided slot v ≡ Ordered number → ⊥
+void_none slot (NotVoided fault) number e = absurd (cc)
+void_none slot (IsVoided known) number e = absurd (cc)
 
 -- an order that is accepted takes the next number, and its setting stands
 pub order_next : (o : Ordering) (table : Settings) (number : ℕ) → AreOrders 0 table → ordered (last_order table) o ≡ Ordered number
@@ -386,11 +401,13 @@ order_next (Taken point words) table number a e =
 
 ordered_next : (before : History) (now : Body) (number : ℕ) → outcome_of before now ≡ Ordered number → number ≡ last_order (settings before) + 1
 ordered_next before (body.List list) number e = absurd (list_none (loading (site_of before) (points before) list) number e)
+ordered_next before (body.Void point slot) number e = absurd (void_none slot (voiding before point slot) number e)
 ordered_next before (body.Order point value) number e = (order_next (ordering before point value) (settings before) number (numbered before) e).0
 
 ordered_last : (before : History) (key : RequestKey) (now : Body) (number : ℕ) → is_used before key ≡ false → outcome_of before now ≡ Ordered number
     → last_order (settings (asked_for key now ∷ before)) ≡ last_order (settings before) + 1
 ordered_last before key (body.List list) number unused e = absurd (list_none (loading (site_of before) (points before) list) number e)
+ordered_last before key (body.Void point slot) number unused e = absurd (void_none slot (voiding before point slot) number e)
 ordered_last before key (body.Order point value) number unused e =
     ap (λ b. last_order (cond b (settings before) (with_ordered (ordering before point value) (settings before)))) unused
     ∙ (order_next (ordering before point value) (settings before) number (numbered before) e).1
@@ -398,6 +415,7 @@ ordered_last before key (body.Order point value) number unused e =
 -- no request ends an order
 pub asked_longer : (before : History) (key : RequestKey) (now : Body) → last_order (settings before) ≤ last_order (settings (asked_for key now ∷ before))
 asked_longer before key (body.List list) = omega arith
+asked_longer before key (body.Void point slot) = omega arith
 asked_longer before key (body.Order point value) = by (is_used before key)
   where
     by : (b : Bool) → last_order (settings before) ≤ last_order (cond b (settings before) (with_ordered (ordering before point value) (settings before)))
@@ -434,6 +452,7 @@ ranged (Noise c frame ∷ before) key number u = ranged before key number u
 ranged (Reply c n unit ∷ before) key number u =
     let le : number ≤ last_order (settings before) = ranged before key number u in let same = reply_same before c n unit in omega arith
 ranged (Load caller word list ∷ before) key number u = ranged_more before (caller, word) key (body.List list) number (λ v. ranged before key number v) u.0 u.1
+ranged (Void caller word point slot ∷ before) key number u = ranged_more before (caller, word) key (body.Void point slot) number (λ v. ranged before key number v) u.0 u.1
 ranged (Order caller word point value ∷ before) key number u =
     ranged_more before (caller, word) key (body.Order point value) number (λ v. ranged before key number v) u.0 u.1
 
@@ -468,6 +487,8 @@ one_key (Reply c n unit ∷ before) a b number u v = one_key before a b number u
 one_key (Noise c frame ∷ before) a b number u v = one_key before a b number u v
 one_key (Load caller word list ∷ before) a b number u v =
     one_more before (caller, word) a b (body.List list) number (λ x y. one_key before a b number x y) u.0 v.0 u.1 v.1
+one_key (Void caller word point slot ∷ before) a b number u v =
+    one_more before (caller, word) a b (body.Void point slot) number (λ x y. one_key before a b number x y) u.0 v.0 u.1 v.1
 one_key (Order caller word point value ∷ before) a b number u v =
     one_more before (caller, word) a b (body.Order point value) number (λ x y. one_key before a b number x y) u.0 v.0 u.1 v.1
 
@@ -487,6 +508,7 @@ has_key [] number least most = absurd (omega arith)
 has_key (Restart site ∷ before) number least most = key_later (Restart site) before number (has_key before number least most)
 has_key (Load caller word list ∷ before) number least most = key_later (Load caller word list) before number (has_key before number least most)
 has_key (Open line ∷ before) number least most = key_later (Open line) before number (has_key before number least most)
+has_key (Void caller key point at ∷ before) number least most = key_later (Void caller key point at) before number (has_key before number least most)
 has_key (Ask c device slot read ∷ before) number least most = key_later (Ask c device slot read) before number (has_key before number least most)
 has_key (Send c order ∷ before) number least most = key_later (Send c order) before number (has_key before number least most)
 has_key (Noise c frame ∷ before) number least most = key_later (Noise c frame) before number (has_key before number least most)

@@ -12,6 +12,7 @@ pub mod Loading
 pub mod Newness
 pub mod Given
 pub mod Rows
+pub mod Marks
 pub mod Elements
 pub mod OnePoint
 pub mod Totalled
@@ -41,6 +42,7 @@ pub mod Opening
 pub mod Messages
 pub mod Forms
 pub mod Fitting
+pub mod Voiding
 pub mod ByName
 pub mod StepsLost
 pub mod SlotsLost
@@ -49,3 +51,4 @@ pub mod Calls
 pub mod SameArrivals
 pub mod AskedAgain
 pub mod Looked
+pub mod Shown

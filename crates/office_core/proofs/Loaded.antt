@@ -5,7 +5,7 @@ use Rattle.poll_book.specs.declared.rows.PointRow.{PointRow}
 use Rattle.poll_book.specs.Tables.{Tables}
 use Rattle.poll_book.specs.Changes.{AreNumbered}
 use Rattle.office_core.specs.Loads.{Loading, Refused, Taken, loading, added}
-use Rattle.office_core.specs.History.{Restart, Load, Order, Open, Ask, Send, Reply, Noise, History, tables, points, site_of, is_used}
+use Rattle.office_core.specs.History.{Restart, Load, Order, Void, Open, Ask, Send, Reply, Noise, History, tables, points, site_of, is_used}
 use Rattle.office_core.specs.Standing.{StandsFor}
 use Rattle.office_core.proofs.Newness.{numbered-append, numbered_so}
 
@@ -28,6 +28,7 @@ numbered_points (Load caller key list ∷ before) = by (is_used before (caller, 
         (numbered_added (length (points before)) (loading (site_of before) (points before) list))
 numbered_points (Restart site ∷ before) = numbered_points before
 numbered_points (Order caller key point value ∷ before) = numbered_points before
+numbered_points (Void caller key point at ∷ before) = numbered_points before
 numbered_points (Open line ∷ before) = numbered_points before
 numbered_points (Ask c device slot read ∷ before) = numbered_points before
 numbered_points (Send c number ∷ before) = numbered_points before

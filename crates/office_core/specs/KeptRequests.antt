@@ -5,13 +5,14 @@ use Rattle.poll_book.specs.declared.requests.Body.TheVariants as body
 use Rattle.poll_book.specs.declared.requests.Outcome.TheVariants.{Ordered}
 use Rattle.poll_book.specs.declared.requests.Request.{Request}
 use Rattle.poll_book.specs.Requests.{RequestKey, request_at}
-use Rattle.office_core.specs.History.{Happening, Load, Order, History, requests, outcome_of}
+use Rattle.office_core.specs.History.{Happening, Load, Order, Void, History, requests, outcome_of}
 use Rattle.office_core.specs.FirstArrivals.{Happened}
 
 -- that a caller asked for this under a key
 abbrev pub asked_for : RequestKey → Body → Happening
 asked_for key (body.List list) = Load key.0 key.1 list
 asked_for key (body.Order point value) = Order key.0 key.1 point value
+asked_for key (body.Void point slot) = Void key.0 key.1 point slot
 
 -- a caller asked for this under the key, as the first under it, and this became of it where it stood
 pub record IsFirstRequest (before : History) (key : RequestKey) (request : Request) : Type 0 where

@@ -113,3 +113,8 @@ steps_by_way roll before value after = step_across roll before (Some value) + st
 -- steps by way of the value are put in. It stays from 0 to the greatest total
 abbrev pub repaired : ℕ → Option ℕ → ℕ → Option ℕ → ℕ → ℕ
 repaired total before value after roll = min (total - step_across roll before after + steps_by_way roll before value after) (2 ^ 127 - 1)
+
+-- a total without the value between two sides: the two steps by way of it are taken out, and then the step
+-- between the sides is put in. It stays from 0 to the greatest total
+abbrev pub removed : ℕ → Option ℕ → ℕ → Option ℕ → ℕ → ℕ
+removed total before value after roll = min (total - steps_by_way roll before value after + step_across roll before after) (2 ^ 127 - 1)

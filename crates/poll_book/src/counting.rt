@@ -77,3 +77,20 @@ pub fn repaired(total: u128, before: Option<u64>, value: u64, after: Option<u64>
         .saturating_add(second)
         .min(GREATEST)
 }
+
+/// A point's total without the value between the nearest values before and after it: the two steps by way
+/// of the value are taken out, and then the step between these is put in. A side that is missing gives no
+/// step. The total stays from 0 to 2^127 - 1.
+pub fn removed(total: u128, before: Option<u64>, value: u64, after: Option<u64>, roll: u64) -> u128
+    requires before { IfSome before (λ number. number ≤ roll) }
+    requires value { value ≤ roll }
+    requires after { IfSome after (λ number. number ≤ roll) }
+    ensures { result ≡ counting.removed total before value after roll }
+{
+    let first = step_across(before, Some(value), roll) as u128;
+    let second = step_across(Some(value), after, roll) as u128;
+    total
+        .saturating_sub(first + second)
+        .saturating_add(step_across(before, after, roll) as u128)
+        .min(GREATEST)
+}
