@@ -27,13 +27,13 @@ use Rattle.sqlite_schema.specs.declared.schema.Schema.{Schema}
 use Rattle.sqlite_schema.specs.contracts.schema.Schema as schema
 use Rattle.sqlite_catalog.specs.Listing.{Lists}
 use Rattle.sqlite_catalog.proofs.ReadLemmas.{lists_once}
-use Rattle.poll_book.specs.Tables.{Tables, Readings, Sums, key_cmp}
+use Rattle.poll_book.specs.Tables.{Tables, Readings, Sums, Voids, key_cmp}
 use Rattle.poll_book.specs.Requests.{Requests, request_cmp}
 use Rattle.poll_book.specs.Orders.{Settings}
 use Rattle.poll_book.specs.declared.rows.PointRow.{PointRow}
-use Rattle.office_store.specs.Schema.{office_schema, meta_tree, point_tree, reading_tree, setting_tree, request_tree, total_tree}
-use Rattle.office_store.specs.Rows.{stored_point, stored_reading, stored_setting, stored_request, stored_sum}
-use Rattle.office_store.specs.Kept.{AreReadings, AreRequests, ArePoints, AreSettings, AreTotals, AreNumbers, IsOffice, StandFor, number_rows}
+use Rattle.office_store.specs.Schema.{office_schema, meta_tree, point_tree, reading_tree, setting_tree, request_tree, total_tree, void_tree, swapped_tree}
+use Rattle.office_store.specs.Rows.{stored_point, stored_reading, stored_setting, stored_request, stored_sum, stored_void}
+use Rattle.office_store.specs.Kept.{AreReadings, AreRequests, ArePoints, AreSettings, AreTotals, AreVoids, AreNumbers, IsOffice, StandFor, number_rows}
 use Rattle.office_store.proofs.ByKey.{requests_total}
 use Rattle.office_store.proofs.Putting.{put_same}
 use Rattle.office_store.proofs.Showing.{same_list}
@@ -222,6 +222,19 @@ totals_decided db = elim (in_order stored_sum (λ es. rows.is_sorted nat_cmp es)
   | inr not ↦ inr (λ it. not (it.0, it.1.stored, it.1.sorted))
 ]
 
+voids_decided : (db : Trees) → Decided ((kept : Voids) × AreVoids db kept)
+voids_decided db = elim (all_some stored_void (db void_tree)) [
+  | inr not ↦ inr (λ it. not (it.1.entries, it.1.stored))
+  | inl some ↦ elim (has_order key_cmp keys_total some.0) [
+    | inl it ↦ inl (it.0, record { entries = some.0; stored = some.1; same = it.1; sorted = it.2 })
+    | inr not ↦ inr (λ it. not (it.0, subst (λ es. IsPermutation es it.0) (same_list it.1.entries some.0 (sym it.1.stored ∙ some.1)) it.1.same, it.1.sorted))
+  ]
+]
+
+no_rows : (all : List Row) → Decided (all ≡ [])
+no_rows [] = inl refl
+no_rows (r ∷ all) = inr (λ e. absurd (cc))
+
 number_in : Value → ℕ
 number_in (Int (pos n)) = n
 number_in _ = 0
@@ -250,7 +263,16 @@ stands_decided db = elim (points_decided db) [
           | inr not ↦ inr (λ it. not (it.0.connections, it.1.numbers))
           | inl e ↦ elim (totals_decided db) [
             | inr not ↦ inr (λ it. not (it.0.totals, it.1.totals))
-            | inl f ↦ inl (record { points = a.0; readings = b.0; totals = f.0; settings = c.0; requests = d.0; connections = e.0 }, record { points = a.1; readings = b.1; settings = c.1; requests = d.1; totals = f.1; numbers = e.1 })
+            | inl f ↦ elim (voids_decided db) [
+              | inr not ↦ inr (λ it. not (it.0.voids, it.1.voids))
+              | inl g ↦ elim (no_rows (db swapped_tree)) [
+                | inr not ↦ inr (λ it. not it.1.swapped)
+                | inl h ↦ inl (
+                  record { points = a.0; readings = b.0; voids = g.0; totals = f.0; settings = c.0; requests = d.0; connections = e.0 },
+                  record { points = a.1; readings = b.1; settings = c.1; requests = d.1; totals = f.1; voids = g.1; swapped = h; numbers = e.1 },
+                )
+              ]
+            ]
           ]
         ]
       ]

@@ -48,4 +48,8 @@ mod PutTotal
 mod SetTotal
 mod FirstTotals
 mod ShownTotals
+mod VoidKeys
+mod VoidCount
+mod PutVoid
+mod Moving
 pub mod Versions

@@ -38,8 +38,11 @@ once db a b x y =
     let asked : x.requests.entries ≡ y.requests.entries = same_list x.requests.entries y.requests.entries (sym x.requests.stored ∙ y.requests.stored) in
     let readings = one_order key_cmp keys_total keys_exact a.readings b.readings y.readings.entries x.readings.sorted y.readings.sorted (rw (sym read) x.readings.same) y.readings.same in
     let requests = one_order request_cmp requests_total requests_exact a.requests b.requests y.requests.entries x.requests.sorted y.requests.sorted (rw (sym asked) x.requests.same) y.requests.same in
+    let out : x.voids.entries ≡ y.voids.entries = same_list x.voids.entries y.voids.entries (sym x.voids.stored ∙ y.voids.stored) in
+    let voids = one_order key_cmp keys_total keys_exact a.voids b.voids y.voids.entries x.voids.sorted y.voids.sorted (rw (sym out) x.voids.same) y.voids.same in
     let numbers = same_number a.connections b.connections (sym x.numbers ∙ y.numbers) in
     ap (λ p. record a { points = p }) points ∙ ap (λ p. record a { points = b.points; readings = p }) readings
-    ∙ ap (λ p. record a { points = b.points; readings = b.readings; totals = p }) totals
-    ∙ ap (λ p. record a { points = b.points; readings = b.readings; totals = b.totals; settings = p }) settings
+    ∙ ap (λ p. record a { points = b.points; readings = b.readings; voids = p }) voids
+    ∙ ap (λ p. record a { points = b.points; readings = b.readings; voids = b.voids; totals = p }) totals
+    ∙ ap (λ p. record a { points = b.points; readings = b.readings; voids = b.voids; totals = b.totals; settings = p }) settings
     ∙ ap (λ p. record b { requests = p; connections = a.connections }) requests ∙ ap (λ p. record b { connections = p }) numbers

@@ -1,12 +1,12 @@
--- Readings whose rows a statement leaves.
+-- Readings and voids whose rows a statement leaves.
 use Rattle.std.proofs.Common.{◌≡◌, sym, ap, subst, ◌∙◌, map}
 use Rattle.sqlite_trees.specs.Tree.{Trees}
 use Rattle.sqlite_trees.specs.View.{IsShaped}
 use Rattle.sqlite_trees.specs.declared.store.Shape.TheVariants.{Table}
-use Rattle.poll_book.specs.Tables.{Readings}
-use Rattle.office_store.specs.Schema.{reading_tree}
-use Rattle.office_store.specs.Rows.{stored_reading}
-use Rattle.office_store.specs.Kept.{AreReadings}
+use Rattle.poll_book.specs.Tables.{Readings, Voids}
+use Rattle.office_store.specs.Schema.{reading_tree, void_tree}
+use Rattle.office_store.specs.Rows.{stored_reading, stored_void}
+use Rattle.office_store.specs.Kept.{AreReadings, AreVoids}
 
 pub readings_stay : (old new : Trees) (kept : Readings) → new reading_tree ≡ old reading_tree → AreReadings old kept → AreReadings new kept
 readings_stay old new kept stays was = record {
@@ -16,3 +16,6 @@ readings_stay old new kept stays was = record {
   same = was.same;
   sorted = was.sorted;
 }
+
+pub voids_stay : (old new : Trees) (kept : Voids) → new void_tree ≡ old void_tree → AreVoids old kept → AreVoids new kept
+voids_stay old new kept stays was = record { entries = was.entries; stored = ap (map stored_void) stays ∙ was.stored; same = was.same; sorted = was.sorted }

@@ -3,6 +3,7 @@ pub mod Rows
 pub mod Kept
 pub mod Faults
 pub mod Blank
+pub mod Earlier
 pub mod Texts
 pub mod Counting
 pub mod Writing
