@@ -186,6 +186,7 @@ may_restart_on before (event.Load caller key list) may = (may.0, by (is_used bef
     by true = may.1
     by false = list_all-append (λ (row : PointRow). is_device site row.point.device) (points before) more ∙ and_from _ _ may.1 new
 may_restart_on before (event.Order caller key point value) may = may
+may_restart_on before (event.Void caller key point slot) may = may
 may_restart_on before (event.Open line) may = may
 may_restart_on before (event.Ask conn device slot read) may = may
 may_restart_on before (event.Send conn number) may = may
@@ -212,6 +213,7 @@ may_restart_on before (event.Arrive conn frame) may = over (open_line before con
 pub may_come : (before : History) (seen : Event) → Comes seen → MayRestart before → MayHappen before (happening_of before seen)
 may_come before (event.Load caller key list) comes may = may_happen before (event.Load caller key list) comes
 may_come before (event.Order caller key point value) comes may = may_happen before (event.Order caller key point value) comes
+may_come before (event.Void caller key point slot) comes may = may_happen before (event.Void caller key point slot) comes
 may_come before (event.Open line) comes may = may_happen before (event.Open line) comes
 may_come before (event.Ask conn device slot read) comes may = may_happen before (event.Ask conn device slot read) comes
 may_come before (event.Send conn number) comes may = may_happen before (event.Send conn number) comes
@@ -222,6 +224,7 @@ may_come before event.Restart comes may = may
 pub seen_come : (before : History) (seen : Event) → Comes seen → Sees before (happening_of before seen) seen
 seen_come before (event.Load caller key list) comes = seen_so before (event.Load caller key list) comes
 seen_come before (event.Order caller key point value) comes = seen_so before (event.Order caller key point value) comes
+seen_come before (event.Void caller key point slot) comes = seen_so before (event.Void caller key point slot) comes
 seen_come before (event.Open line) comes = seen_so before (event.Open line) comes
 seen_come before (event.Ask conn device slot read) comes = seen_so before (event.Ask conn device slot read) comes
 seen_come before (event.Send conn number) comes = seen_so before (event.Send conn number) comes

@@ -1,7 +1,7 @@
 use Rattle.std.proofs.Common.{sym, ◌∙◌, ap}
 use Rattle.serde_json.proofs.Views.{members_len-members_view}
-use Rattle.office_http.specs.Orders.{count_of}
-use Rattle.office_http.proofs.order.member_count.Goals as goal
+use Rattle.office_http.specs.Documents.{count_of}
+use Rattle.office_http.proofs.document.member_count.Goals as goal
 
 pub returns-in-Some : goal.returns-in-Some
 returns-in-Some c =
