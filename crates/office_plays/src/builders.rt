@@ -93,6 +93,12 @@ pub fn order(alloc: Global, key: &str, point: &str, value: i128) -> Result<Event
     Ok(Event::Order(caller, key, text(alloc, point)?, value))
 }
 
+/// A slot of a counter that doesn't count, under a key.
+pub fn void(alloc: Global, key: &str, point: &str, slot: u32) -> Result<Event, OfficeError> {
+    let (caller, key) = named(key)?;
+    Ok(Event::Void(caller, key, text(alloc, point)?, slot))
+}
+
 pub fn text(alloc: Global, name: &str) -> Result<Text, OfficeError> {
     Ok(Text::from_string(String::from_str(alloc, name)?))
 }
@@ -110,6 +116,7 @@ pub fn event_of(alloc: Global, happens: &Happens) -> Result<Event, OfficeError> 
     match *happens {
         Happens::Load(key, records) => list(alloc, key, records),
         Happens::Order(key, point, value) => order(alloc, key, point, value),
+        Happens::Void(key, point, slot) => void(alloc, key, point, slot),
         Happens::Send(conn, number) => Ok(Event::Send(Conn::new(conn), number)),
         Happens::Open(line) => Ok(Event::Open(text(alloc, line)?)),
         Happens::Ask(conn, device, slot, (function, start, quantity)) => {

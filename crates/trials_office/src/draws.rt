@@ -89,6 +89,19 @@ fn draw_arrival(alloc: Global, chance: &mut Chance, book: &Book) -> Result<Happe
     }))
 }
 
+/// Mostly of the counter.
+fn draw_void(chance: &mut Chance) -> Happened {
+    let name = match chance.below(8) {
+        0 => "a",
+        1 => "z",
+        _ => "e",
+    };
+    Happened::Request {
+        key: chance.below(24) as u32,
+        wanted: Wanted::Void(name, chance.below(SLOTS as u16) as u32),
+    }
+}
+
 fn draw_wanted(chance: &mut Chance) -> Wanted {
     let name = match chance.below(6) {
         0 => "a",
@@ -150,13 +163,14 @@ pub(crate) fn draw(
         1 => return Ok(Happened::Open(0)),
         _ => {}
     }
-    match chance.below(40) {
+    match chance.below(43) {
         0..7 => Ok(draw_request(chance)),
         7 => Ok(Happened::Open(chance.below(3) as u32)),
         8 => Ok(Happened::Open(0)),
         9 => Ok(Happened::Restart),
         10..18 => Ok(draw_ask(chance, book)),
         18..23 => Ok(draw_send(chance, book)),
+        40..43 => Ok(draw_void(chance)),
         _ => draw_arrival(alloc, chance, book),
     }
 }

@@ -1,7 +1,7 @@
 //! What happened, as events of an office.
 use crate::model::{Brought, Happened, Reply, Wanted, is_faulty, rows_of};
 use office_core::{Event, OfficeError};
-use office_plays::builders::{self, frame, list, order};
+use office_plays::builders::{self, frame, list, order, void};
 use office_plays::steps::Happens;
 use point_list::Role;
 use poll_match::Conn;
@@ -34,6 +34,7 @@ fn request_event(alloc: Global, key: u32, wanted: Wanted) -> Result<Event, Offic
     match wanted {
         Wanted::List(number) => list(alloc, key.as_str(), records(alloc, number)?.as_str()),
         Wanted::Value(point, value) => order(alloc, key.as_str(), point, value as i128),
+        Wanted::Void(point, slot) => void(alloc, key.as_str(), point, slot),
     }
 }
 

@@ -29,11 +29,13 @@ pub(crate) enum Brought {
     Other,
 }
 
-/// What a caller asks for: a list by its number, of which there are four, or a value for a point.
+/// What a caller asks for: a list by its number, of which there are four, a value for a point, or that a slot of a
+/// point doesn't count.
 #[derive(Clone, Copy, Debug, PartialEq)]
 pub(crate) enum Wanted {
     List(u32),
     Value(&'static str, u32),
+    Void(&'static str, u32),
 }
 
 /// A read of so many registers, for a slot.
@@ -151,6 +153,8 @@ pub(crate) struct Book {
     lines: Vec<Option<u32>>,
     queries: Vec<Query>,
     pub(crate) given: Vec<Given>,
+    /// The place of a point and a slot that doesn't count for it.
+    voids: Vec<(usize, u32)>,
 }
 
 fn differs(known: &[Row], row: &Row) -> bool {
@@ -202,25 +206,12 @@ fn step(before: u16, after: u16) -> u16 {
     }
 }
 
-/// The number of a counter in a slot, where it counts.
+/// The number of a counter in a slot, but for one that is too great for it.
 fn number_in(given: &[Given], point: usize, slot: u32) -> Option<u16> {
     given
         .iter()
         .find(|reading| reading.point == point && reading.slot == slot && reading.first <= 999)
         .map(|reading| reading.first)
-}
-
-/// A counter's total, of slots below so many.
-pub(crate) fn total(given: &[Given], point: usize, slots: u32) -> u128 {
-    let mut sum = 0u64;
-    let mut last = None;
-    for slot in 0..slots {
-        if let Some(number) = number_in(given, point, slot) {
-            sum = sum.saturating_add(step(last.unwrap_or(number), number) as u64);
-            last = Some(number);
-        }
-    }
-    sum as u128
 }
 
 impl Book {
@@ -232,7 +223,27 @@ impl Book {
             lines: Vec::new(alloc),
             queries: Vec::new(alloc),
             given: Vec::new(alloc),
+            voids: Vec::new(alloc),
         }
+    }
+
+    pub(crate) fn is_voided(&self, point: usize, slot: u32) -> bool {
+        self.voids.contains(&(point, slot))
+    }
+
+    /// A counter's total, of slots below so many.
+    pub(crate) fn total(&self, point: usize, slots: u32) -> u128 {
+        let mut sum = 0u64;
+        let mut last = None;
+        for slot in 0..slots {
+            if let Some(number) = number_in(&self.given, point, slot)
+                && !self.is_voided(point, slot)
+            {
+                sum = sum.saturating_add(step(last.unwrap_or(number), number) as u64);
+                last = Some(number);
+            }
+        }
+        sum as u128
     }
 
     /// How many connections were made.
@@ -269,10 +280,21 @@ impl Book {
         Outcome::Ordered((self.orders.len() % 65536) as u32 + 1)
     }
 
+    fn void_outcome(&self, name: &str, slot: u32) -> Outcome {
+        let Some(row) = self.known.iter().find(|row| row.name == name) else {
+            return refused(RequestFault::UnknownPoint, 0, 0);
+        };
+        if row.role != Role::Counter {
+            return refused(RequestFault::NotACounter, 0, 0);
+        }
+        Outcome::Voided(slot)
+    }
+
     fn outcome(&self, wanted: Wanted) -> Outcome {
         match wanted {
             Wanted::List(list) => list_outcome(&self.known, list),
             Wanted::Value(name, value) => self.order_outcome(name, value),
+            Wanted::Void(name, slot) => self.void_outcome(name, slot),
         }
     }
 
@@ -297,10 +319,21 @@ impl Book {
         push(&mut self.orders, placed)
     }
 
+    fn add_void(&mut self, name: &str, slot: u32) -> Result<(), OfficeError> {
+        let Some(point) = self.known.iter().position(|row| row.name == name) else {
+            return Ok(());
+        };
+        if self.is_voided(point, slot) {
+            return Ok(());
+        }
+        push(&mut self.voids, (point, slot))
+    }
+
     fn add(&mut self, wanted: Wanted, outcome: Outcome) -> Result<(), OfficeError> {
         match (wanted, outcome) {
             (Wanted::List(list), Outcome::Loaded(_)) => self.add_points(list),
             (Wanted::Value(name, value), Outcome::Ordered(_)) => self.add_order(name, value),
+            (Wanted::Void(name, slot), Outcome::Voided(_)) => self.add_void(name, slot),
             _ => Ok(()),
         }
     }

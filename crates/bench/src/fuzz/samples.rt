@@ -27,6 +27,8 @@ pub const CALLS: &[&[u8]] = &[
     b"GET /points/e/readings/0/9 HTTP/1.0\r\n\r\n",
     b"GET /callers/ann/orders/k1 HTTP/1.1\r\n\r\n",
     b"PUT /callers/ann/orders/k1 HTTP/1.1\r\nContent-Length: 26\r\n\r\n{\"point\":\"lim\",\"value\":80}",
+    b"GET /callers/ann/voids/v1 HTTP/1.1\r\nHost: a\r\n\r\n",
+    b"PUT /callers/ann/voids/v1 HTTP/1.1\r\nContent-Length: 22\r\n\r\n{\"point\":\"e\",\"slot\":2}",
     b"PUT /callers/ann/lists/l1 HTTP/1.1\r\nContent-Length: 89\r\n\r\nname,device,table,address,type,length,scale,role,roll\ne,m1,holding,107,uint16,,,counter,\n",
 ];
 
@@ -47,7 +49,7 @@ pub const IMAGES: &[&[u8]] = &[
 ];
 
 pub const SCRIPTS: &[&[u8]] = &[
-    b"device m1 roof 17\npoint e,m1,holding,107,uint16,,,counter,\nopen roof\nask 1 m1 1 3 107 1\nreply 1 00 00 00 00 00 05 11 03 02 FD E8\nrestart\n",
+    b"device m1 roof 17\npoint e,m1,holding,107,uint16,,,counter,\nopen roof\nask 1 m1 1 3 107 1\nreply 1 00 00 00 00 00 05 11 03 02 FD E8\nvoid v1 e 1\nrestart\n",
     b"device m1 roof 17\npoint lim,m1,holding,40,uint16,,,setting,\norder k1 lim 80\nopen roof\nsend 1 1\nreply 1 00 00 00 00 00 06 11 06 00 28 00 50\n# end\n",
 ];
 
