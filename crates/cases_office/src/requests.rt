@@ -51,6 +51,18 @@ fn told(alloc: Global, asked: &Heard) -> Result<String, AllocError> {
                 text_of(key.as_bytes())
             )
         }
+        Heard::Void {
+            caller,
+            key,
+            point,
+            slot,
+        } => {
+            format!(in alloc;
+                "void {} {} {point} {slot}",
+                text_of(caller.as_bytes()),
+                text_of(key.as_bytes())
+            )
+        }
         Heard::OrderUnder { caller, key } => {
             format!(in alloc;
                 "under {} {}",

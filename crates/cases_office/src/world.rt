@@ -5,7 +5,7 @@ use crate::cut::{Bytes, Cut};
 use crate::wire::{Devices, End};
 use case_pages::Block;
 use mb_mbap::Counted;
-use office_commands::{Failure, Fault, Host, Stores, Task, Why, work_in};
+use office_commands::{Failure, Fault, Host, Migration, Stores, Task, Why, work_in};
 use office_core::Office;
 use office_net::serve_one;
 use office_plays::refusing::Refusing;
@@ -262,5 +262,10 @@ impl Stores for World<'_> {
         let (done, keeper) = worked(self, keeper, site, task);
         self.put_keeper(name, keeper)?;
         done
+    }
+
+    /// Stores in memory are of today's version.
+    fn migrate(&mut self, _store: &str, _seconds: u16) -> Result<Migration, Failure> {
+        Ok(Migration::Already)
     }
 }
