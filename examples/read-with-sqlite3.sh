@@ -17,5 +17,7 @@ sqlite3 "$file" \
     'SELECT point, count(*) AS readings, min(slot) AS first, max(slot) AS last FROM reading GROUP BY point LIMIT 5' \
     'SELECT point, slot, hex(words) AS words, counted FROM reading LIMIT 5' \
     'SELECT point, hex(value) AS value FROM total LIMIT 5' \
+    'SELECT point, slot FROM void LIMIT 5' \
+    'SELECT point FROM swapped LIMIT 5' \
     'SELECT number, point, hex(words) AS words, state, code FROM setting LIMIT 5' \
     'SELECT caller, rkey, kind, length(body) AS bytes, answer, a, b, c FROM request LIMIT 5'

@@ -63,7 +63,7 @@ poll() {
 
 # Polls both lines for a slot, in which the registers of the meter and of the inverter begin with these.
 poll_both() {
-    sed "s/65000, 1200/$2/; s/420, 315/$3/" devices.toml > devices-now.toml
+    sed "s/65000, 1200, 9029, 1/$2/; s/420, 315/$3/" devices.toml > devices-now.toml
     poll devices-now.toml 15020 "$1" hall
     poll devices-now.toml 15021 "$1" roof
 }
@@ -81,10 +81,10 @@ run load "${store[@]}" --caller ann --key l1 points.csv
 run load "${store[@]}" --caller ann --key l1 points.csv
 
 # From slot 2 to slot 3 the counter goes through 65535 and on from 0. The meter's power 65186 is -350 as
-# an int16, and the inverter's 65535 means that it has none.
-poll_both 1 '65000, 1200' '420, 315'
-poll_both 2 '65400, 65186' '510, 402'
-poll_both 3 '120, 0' '65535, 388'
+# an int16, and the inverter's 65535 means that it has none. The water is misread in slot 2.
+poll_both 1 '65000, 1200, 9029, 1' '420, 315'
+poll_both 2 '65400, 65186, 1000, 0' '510, 402'
+poll_both 3 '120, 0, 9064, 1' '65535, 388'
 
 # In slot 4 the inverter's reply is lost. Polled again, it is asked again.
 (echo 'script = ["drop"]'; cat devices.toml) > losing.toml
@@ -101,6 +101,11 @@ poll devices.toml 15021 5 roof
 for point in meter.energy meter.power inverter.power inverter.heat inverter.limit; do
     run report "${store[@]}" "$point" 1 5
 done
+
+# The misread slot counts as if the counter had gone round, until it is voided.
+run report "${store[@]}" meter.water 1 5
+run void "${store[@]}" --caller ann --key v1 meter.water 2
+run report "${store[@]}" meter.water 1 5
 
 start serve "${store[@]}" --port 0 --count 7
 at=http://$(sed -n 's/.*listening on //p' listening)

@@ -10,7 +10,7 @@ use poll_book::MemKeeper;
 use read_planner::{can_be_read, plan};
 use std::alloc::{AllocError, Global};
 use std::io;
-use sunspec::PointType;
+use sunspec::{PointType, WordOrder};
 
 const POINTS: u32 = 10_000;
 
@@ -101,6 +101,7 @@ fn point(address: u32, kind: PointType) -> Option<Point> {
         scale: 0,
         role: Role::Gauge,
         roll: 0,
+        order: WordOrder::Big,
     })
 }
 

@@ -9,6 +9,8 @@ use std::alloc::Global;
 
 const HEADER: &str = "name,device,table,address,type,length,scale,role,roll\n";
 
+const HEADER_WITH_WORDS: &str = "name,device,table,address,type,length,scale,role,roll,words\n";
+
 fn site_of(alloc: Global, text: &str) -> Result<Site, ListError>
     ensures { IfOk result IsSound }
 {
@@ -40,6 +42,19 @@ pub(crate) fn list(alloc: Global, page: &[Block<'_>], input: &str) -> Result<Str
 /// The last point of records, or what they are refused for.
 pub(crate) fn records(alloc: Global, page: &[Block<'_>], input: &str) -> Result<String, Trouble> {
     list(alloc, page, format!(in alloc; "{HEADER}{input}")?.as_str())
+}
+
+/// The same of records with a column of orders.
+pub(crate) fn records_with_words(
+    alloc: Global,
+    page: &[Block<'_>],
+    input: &str,
+) -> Result<String, Trouble> {
+    list(
+        alloc,
+        page,
+        format!(in alloc; "{HEADER_WITH_WORDS}{input}")?.as_str(),
+    )
 }
 
 /// What comes of the beginnings of a list, and of the whole: from which length on, and what.

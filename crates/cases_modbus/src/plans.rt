@@ -5,6 +5,7 @@ use case_pages::Trouble;
 use point_list::{Label, Name, Point, Role};
 use read_planner::{Read, can_be_read, plan};
 use std::alloc::{AllocError, Global};
+use sunspec::WordOrder;
 
 /// `TABLE ADDRESS TYPE` at an address past that by so many.
 fn point_of(text: &str, step: u16) -> Option<Point> {
@@ -20,6 +21,7 @@ fn point_of(text: &str, step: u16) -> Option<Point> {
         scale: 0,
         role: Role::Gauge,
         roll: 0,
+        order: WordOrder::Big,
     })
 }
 

@@ -36,6 +36,7 @@ impl Outcomes for Rows<'_> {
             "chains" => chains::chain(alloc, input),
             "common" => chains::common_model(alloc, input),
             "records" => lists::records(alloc, page, input),
+            "records with words" => lists::records_with_words(alloc, page, input),
             "lists" => lists::list(alloc, page, input),
             "list beginnings" => lists::beginnings(alloc, page, input),
             "sites" => sites::site(alloc, input),

@@ -3,6 +3,7 @@ use crate::cut::Cut;
 use crate::shell::text_of;
 use case_pages::{Trouble, bytes_of};
 use office_http::{Exchange, Heard, Methods, Refusal};
+use poll_book::{Caller, Key};
 use std::alloc::{AllocError, Global};
 
 /// A list of more bytes is told by their number.
@@ -26,18 +27,28 @@ fn refusal(refusal: Refusal) -> &'static str {
     }
 }
 
+/// A caller and a key, in words.
+fn named(alloc: Global, caller: &Caller, key: &Key) -> Result<String, AllocError> {
+    let (caller, key) = (text_of(caller.as_bytes()), text_of(key.as_bytes()));
+    format!(in alloc; "{caller} {key}")
+}
+
+/// A list that is asked for, in words.
+fn loading(alloc: Global, who: &str, list: &[u8]) -> Result<String, AllocError> {
+    if list.len() > MOST_SHOWN {
+        format!(in alloc; "load {who} of {} bytes", list.len())
+    } else {
+        format!(in alloc; "load {who} {}", text_of(list))
+    }
+}
+
 /// What is asked for, in words.
 fn told(alloc: Global, asked: &Heard) -> Result<String, AllocError> {
     match asked {
         Heard::Nothing => String::from_str(alloc, "nothing"),
         Heard::Refused(why) => String::from_str(alloc, refusal(*why)),
         Heard::Load { caller, key, list } => {
-            let (caller, key) = (text_of(caller.as_bytes()), text_of(key.as_bytes()));
-            if list.len() > MOST_SHOWN {
-                format!(in alloc; "load {caller} {key} of {} bytes", list.len())
-            } else {
-                format!(in alloc; "load {caller} {key} {}", text_of(list))
-            }
+            loading(alloc, named(alloc, caller, key)?.as_str(), list)
         }
         Heard::Order {
             caller,
@@ -45,18 +56,20 @@ fn told(alloc: Global, asked: &Heard) -> Result<String, AllocError> {
             point,
             value,
         } => {
-            format!(in alloc;
-                "order {} {} {point} {value}",
-                text_of(caller.as_bytes()),
-                text_of(key.as_bytes())
-            )
+            let who = named(alloc, caller, key)?;
+            format!(in alloc; "order {who} {point} {value}")
+        }
+        Heard::Void {
+            caller,
+            key,
+            point,
+            slot,
+        } => {
+            let who = named(alloc, caller, key)?;
+            format!(in alloc; "void {who} {point} {slot}")
         }
         Heard::OrderUnder { caller, key } => {
-            format!(in alloc;
-                "under {} {}",
-                text_of(caller.as_bytes()),
-                text_of(key.as_bytes())
-            )
+            format!(in alloc; "under {}", named(alloc, caller, key)?)
         }
         Heard::Readings { point, from, to } => { format!(in alloc; "readings {point} {from} {to}") }
         Heard::Total { point } => format!(in alloc; "total {point}"),

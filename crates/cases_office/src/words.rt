@@ -21,6 +21,15 @@ fn errand_text(alloc: Global, errand: &Errand) -> Result<String, AllocError> {
             let (caller, key) = (text_of(caller.as_bytes()), text_of(key.as_bytes()));
             format!(in alloc; "order {caller} {key} {point} {value}")
         }
+        Errand::Void {
+            caller,
+            key,
+            point,
+            slot,
+        } => {
+            let (caller, key) = (text_of(caller.as_bytes()), text_of(key.as_bytes()));
+            format!(in alloc; "void {caller} {key} {point} {slot}")
+        }
         Errand::Report { point, from, to } => format!(in alloc; "report {point} {from} {to}"),
         Errand::Serve { port, count } => format!(in alloc; "serve {port} {count:?}"),
     }
@@ -36,6 +45,7 @@ fn job_text(alloc: Global, job: &Job) -> Result<String, AllocError> {
             device,
         } => format!(in alloc; "discover {site} {timeout} {device}"),
         Job::Sim { image, port } => format!(in alloc; "sim {image} {port:?}"),
+        Job::Migrate { store, timeout } => format!(in alloc; "migrate {store} {timeout}"),
         Job::Office {
             store,
             site,

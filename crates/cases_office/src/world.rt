@@ -1,16 +1,19 @@
-//! What a page has in the place of a machine: its files, its stores in memory, and its devices.
+//! What a page has in the place of a machine: its files, its stores in memory or in files, and its devices.
 ghost use Rattle.point_list.specs.Sites.{IsSound};
 
 use crate::cut::{Bytes, Cut};
+use crate::databases::{connected, file_of, moved, worked_in};
 use crate::wire::{Devices, End};
 use case_pages::Block;
 use mb_mbap::Counted;
-use office_commands::{Failure, Fault, Host, Stores, Task, Why, work_in};
+use office_commands::{Failure, Fault, Host, Migration, Stores, Task, Why, work_in};
 use office_core::Office;
 use office_net::serve_one;
 use office_plays::refusing::Refusing;
 use point_list::Site;
 use poll_book::{Keeper, StoreFault};
+use sqlite::{Connection, FileStore, Files};
+use sqlite_disk::Memory;
 use std::alloc::{AllocError, Global};
 use std::cell::RefCell;
 use std::fs;
@@ -24,6 +27,13 @@ const REFUSED: i32 = 111;
 struct Store {
     name: String,
     keeper: Refusing,
+}
+
+/// A store that is a file of the page's folder, and its log.
+#[derive(Drop)]
+struct Database {
+    name: String,
+    files: Files<Memory>,
 }
 
 /// How a page is played.
@@ -57,6 +67,7 @@ pub(crate) struct World<'a> {
     pub(crate) devices: &'a RefCell<Devices>,
     pub(crate) play: Play,
     stores: Vec<Store>,
+    databases: Vec<Database>,
     /// How many calls of stores were made.
     pub(crate) calls: u32,
     /// Standard input of the next command.
@@ -97,6 +108,7 @@ impl<'a> World<'a> {
             devices,
             play,
             stores: Vec::new(alloc),
+            databases: Vec::new(alloc),
             calls: 0,
             input: Vec::new(alloc),
             words: String::new(alloc),
@@ -141,6 +153,41 @@ impl<'a> World<'a> {
         self.calls = keeper.calls;
         Ok(self.stores.push(Store { name, keeper })?)
     }
+
+    /// The place of a store among the databases, if it is a file of the page's folder.
+    fn database(&mut self, name: &str) -> Result<Option<usize>, Failure> {
+        let alloc = self.rt.alloc();
+        let place = self
+            .databases
+            .iter()
+            .position(|it| it.name.as_str() == name);
+        if place.is_some() {
+            return Ok(place);
+        }
+        let bytes = match self.file(name) {
+            Ok(bytes) => bytes,
+            Err(failure) if failure.fault == Fault::Memory => return Err(failure),
+            Err(_) => return Ok(None),
+        };
+        let files = Files {
+            log: file_of(alloc, &[])?,
+            db: file_of(alloc, &bytes)?,
+        };
+        let name = String::from_str(alloc, name)?;
+        self.push_database(Database { name, files })?;
+        Ok(Some(self.databases.len().saturating_sub(1)))
+    }
+
+    fn push_database(&mut self, database: Database) -> Result<(), AllocError> {
+        Ok(self.databases.push(database)?)
+    }
+
+    /// The files of the database at a place are these from here on.
+    fn put_files(&mut self, place: usize, files: Files<Memory>) {
+        if let Some(database) = self.databases.get_mut(place) {
+            database.files = files;
+        }
+    }
 }
 
 /// Answers a request with the bytes that are given back.
@@ -158,23 +205,23 @@ fn answered<K: Keeper>(
     }
 }
 
-fn office_over(
+fn office_over<K: Keeper + Drop>(
     alloc: Global,
-    keeper: Refusing,
+    keeper: K,
     site: Site,
-) -> Result<Office<Refusing>, (Fault, Refusing)>
+) -> Result<Office<K>, (Fault, K)>
     requires { IsSound site }
 {
     Office::new(alloc, keeper, site).map_err(|(error, keeper)| (Fault::from(error), keeper))
 }
 
 /// Does a task over a keeper, and gives it back.
-fn worked(
+pub(crate) fn worked<K: Keeper + Drop>(
     world: &mut World<'_>,
-    keeper: Refusing,
+    keeper: K,
     site: Site,
     task: &Task<'_>,
-) -> (Result<(), Failure>, Refusing)
+) -> (Result<(), Failure>, K)
     requires { IsSound site }
 {
     match office_over(world.rt.alloc(), keeper, site) {
@@ -184,6 +231,36 @@ fn worked(
         }
         Err((fault, keeper)) => (Err(Failure::from(fault)), keeper),
     }
+}
+
+/// The database at a place.
+fn connected_at(world: &World<'_>, place: usize) -> Result<Connection<FileStore<Memory>>, Failure> {
+    match world.databases.get(place) {
+        Some(database) => connected(world.rt.alloc(), &database.files),
+        None => Err(Failure::from(Fault::File)),
+    }
+}
+
+/// Does a task over the database at a place.
+fn worked_at(
+    world: &mut World<'_>,
+    place: usize,
+    site: Site,
+    task: &Task<'_>,
+) -> Result<(), Failure>
+    requires { IsSound site }
+{
+    let connection = connected_at(world, place)?;
+    let (done, store) = worked_in(world, connection, site, task);
+    world.put_files(place, store.close());
+    done
+}
+
+/// Moves the database at a place to today's version.
+fn moved_at(world: &mut World<'_>, place: usize) -> Result<Migration, Failure> {
+    let (done, store) = moved(connected_at(world, place)?);
+    world.put_files(place, store.close());
+    done
 }
 
 impl<'a> Host for World<'a> {
@@ -257,10 +334,21 @@ impl<'a> Host for World<'a> {
 
 impl Stores for World<'_> {
     fn work(&mut self, store: &str, site: Site, task: &Task<'_>) -> Result<(), Failure> {
+        if let Some(place) = self.database(store)? {
+            return worked_at(self, place, site, task);
+        }
         let name = String::from_str(self.rt.alloc(), store)?;
         let keeper = self.take_keeper(store);
         let (done, keeper) = worked(self, keeper, site, task);
         self.put_keeper(name, keeper)?;
         done
+    }
+
+    /// Stores that are no files are of today's version.
+    fn migrate(&mut self, store: &str, _seconds: u16) -> Result<Migration, Failure> {
+        match self.database(store)? {
+            Some(place) => moved_at(self, place),
+            None => Ok(Migration::Already),
+        }
     }
 }

@@ -1,8 +1,8 @@
 //! The machine that the program runs on: its files, its sockets, and the stores in its files.
 ghost use Rattle.point_list.specs.Sites.{IsSound};
 
-use crate::stores::work_on;
-use office_commands::{Failure, Fault, Host, Stores, Task, Timed, Why, connect, serve};
+use crate::stores::{migrate_on, work_on};
+use office_commands::{Failure, Fault, Host, Migration, Stores, Task, Timed, Why, connect, serve};
 use office_core::Office;
 use point_list::Site;
 use poll_book::Keeper;
@@ -145,5 +145,9 @@ impl<'a> Host for Machine<'a> {
 impl Stores for Machine<'_> {
     fn work(&mut self, store: &str, site: Site, task: &Task<'_>) -> Result<(), Failure> {
         work_on(self, store, site, task)
+    }
+
+    fn migrate(&mut self, store: &str, timeout: u16) -> Result<Migration, Failure> {
+        migrate_on(self.0, store, timeout)
     }
 }

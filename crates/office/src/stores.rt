@@ -3,9 +3,9 @@
 ghost use Rattle.point_list.specs.Sites.{IsSound};
 
 use crate::machine::Machine;
-use office_commands::{Failure, Fault, Task, Why, work_in};
+use office_commands::{Failure, Fault, Migration, Task, Why, work_in};
 use office_core::Office;
-use office_store::{SqlKeeper, StoreError, create, is_blank};
+use office_store::{Migrated, SqlKeeper, StoreError, create, is_blank, migrate};
 use point_list::Site;
 use poll_book::{Keeper, StoreFault};
 use sqlite::{Alter, Connection, Error, ErrorCode, File, FileStore};
@@ -140,5 +140,30 @@ pub(crate) fn work_on(
     match connection.close() {
         Ok(()) => Ok(()),
         Err(error) => Err(file_failure(machine.0, &error, path)),
+    }
+}
+
+/// Moves a connection's tables to today's version.
+fn migrate_over<S: Alter>(connection: &mut Connection<S>) -> Result<Migration, Fault> {
+    if !connection.is_autocommit() {
+        return Err(Fault::Store(StoreFault::Other));
+    }
+    match migrate(connection) {
+        Ok(Migrated::Done) => Ok(Migration::Done),
+        Ok(Migrated::Already) => Ok(Migration::Already),
+        Err(error) => Err(fault_of(error)),
+    }
+}
+
+/// Moves the tables of a store's file, which must be there, to today's version.
+pub(crate) fn migrate_on(rt: &HostRuntime, path: &str, seconds: u16) -> Result<Migration, Failure> {
+    if let Err(error) = fs::File::open(rt, path) {
+        return Err(Failure::new(Fault::File, Why::System(error)).of(rt.alloc(), path));
+    }
+    let mut connection = open(rt, path, seconds)?;
+    let done = migrate_over(&mut connection)?;
+    match connection.close() {
+        Ok(()) => Ok(done),
+        Err(error) => Err(file_failure(rt, &error, path)),
     }
 }

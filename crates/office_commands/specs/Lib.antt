@@ -1,2 +1,3 @@
 -- What contracts say of commands.
 pub mod Faults
+pub mod Conversions

@@ -1,7 +1,7 @@
 //! What is done in an office, wherever its store is.
 use crate::output::Output;
 use crate::running::unknown;
-use crate::{Failure, Fault, Host, Why, load, order, poll};
+use crate::{Failure, Fault, Host, Why, load, order, poll, void};
 use mb_mbap::Counted;
 use office_core::Office;
 use office_report::write_report;
@@ -78,6 +78,18 @@ fn order_setting<H: Host, K: Keeper>(
     print(host, text.as_str())
 }
 
+fn void_slot<H: Host, K: Keeper>(
+    host: &mut H,
+    office: &mut Office<K>,
+    caller: &Caller,
+    key: &Key,
+    point: &str,
+    slot: u32,
+) -> Result<(), Failure> {
+    let text = void(host.alloc(), office, caller, key, point, slot)?;
+    print(host, text.as_str())
+}
+
 fn report_point<H: Host, K: Keeper>(
     host: &mut H,
     office: &mut Office<K>,
@@ -117,6 +129,12 @@ pub fn work_in<H: Host, K: Keeper>(
             point,
             value,
         } => order_setting(host, office, caller, key, point.as_str(), *value),
+        Errand::Void {
+            caller,
+            key,
+            point,
+            slot,
+        } => void_slot(host, office, caller, key, point.as_str(), *slot),
         Errand::Report { point, from, to } => {
             report_point(host, office, point.as_str(), *from, *to)
         }

@@ -1,12 +1,16 @@
 //! A fault with what is known of its place.
+ghost use Rattle.std.specs.Prelude.{◌≡◌};
+ghost use Rattle.office_commands.specs.Conversions.{of_image, of_list, of_map, of_office, of_poll, of_replay, of_report, of_site, of_sun};
+ghost use Rattle.office_commands.specs.declared.fault.Fault.TheVariants.{Memory};
+
 use crate::Fault;
-use mb_map::{ImageError, MapError};
+use mb_map::{ImageError, ImageFault, MapError};
 use mb_mbap::FrameFault;
 use office_core::OfficeError;
 use office_net::PollFault;
 use office_report::ReportFault;
 use office_script::ReplayFault;
-use point_list::{ListError, SiteError};
+use point_list::{ListError, SiteError, SiteFault};
 use std::alloc::{AllocError, Global};
 use std::error::Error;
 use std::{fmt, io};
@@ -75,7 +79,9 @@ pub struct Failure {
 }
 
 impl Failure {
-    pub fn new(fault: Fault, why: Why) -> Failure {
+    pub fn new(fault: Fault, why: Why) -> Failure
+        ensures { result.fault ≡ fault }
+    {
         Failure {
             fault,
             subject: None,
@@ -85,7 +91,9 @@ impl Failure {
 
     /// The same of a file, a name or an address, where it says why and not yet of which. Where memory is refused, that
     /// stays unsaid.
-    pub fn of(self, alloc: Global, subject: &str) -> Failure {
+    pub fn of(self, alloc: Global, subject: &str) -> Failure
+        ensures { result.fault ≡ self.fault }
+    {
         if self.subject.is_some() || !self.why.is_said() {
             return self;
         }
@@ -97,7 +105,9 @@ impl Failure {
     }
 
     /// A fault of the store says why, where nothing more is known.
-    pub fn explained(self) -> Failure {
+    pub fn explained(self) -> Failure
+        ensures { result.fault ≡ self.fault }
+    {
         if self.why.is_said() {
             return self;
         }
@@ -127,30 +137,40 @@ impl fmt::Display for Failure {
 impl Error for Failure {}
 
 impl From<Fault> for Failure {
+    ghost from_gives = { λ fault told. told.fault ≡ fault };
+
     fn from(fault: Fault) -> Failure {
         Failure::new(fault, Why::Unsaid)
     }
 }
 
 impl From<Failure> for Fault {
+    ghost from_gives = { λ failure told. told ≡ failure.fault };
+
     fn from(failure: Failure) -> Fault {
         failure.fault
     }
 }
 
 impl From<AllocError> for Failure {
+    ghost from_gives = { λ _ told. told.fault ≡ Memory };
+
     fn from(error: AllocError) -> Failure {
         Failure::from(Fault::from(error))
     }
 }
 
 impl From<OfficeError> for Failure {
+    ghost from_gives = { λ error told. told.fault ≡ of_office error };
+
     fn from(error: OfficeError) -> Failure {
         Failure::from(Fault::from(error))
     }
 }
 
 impl From<PollFault> for Failure {
+    ghost from_gives = { λ fault told. told.fault ≡ of_poll fault };
+
     fn from(fault: PollFault) -> Failure {
         let why = match fault {
             PollFault::Line => Why::Words(
@@ -166,6 +186,8 @@ impl From<PollFault> for Failure {
 }
 
 impl From<ReportFault> for Failure {
+    ghost from_gives = { λ fault told. told.fault ≡ of_report fault };
+
     fn from(fault: ReportFault) -> Failure {
         let why = match fault {
             ReportFault::Write => Why::Words("standard output can't be written"),
@@ -176,6 +198,8 @@ impl From<ReportFault> for Failure {
 }
 
 impl From<ReplayFault> for Failure {
+    ghost from_gives = { λ fault told. told.fault ≡ of_replay fault };
+
     fn from(fault: ReplayFault) -> Failure {
         let why = match fault {
             ReplayFault::Read => Why::Words(
@@ -189,6 +213,8 @@ impl From<ReplayFault> for Failure {
 }
 
 impl From<ListError> for Failure {
+    ghost from_gives = { λ error told. told.fault ≡ of_list error.fault };
+
     /// Of a point list.
     fn from(error: ListError) -> Failure {
         match Fault::from(error) {
@@ -199,26 +225,30 @@ impl From<ListError> for Failure {
 }
 
 impl From<SiteError> for Failure {
+    ghost from_gives = { λ error told. told.fault ≡ of_site error.fault };
+
     fn from(error: SiteError) -> Failure {
-        if error.is_memory() {
-            Failure::from(Fault::Memory)
-        } else {
-            Failure::new(Fault::BadSite, Why::Site(error))
+        match error.fault {
+            SiteFault::Memory => Failure::from(Fault::Memory),
+            _ => Failure::new(Fault::BadSite, Why::Site(error)),
         }
     }
 }
 
 impl From<ImageError> for Failure {
+    ghost from_gives = { λ error told. told.fault ≡ of_image error.fault };
+
     fn from(error: ImageError) -> Failure {
-        if error.is_memory() {
-            Failure::from(Fault::Memory)
-        } else {
-            Failure::new(Fault::File, Why::Image(error))
+        match error.fault {
+            ImageFault::Memory => Failure::from(Fault::Memory),
+            _ => Failure::new(Fault::File, Why::Image(error)),
         }
     }
 }
 
 impl From<MapError> for Failure {
+    ghost from_gives = { λ error told. told.fault ≡ of_map error };
+
     /// Of a simulator.
     fn from(error: MapError) -> Failure {
         Failure::from(Fault::from(error))
@@ -226,6 +256,8 @@ impl From<MapError> for Failure {
 }
 
 impl From<SunError> for Failure {
+    ghost from_gives = { λ error told. told.fault ≡ of_sun error };
+
     /// Of a device's chain of models.
     fn from(error: SunError) -> Failure {
         let why = match error {

@@ -1,5 +1,6 @@
 //! What ends a command, as standard error tells it.
 ghost use Rattle.std.specs.Prelude.{◌≡◌};
+ghost use Rattle.office_commands.specs.Conversions.{of_list, of_map, of_office, of_poll, of_replay, of_report, of_sun};
 ghost use Rattle.office_commands.specs.declared.fault.Fault.TheVariants.{Memory};
 
 use crate::Why;
@@ -78,7 +79,7 @@ impl Fault {
             Fault::Store(StoreFault::Other) => {
                 Why::Words("another process has it open, or it holds what no office wrote")
             }
-            Fault::BadVersion => Why::Words("its tables are of another version"),
+            Fault::BadVersion => Why::Words("its tables are of another version; 'office migrate' moves those of version 1"),
             Fault::NotOffice => Why::Words("it is no office's store"),
             Fault::SiteDiffers => Why::Words("a point of it is of a device that the site lacks"),
             _ => Why::Unsaid,
@@ -125,6 +126,8 @@ impl From<AllocError> for Fault {
 }
 
 impl From<OfficeError> for Fault {
+    ghost from_gives = { λ error told. told ≡ of_office error };
+
     /// Of a line or a device that the site lacks, of a connection, and of the store.
     fn from(error: OfficeError) -> Fault {
         match error {
@@ -137,6 +140,8 @@ impl From<OfficeError> for Fault {
 }
 
 impl From<PollFault> for Fault {
+    ghost from_gives = { λ fault told. told ≡ of_poll fault };
+
     fn from(fault: PollFault) -> Fault {
         match fault {
             PollFault::Line | PollFault::Closed => Fault::Line,
@@ -149,6 +154,8 @@ impl From<PollFault> for Fault {
 }
 
 impl From<ReportFault> for Fault {
+    ghost from_gives = { λ fault told. told ≡ of_report fault };
+
     fn from(fault: ReportFault) -> Fault {
         match fault {
             ReportFault::Write => Fault::File,
@@ -159,6 +166,8 @@ impl From<ReportFault> for Fault {
 }
 
 impl From<ReplayFault> for Fault {
+    ghost from_gives = { λ fault told. told ≡ of_replay fault };
+
     fn from(fault: ReplayFault) -> Fault {
         match fault {
             ReplayFault::Read | ReplayFault::Write => Fault::File,
@@ -168,6 +177,8 @@ impl From<ReplayFault> for Fault {
 }
 
 impl From<ListError> for Fault {
+    ghost from_gives = { λ error told. told ≡ of_list error.fault };
+
     /// Of a point list.
     fn from(error: ListError) -> Fault {
         match error.fault {
@@ -179,6 +190,8 @@ impl From<ListError> for Fault {
 }
 
 impl From<SunError> for Fault {
+    ghost from_gives = { λ error told. told ≡ of_sun error };
+
     /// Of a device's chain of models, which is never out of a range or a scale.
     fn from(error: SunError) -> Fault {
         match error {
@@ -192,6 +205,8 @@ impl From<SunError> for Fault {
 }
 
 impl From<MapError> for Fault {
+    ghost from_gives = { λ error told. told ≡ of_map error };
+
     /// Of a simulator's file, and of a simulator.
     fn from(error: MapError) -> Fault {
         match error {

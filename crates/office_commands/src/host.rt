@@ -6,6 +6,7 @@ use office_core::Office;
 use point_list::Site;
 use poll_book::Keeper;
 use std::alloc::Global;
+use std::fmt;
 use std::io::{self, Read, Write};
 
 /// What a command works on: the machine that the program runs on, or what a test has in its place.
@@ -52,10 +53,32 @@ pub trait Host {
     ) -> Result<(), Failure>;
 }
 
+/// What became of a store that was to be of today's version.
+#[derive(Clone, Copy, Debug, PartialEq, Eq)]
+pub enum Migration {
+    /// It was of an earlier one.
+    Done,
+    /// It is as it was.
+    Already,
+}
+
+impl fmt::Display for Migration {
+    fn fmt<W: fmt::Write>(&self, f: &mut fmt::Formatter<W>) -> fmt::Result {
+        f.write_str(match self {
+            Migration::Done => "migrated",
+            Migration::Already => "already",
+        })
+    }
+}
+
 /// A host that has stores too.
 pub trait Stores: Host {
     /// Does a task in the office of a store over a site, by `work_in`. A store that another process has is waited for
     /// as long as the task says.
     fn work(&mut self, store: &str, site: Site, task: &Task<'_>) -> Result<(), Failure>
         requires { IsSound site };
+
+    /// Moves a store of an earlier version to today's, whole or not at all. One that another process has is waited
+    /// for as many seconds.
+    fn migrate(&mut self, store: &str, seconds: u16) -> Result<Migration, Failure>;
 }

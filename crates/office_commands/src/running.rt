@@ -149,10 +149,27 @@ fn work<H: Stores>(
         timeout,
     };
     match host.work(store, site, &task) {
-        Err(failure) if is_of_store(failure.fault) => {
-            Err(failure.explained().of(host.alloc(), store))
+        Ok(()) => Ok(()),
+        Err(failure) => Err(of_store(host.alloc(), failure, store)),
+    }
+}
+
+/// The same failure of a store, with its file and why.
+fn of_store(alloc: Global, failure: Failure, store: &str) -> Failure {
+    if is_of_store(failure.fault) {
+        failure.explained().of(alloc, store)
+    } else {
+        failure
+    }
+}
+
+fn migrate_store<H: Stores>(host: &mut H, store: &str, timeout: u16) -> Result<(), Failure> {
+    match host.migrate(store, timeout) {
+        Ok(done) => {
+            let text = format!(in host.alloc(); "{done}\n")?;
+            print(host, text.as_str())
         }
-        done => done,
+        Err(failure) => Err(of_store(host.alloc(), failure, store)),
     }
 }
 
@@ -170,6 +187,7 @@ fn carry_out<H: Stores>(host: &mut H, job: &Job) -> Result<u8, Failure> {
             image,
             port: Some(port),
         } => simulate_port(host, image.as_str(), *port)?,
+        Job::Migrate { store, timeout } => migrate_store(host, store.as_str(), *timeout)?,
         Job::Office {
             store,
             site,

@@ -1,4 +1,8 @@
 //! Playing devices, for frames as lines of text or over a stream.
+ghost use Rattle.std.specs.Prelude.{◌≡◌};
+ghost use Rattle.office_commands.specs.Conversions.{of_lines};
+ghost use Rattle.office_commands.specs.declared.simulating.LinesFault.TheVariants as LinesFault;
+
 use crate::frame_line::{frame_of, push_frame};
 use crate::{Failure, Fault, Why};
 use line_io::{read_piece, write, write_frame};
@@ -54,12 +58,16 @@ impl fmt::Display for LinesFault {
 impl Error for LinesFault {}
 
 impl From<AllocError> for LinesFault {
+    ghost from_gives = { λ _ told. told ≡ LinesFault.Memory };
+
     fn from(_: AllocError) -> LinesFault {
         LinesFault::Memory
     }
 }
 
 impl From<LinesFault> for Failure {
+    ghost from_gives = { λ fault told. told.fault ≡ of_lines fault };
+
     fn from(fault: LinesFault) -> Failure {
         match fault {
             LinesFault::Read => Failure::new(Fault::File, UNREAD),

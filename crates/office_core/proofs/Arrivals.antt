@@ -11,20 +11,22 @@ use Rattle.poll_match.specs.declared.error.MatchError.TheVariants as matching
 use Rattle.poll_match.specs.Window.{Open as OpenOne, held, refusal, settled_at, with_settled, with_answer, Changes}
 use Rattle.poll_match.proofs.Numbers.{numbered_at, numbered_is}
 use Rattle.poll_book.specs.declared.rows.PointRow.{PointRow}
-use Rattle.poll_book.specs.Tables.{Tables, Readings, with_rows}
+use Rattle.poll_book.specs.Tables.{Tables, Readings, Voids, marked, new_rows, with_rows}
 use Rattle.poll_book.specs.Totals.{totals_of}
+use Rattle.office_core.specs.declared.event.Arrival.TheVariants.{Recorded, Excepted}
 use Rattle.office_core.specs.declared.event.Event.TheVariants as event
 use Rattle.office_core.specs.declared.event.EventAnswer.TheVariants as answer
 use Rattle.office_core.specs.Errors.{refused_by}
 use Rattle.office_core.specs.Cover.{excepts, given_rows}
-use Rattle.office_core.specs.Queries.{Query, Reads, Writes, asked_of, unit_id_of, fits}
+use Rattle.office_core.specs.Queries.{Query, Reads, Writes, asked_of, exception_code, is_excepted, unit_id_of, fits}
 use Rattle.office_core.specs.Orders.{settle, settled_by, state_by}
-use Rattle.office_core.specs.History.{Happening, Restart, Load, Order, Open, Ask, Send, Reply, Noise, History, tables, readings, points, settings, requests, connections, open_line, asked, is_answered, fits_query, given, given_by}
+use Rattle.office_core.specs.History.{Happening, Restart, Load, Order, Void, Open, Ask, Send, Reply, Noise, History, tables, kept_readings, readings, points, voids, settings, requests, connections, open_line, asked, is_answered, fits_query, given, given_by}
 use Rattle.office_core.specs.Answers.{answer_of, unit_answer, frame_answer, reply_frame}
 use Rattle.office_core.specs.Legal.{MayHappen, IsTimely, IsNoise}
 use Rattle.poll_book.specs.Orders.{Settings}
 use Rattle.office_core.specs.Keeping.{with_given, with_readings, with_state}
 use Rattle.office_core.specs.Standing.{queries_from, queries, open_one, open_of, StandsFor, Sees}
+use Rattle.office_core.proofs.Marks.{new_marked, new_to_marked, rows_marked}
 use Rattle.office_core.proofs.Rows.{readings_more, readings_same}
 use Rattle.office_core.proofs.Queries.{length-queries, still_open, open-settled}
 use Rattle.office_core.proofs.Naming.{named_by, number_by, line_by, refusal_is, refused_told, Accepted, accepted_told, reply_told}
@@ -37,10 +39,25 @@ recorded known (Reads q) unit kept = cond (excepts q.read unit) kept (with_given
 recorded known (Writes w) unit kept = with_state w.order (state_by w unit) kept
 
 abbrev with_more : History → Readings → Settings → Tables
-with_more before more set = record { points = points before; readings = with_rows (given before ++ more) []; totals = totals_of (points before) (with_rows (given before ++ more) []); settings = set; requests = requests before; connections = connections before }
+with_more before more set = record { points = points before; readings = marked (voids before) (with_rows (given before ++ more) []); voids = voids before; totals = totals_of (points before) (marked (voids before) (with_rows (given before ++ more) [])); settings = set; requests = requests before; connections = connections before }
 
 none_more : (before : History) (set : Settings) → with_more before [] set ≡ record (tables before) { settings = set }
-none_more before set = ap (λ r. record (tables before) { readings = r; totals = totals_of (points before) r; settings = set }) (readings_same (given before))
+none_more before set = ap (λ r. record (tables before) { readings = marked (voids before) r; totals = totals_of (points before) (marked (voids before) r); settings = set }) (readings_same (given before))
+
+-- what is new goes into what is kept
+kept_more : (before : History) (rows : Readings)
+    → marked (voids before) (with_rows (given before ++ rows) []) ≡ with_rows (new_rows (kept_readings before) (marked (voids before) rows)) (kept_readings before)
+kept_more before rows =
+    let table = readings before in
+    ap (marked (voids before)) (readings_more (given before) rows)
+    ∙ rows_marked (voids before) (new_rows table rows) table
+    ∙ ap (λ l. with_rows l (kept_readings before)) (sym (new_to_marked (voids before) table (marked (voids before) rows) ∙ new_marked (voids before) table rows))
+
+-- how many are new doesn't depend on which slots are voided
+pub told_marked : (voids : Voids) (table : Readings) (known : List PointRow) (query : Query) (unit : List ℕ) → unit_answer (marked voids table) known query unit ≡ unit_answer table known query unit
+told_marked voids table known (Reads q) unit =
+    ap (λ (l : Readings). cond (is_excepted (Reads q) unit) (answer.Arrived (Excepted (exception_code unit))) (answer.Arrived (Recorded (length l)))) (new_to_marked voids table (given_rows known q unit))
+told_marked voids table known (Writes w) unit = refl
 
 -- a reply that doesn't fit its query gives nothing, and settles nothing
 unfit_gives : (known : List PointRow) (q : Query) (unit : List ℕ) → fits q unit ≡ false → given_by known (Some q) unit ≡ []
@@ -80,7 +97,7 @@ tables_more before c n unit q is fresh fit =
   where
     read : (rows : Readings) (b : Bool) → with_more before (cond (true && not b) rows []) (settings before) ≡ cond b (tables before) (with_given rows (tables before))
     read rows true = none_more before (settings before)
-    read rows false = ap (λ r. with_readings r (tables before)) (readings_more (given before) rows)
+    read rows false = ap (λ r. with_readings r (tables before)) (kept_more before rows)
 
     by : (q : Query) → fits q unit ≡ true → after_reply before false (Some q) unit ≡ recorded (points before) q unit (tables before)
     by (Reads q) fit =
@@ -174,8 +191,9 @@ open_answered before c n unit q is fit near = by (open_line before c)
 pub seen_told : (before : History) (happening : Happening) (conn : ℕ) (frame : Frame) → MayHappen before happening → Sees before happening (event.Arrive conn frame)
     → answer_of before happening ≡ frame_answer before conn frame
 seen_told before (Restart site) conn frame may sees = absurd sees
-seen_told before (Load caller key list) conn frame may sees = absurd sees
+seen_told before (Load edition caller key list) conn frame may sees = absurd sees
 seen_told before (Order caller key point value) conn frame may sees = absurd sees
+seen_told before (Void caller key point at) conn frame may sees = absurd sees
 seen_told before (Send c number) conn frame may sees = absurd sees
 seen_told before (Open line) conn frame may sees = absurd sees
 seen_told before (Ask c device slot read) conn frame may sees = absurd sees
@@ -223,8 +241,9 @@ noisy before c noise n q (inr quiet) a =
 pub arrival_tables : (before : History) (happening : Happening) (conn : ℕ) (frame : Frame) (n : ℕ) (q : Query) → MayHappen before happening → Sees before happening (event.Arrive conn frame)
     → Accepted before conn frame n q → tables (happening ∷ before) ≡ recorded (points before) q frame.unit (tables before)
 arrival_tables before (Restart site) conn frame n q may sees a = absurd sees
-arrival_tables before (Load caller key list) conn frame n q may sees a = absurd sees
+arrival_tables before (Load edition caller key list) conn frame n q may sees a = absurd sees
 arrival_tables before (Order caller key point value) conn frame n q may sees a = absurd sees
+arrival_tables before (Void caller key point at) conn frame n q may sees a = absurd sees
 arrival_tables before (Open line) conn frame n q may sees a = absurd sees
 arrival_tables before (Ask c device slot read) conn frame n q may sees a = absurd sees
 arrival_tables before (Send c number) conn frame n q may sees a = absurd sees
@@ -250,8 +269,9 @@ module _ (holds : Tables → Type 0) (now : Site) (known : List PointRow) (all :
     where
       by : (h : Happening) → MayHappen before h → Sees before h (event.Arrive conn frame) → refusal (open_of before conn) frame ≡ Some e → StandsFor holds now known all (h ∷ before)
       by (Restart site) may sees found = absurd sees
-      by (Load caller key list) may sees found = absurd sees
+      by (Load edition caller key list) may sees found = absurd sees
       by (Order caller key point value) may sees found = absurd sees
+      by (Void caller key point at) may sees found = absurd sees
       by (Send c number) may sees found = absurd sees
       by (Open line) may sees found = absurd sees
       by (Ask c device slot read) may sees found = absurd sees
@@ -281,8 +301,9 @@ module _ (holds : Tables → Type 0) (now : Site) (known : List PointRow) (all :
     where
       by : (h : Happening) → MayHappen before h → Sees before h (event.Arrive conn frame) → StandsFor holds' now known all' (h ∷ before)
       by (Restart site) may sees = absurd sees
-      by (Load caller key list) may sees = absurd sees
+      by (Load edition caller key list) may sees = absurd sees
       by (Order caller key point value) may sees = absurd sees
+      by (Void caller key point at) may sees = absurd sees
       by (Send c number) may sees = absurd sees
       by (Open line) may sees = absurd sees
       by (Ask c device slot read) may sees = absurd sees

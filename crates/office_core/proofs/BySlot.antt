@@ -16,10 +16,11 @@ use Rattle.poll_book.specs.Tables.{Key, key_cmp, Readings, reading_at, with_rows
 use Rattle.poll_book.specs.Totals.{counted_number, counted_numbers, steps}
 use Rattle.poll_book.specs.Histories.{IsRising}
 use Rattle.poll_book.proofs.Tabled.{keys_total}
-use Rattle.office_core.specs.History.{History, given, readings, total}
+use Rattle.office_core.specs.History.{History, given, kept_readings, readings, total, voids}
 use Rattle.office_core.specs.FirstArrivals.{AreBySlot, step, sum_of_steps, numbers_of}
 use Rattle.office_core.proofs.Elements.{among, in_none, further, foremost}
 use Rattle.office_core.proofs.FirstArrivals.{same_key, own_key}
+use Rattle.office_core.proofs.Marks.{marked_sorted}
 
 -- ---- sums of steps
 
@@ -57,6 +58,9 @@ sorted_rows (x ∷ xs) table h = rows.is_sorted-put key_cmp keys_total x.0 x.1 (
 
 pub readings_sorted : (before : History) → T (rows.is_sorted key_cmp (readings before))
 readings_sorted before = sorted_rows (given before) [] tt
+
+pub kept_sorted : (before : History) → T (rows.is_sorted key_cmp (kept_readings before))
+kept_sorted before = marked_sorted (voids before) (readings before) (readings_sorted before)
 
 first_of_two : (a b : Bool) → T (a && b) → T a
 first_of_two true b h = tt
@@ -304,22 +308,22 @@ pairs_rise known (x ∷ table) sorted =
 -- ---- totals
 
 -- the slots that count are listed in their order
-pub by_slot : (before : History) (known : PointRow) → AreBySlot before known (pairs known (readings before))
+pub by_slot : (before : History) (known : PointRow) → AreBySlot before known (pairs known (kept_readings before))
 by_slot before known = record {
-  rise = pairs_rise known (readings before) (readings_sorted before);
+  rise = pairs_rise known (kept_readings before) (kept_sorted before);
   are = λ slot number. (
     (λ h.
-        let of = found known (readings before) slot number (readings_sorted before) h in
+        let of = found known (kept_readings before) slot number (kept_sorted before) h in
         record { reading = of.reading; stands = of.stands; counted = of.counted; reads = of.reads }),
-    (λ c. has known (readings before) slot number (record { reading = c.reading; stands = c.stands; counted = c.counted; reads = c.reads })),
+    (λ c. has known (kept_readings before) slot number (record { reading = c.reading; stands = c.stands; counted = c.counted; reads = c.reads })),
   );
 }
 
 -- in one list only
-pub one_by_slot : (before : History) (known : PointRow) (listed : List (ℕ × ℕ)) → AreBySlot before known listed → listed ≡ pairs known (readings before)
+pub one_by_slot : (before : History) (known : PointRow) (listed : List (ℕ × ℕ)) → AreBySlot before known listed → listed ≡ pairs known (kept_readings before)
 one_by_slot before known listed are =
     let own = by_slot before known in
-    one_rising listed (pairs known (readings before)) are.rise own.rise
+    one_rising listed (pairs known (kept_readings before)) are.rise own.rise
     (λ p h. (own.are p.0 p.1).1 ((are.are p.0 p.1).0 h))
     (λ p h. (are.are p.0 p.1).1 ((own.are p.0 p.1).0 h))
 
@@ -327,6 +331,6 @@ one_by_slot before known listed are =
 pub total_by_slot : (before : History) (known : PointRow) (listed : List (ℕ × ℕ)) → AreBySlot before known listed
     → total before known ≡ sum_of_steps known.point.roll (numbers_of listed)
 total_by_slot before known listed are =
-    ap (steps known.point.roll) (pair_numbers known (readings before))
-    ∙ steps_summed known.point.roll (numbers_of (pairs known (readings before)))
+    ap (steps known.point.roll) (pair_numbers known (kept_readings before))
+    ∙ steps_summed known.point.roll (numbers_of (pairs known (kept_readings before)))
     ∙ ap (λ l. sum_of_steps known.point.roll (numbers_of l)) (sym (one_by_slot before known listed are))

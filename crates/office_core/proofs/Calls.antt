@@ -13,8 +13,9 @@ use Rattle.poll_book.specs.Orders.{Settings, is_waiting, setting_at, with_settin
 use Rattle.poll_book.specs.Requests.{RequestKey}
 use Rattle.office_core.specs.Loads.{known_named, loading, added}
 use Rattle.office_core.specs.Orders.{Ordering, Refused, Taken, ordering_of, with_ordered, writing, writing_of, state_by, settle, settle_at, settled_by}
+use Rattle.office_core.specs.Voids.{voiding_of, with_voiding}
 use Rattle.office_core.specs.Queries.{Query, Reads, Writes, fits}
-use Rattle.office_core.specs.History.{Happening, Restart, Load, Order, Open, Ask, Send, Reply, Noise, History, site_of, is_same_key, is_used, points, asked, question, is_answered, settings, ordering}
+use Rattle.office_core.specs.History.{Happening, Restart, Load, Order, Void, Open, Ask, Send, Reply, Noise, History, site_of, is_same_key, is_used, points, asked, question, is_answered, settings, ordering, voids}
 use Rattle.office_core.specs.SameArrivals.{calls, makes_query}
 use Rattle.office_core.proofs.KeptRequests.{AreOrders, numbered, order_next, reply_same}
 use Rattle.office_core.proofs.SettledOrders.{at_put}
@@ -29,8 +30,9 @@ deaf before = told (calls before)
 used_so : (before : History) (key : RequestKey) → is_used before key ≡ is_used (deaf before) key
 used_so [] key = refl
 used_so (Restart site ∷ before) key = used_so before key
-used_so (Load caller word list ∷ before) key = ap (λ b. is_same_key (caller, word) key || b) (used_so before key)
+used_so (Load edition caller word list ∷ before) key = ap (λ b. is_same_key (caller, word) key || b) (used_so before key)
 used_so (Order caller word point value ∷ before) key = ap (λ b. is_same_key (caller, word) key || b) (used_so before key)
+used_so (Void caller word point slot ∷ before) key = ap (λ b. is_same_key (caller, word) key || b) (used_so before key)
 used_so (Open line ∷ before) key = used_so before key
 used_so (Ask c device slot read ∷ before) key = used_so before key
 used_so (Send c number ∷ before) key = used_so before key
@@ -40,8 +42,9 @@ used_so (Noise c frame ∷ before) key = used_so before key
 site_so : (before : History) → site_of before ≡ site_of (deaf before)
 site_so [] = refl
 site_so (Restart site ∷ before) = refl
-site_so (Load caller word list ∷ before) = site_so before
+site_so (Load edition caller word list ∷ before) = site_so before
 site_so (Order caller word point value ∷ before) = site_so before
+site_so (Void caller word point at ∷ before) = site_so before
 site_so (Open line ∷ before) = site_so before
 site_so (Ask c device slot read ∷ before) = site_so before
 site_so (Send c number ∷ before) = site_so before
@@ -50,16 +53,31 @@ site_so (Noise c frame ∷ before) = site_so before
 
 points_so : (before : History) → points before ≡ points (deaf before)
 points_so [] = refl
-points_so (Load caller word list ∷ before) =
+points_so (Load edition caller word list ∷ before) =
     λ i. cond (used_so before (caller, word) i) (points_so before i)
-    (points_so before i ++ added (length (points_so before i)) (loading (site_so before i) (points_so before i) list))
+    (points_so before i ++ added (length (points_so before i)) (loading edition (site_so before i) (points_so before i) list))
 points_so (Restart site ∷ before) = points_so before
 points_so (Order caller word point value ∷ before) = points_so before
+points_so (Void caller word point at ∷ before) = points_so before
 points_so (Open line ∷ before) = points_so before
 points_so (Ask c device slot read ∷ before) = points_so before
 points_so (Send c number ∷ before) = points_so before
 points_so (Reply c n unit ∷ before) = points_so before
 points_so (Noise c frame ∷ before) = points_so before
+
+voids_so : (before : History) → voids before ≡ voids (deaf before)
+voids_so [] = refl
+voids_so (Void caller word point slot ∷ before) =
+    λ i. cond (used_so before (caller, word) i) (voids_so before i)
+    (with_voiding slot (voiding_of (voids_so before i) (known_named (points_so before i) point) slot) (voids_so before i))
+voids_so (Restart site ∷ before) = voids_so before
+voids_so (Load edition caller word list ∷ before) = voids_so before
+voids_so (Order caller word point value ∷ before) = voids_so before
+voids_so (Open line ∷ before) = voids_so before
+voids_so (Ask c device slot read ∷ before) = voids_so before
+voids_so (Send c number ∷ before) = voids_so before
+voids_so (Reply c n unit ∷ before) = voids_so before
+voids_so (Noise c frame ∷ before) = voids_so before
 
 -- ---- settings, but for how they stand
 
@@ -138,8 +156,9 @@ last_so (Order caller word point value ∷ before) = by (is_used before (caller,
         ∙ ap (λ c. last_order (cond c (settings (deaf before)) (with_ordered (ordering (deaf before) point value) (settings (deaf before))))) used
 last_so (Reply c n unit ∷ before) = reply_same before c n unit ∙ last_so before
 last_so (Restart site ∷ before) = last_so before
-last_so (Load caller word list ∷ before) = last_so before
+last_so (Load edition caller word list ∷ before) = last_so before
 last_so (Open line ∷ before) = last_so before
+last_so (Void caller key point at ∷ before) = last_so before
 last_so (Ask c device slot read ∷ before) = last_so before
 last_so (Send c number ∷ before) = last_so before
 last_so (Noise c frame ∷ before) = last_so before
@@ -164,8 +183,9 @@ setting_so (Reply c n unit ∷ before) order = by (is_answered before c n) ∙ s
     by true = refl
     by false = settled_same unit (settings before) order (slice_get (asked before c) n)
 setting_so (Restart site ∷ before) order = setting_so before order
-setting_so (Load caller word list ∷ before) order = setting_so before order
+setting_so (Load edition caller word list ∷ before) order = setting_so before order
 setting_so (Open line ∷ before) order = setting_so before order
+setting_so (Void caller key point at ∷ before) order = setting_so before order
 setting_so (Ask c device slot read ∷ before) order = setting_so before order
 setting_so (Send c number ∷ before) order = setting_so before order
 setting_so (Noise c frame ∷ before) order = setting_so before order
@@ -203,8 +223,9 @@ asked_so (Send c number ∷ before) conn =
     ∙ ap (λ w. asked before conn ++ cond (eqb c conn && made) (Writes w ∷ []) []) (writing_so (setting_at (settings before) number) (site_of before) (points before) number)
     ∙ (λ i. asked_so before conn i ++ cond (eqb c conn && made) (Writes (writing_of (setting_so before number i) (site_so before i) (points_so before i) number) ∷ []) [])
 asked_so (Restart site ∷ before) conn = asked_so before conn ∙ sym (append-nil (asked_in (calls before) conn))
-asked_so (Load caller word list ∷ before) conn = asked_so before conn ∙ sym (append-nil (asked_in (calls before) conn))
+asked_so (Load edition caller word list ∷ before) conn = asked_so before conn ∙ sym (append-nil (asked_in (calls before) conn))
 asked_so (Order caller word point value ∷ before) conn = asked_so before conn ∙ sym (append-nil (asked_in (calls before) conn))
+asked_so (Void caller word point at ∷ before) conn = asked_so before conn ∙ sym (append-nil (asked_in (calls before) conn))
 asked_so (Open line ∷ before) conn = asked_so before conn ∙ sym (append-nil (asked_in (calls before) conn))
 asked_so (Reply c n unit ∷ before) conn = asked_so before conn
 asked_so (Noise c frame ∷ before) conn = asked_so before conn
@@ -214,6 +235,9 @@ asked_so (Noise c frame ∷ before) conn = asked_so before conn
 module _ (one other : History) (same : calls one ≡ calls other) where
   pub same_points : points one ≡ points other
   same_points = points_so one ∙ ap (λ l. points (told l)) same ∙ sym (points_so other)
+
+  pub same_voids : voids one ≡ voids other
+  same_voids = voids_so one ∙ ap (λ l. voids (told l)) same ∙ sym (voids_so other)
 
   pub same_asked : (conn : ℕ) → asked one conn ≡ asked other conn
   same_asked conn = asked_so one conn ∙ ap (λ l. asked_in l conn) same ∙ sym (asked_so other conn)

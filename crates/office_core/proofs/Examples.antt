@@ -10,6 +10,8 @@ use Rattle.mb_pdu.specs.Packing.{two, unworded}
 use Rattle.mb_pdu.specs.Replies.{IsBytes}
 use Rattle.sunspec.specs.declared.point_type.PointType.{PointType}
 use Rattle.sunspec.specs.declared.point_type.PointType.TheVariants.{Uint16, Acc32}
+use Rattle.sunspec.specs.declared.word_order.WordOrder.TheVariants.{Big}
+use Rattle.point_list.specs.Edition.{Second}
 use Rattle.point_list.specs.declared.error.ListFault.TheVariants.{LeftOutType, UnknownDevice}
 use Rattle.point_list.specs.declared.site.Site.{Site}
 use Rattle.point_list.specs.declared.point.Point.{Point}
@@ -55,7 +57,7 @@ roof =
 
 -- a request of Ann's for a list, and one for a value of a point
 abbrev loads : List ℕ → List ℕ → Happening
-loads key list = Load (codes "ann") key list
+loads key list = Load Second (codes "ann") key list
 
 abbrev orders : List ℕ → List ℕ → ℕ → Happening
 orders key point value = Order (codes "ann") key point (pos value)
@@ -101,13 +103,13 @@ long_counter = codes "name,device,table,address,type,length,scale,role,roll\ne,m
 -- the points that they list
 abbrev gauge_point : List ℕ → ℕ → Point
 gauge_point name address =
-    record { name = name; device = codes "m1"; table = Holding; address = address; kind = Uint16; scale = pos 0; role = Gauge; roll = 0 }
+    record { name = name; device = codes "m1"; table = Holding; address = address; kind = Uint16; scale = pos 0; role = Gauge; roll = 0; order = Big }
 
 abbrev counter_row : PointType → ℕ → PointRow
 counter_row kind roll =
     record {
       number = 1;
-      point = record { name = codes "e"; device = codes "m1"; table = Holding; address = 107; kind = kind; scale = pos 0; role = Counter; roll = roll };
+      point = record { name = codes "e"; device = codes "m1"; table = Holding; address = 107; kind = kind; scale = pos 0; role = Counter; roll = roll; order = Big };
     }
 
 -- a read of holding registers
@@ -140,7 +142,7 @@ abbrev asked_once : History
 asked_once = after three (ask ∷ [])
 
 -- the list is taken whole
-pub gauges_taken : loading roof [] gauges ≡ Taken 3 (gauge_point (codes "a") 107 ∷ gauge_point (codes "b") 108 ∷ gauge_point (codes "c") 109 ∷ [])
+pub gauges_taken : loading Second roof [] gauges ≡ Taken 3 (gauge_point (codes "a") 107 ∷ gauge_point (codes "b") 108 ∷ gauge_point (codes "c") 109 ∷ [])
 unfolding histories_on_literals
 gauges_taken = refl
 
@@ -177,6 +179,7 @@ abbrev three_tables : Tables
 three_tables = record {
   points = three_rows;
   readings = three_words;
+  voids = [];
   totals = [];
   settings = [];
   requests = ((codes "ann", codes "l1"), record { body = body.List gauges; outcome = outcome.Loaded 3 }) ∷ [];

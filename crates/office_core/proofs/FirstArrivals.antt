@@ -31,7 +31,7 @@ use Rattle.office_core.specs.Sites.{target}
 use Rattle.office_core.specs.Cover.{Question, Brings, covers, covered, words_in, given_of, given_rows, reply_cells, excepts}
 use Rattle.office_core.specs.Queries.{Writing, Query, Reads, Writes, fits}
 use Rattle.office_core.specs.Loads.{loading, added}
-use Rattle.office_core.specs.History.{Happening, Restart, Load, Order, Open, Ask, Send, Reply, Noise, History, site_of, points, is_used, open_line, ask_fault, question, question_to, asked, fits_query, is_answered, given_by, given, readings}
+use Rattle.office_core.specs.History.{Happening, Restart, Load, Order, Void, Open, Ask, Send, Reply, Noise, History, site_of, points, is_used, open_line, ask_fault, question, question_to, asked, fits_query, is_answered, given_by, given, readings}
 use Rattle.office_core.specs.Legal.{Legal}
 use Rattle.office_core.specs.FirstArrivals.{Happened, IsQuery, IsReplyTo, IsFirst, Gives, IsReadingOf}
 use Rattle.office_core.proofs.Cells.{cells_spelled, bits_plain, words_plain, no_echo}
@@ -216,8 +216,9 @@ asked_later h before c n q was = record {
 pub query_asked : (before : History) (c n : ℕ) (q : Question) → slice_get (asked before c) n ≡ Some (Reads q) → WasAsked before c n q
 query_asked [] c n q e = absurd (none-some (Reads q) e)
 query_asked (Restart site ∷ before) c n q e = asked_later (Restart site) before c n q (query_asked before c n q e)
-query_asked (Load caller key list ∷ before) c n q e = asked_later (Load caller key list) before c n q (query_asked before c n q e)
+query_asked (Load edition caller key list ∷ before) c n q e = asked_later (Load edition caller key list) before c n q (query_asked before c n q e)
 query_asked (Order caller key point value ∷ before) c n q e = asked_later (Order caller key point value) before c n q (query_asked before c n q e)
+query_asked (Void caller key point at ∷ before) c n q e = asked_later (Void caller key point at) before c n q (query_asked before c n q e)
 query_asked (Open line ∷ before) c n q e = asked_later (Open line) before c n q (query_asked before c n q e)
 query_asked (Reply d m unit ∷ before) c n q e = asked_later (Reply d m unit) before c n q (query_asked before c n q e)
 query_asked (Noise d frame ∷ before) c n q e = asked_later (Noise d frame) before c n q (query_asked before c n q e)
@@ -271,18 +272,19 @@ pub points_stay : (later : List Happening) (before : History) → Longer (points
 points_stay [] before = ([], sym (append-nil (points before)))
 points_stay (Restart site ∷ later) before = points_stay later before
 points_stay (Order caller key point value ∷ later) before = points_stay later before
+points_stay (Void caller key point at ∷ later) before = points_stay later before
 points_stay (Open line ∷ later) before = points_stay later before
 points_stay (Ask c device slot read ∷ later) before = points_stay later before
 points_stay (Send c number ∷ later) before = points_stay later before
 points_stay (Reply c n unit ∷ later) before = points_stay later before
 points_stay (Noise c frame ∷ later) before = points_stay later before
-points_stay (Load caller key list ∷ later) before = by (is_used (later ++ before) (caller, key)) (points_stay later before)
+points_stay (Load edition caller key list ∷ later) before = by (is_used (later ++ before) (caller, key)) (points_stay later before)
   where
     old : List PointRow
     old = points (later ++ before)
 
     new : List PointRow
-    new = added (length old) (loading (site_of (later ++ before)) old list)
+    new = added (length old) (loading edition (site_of (later ++ before)) old list)
 
     by : (b : Bool) → Longer (points before) old → Longer (points before) (cond b old (old ++ new))
     by true l = l
@@ -362,9 +364,11 @@ reply_later h before c n r = record {
 answered_so : (before : History) (c n : ℕ) → Legal before → IsNoWrite before c n → is_answered before c n ≡ true → HasReply before c n
 answered_so [] c n legal none e = absurd (cc)
 answered_so (Restart site ∷ before) c n legal none e = reply_later (Restart site) before c n (answered_so before c n legal.2 (no_write_before (Restart site) before c n none) e)
-answered_so (Load caller key list ∷ before) c n legal none e = reply_later (Load caller key list) before c n (answered_so before c n legal.2 (no_write_before (Load caller key list) before c n none) e)
+answered_so (Load edition caller key list ∷ before) c n legal none e = reply_later (Load edition caller key list) before c n (answered_so before c n legal.2 (no_write_before (Load edition caller key list) before c n none) e)
 answered_so (Order caller key point value ∷ before) c n legal none e =
     reply_later (Order caller key point value) before c n (answered_so before c n legal.2 (no_write_before (Order caller key point value) before c n none) e)
+answered_so (Void caller key point at ∷ before) c n legal none e =
+    reply_later (Void caller key point at) before c n (answered_so before c n legal.2 (no_write_before (Void caller key point at) before c n none) e)
 answered_so (Open line ∷ before) c n legal none e = reply_later (Open line) before c n (answered_so before c n legal.2 (no_write_before (Open line) before c n none) e)
 answered_so (Ask d device slot read ∷ before) c n legal none e = reply_later (Ask d device slot read) before c n (answered_so before c n legal.2 (no_write_before (Ask d device slot read) before c n none) e)
 answered_so (Send d number ∷ before) c n legal none e =
@@ -521,8 +525,9 @@ given_stays : (later : List Happening) (before : History) (key : Key) (r : Readi
     → reading_at (given before) key ≡ Some r → reading_at (given (later ++ before)) key ≡ Some r
 given_stays [] before key r e = e
 given_stays (Restart site ∷ later) before key r e = given_stays later before key r e
-given_stays (Load caller word list ∷ later) before key r e = given_stays later before key r e
+given_stays (Load edition caller word list ∷ later) before key r e = given_stays later before key r e
 given_stays (Order caller word point value ∷ later) before key r e = given_stays later before key r e
+given_stays (Void caller word point at ∷ later) before key r e = given_stays later before key r e
 given_stays (Open line ∷ later) before key r e = given_stays later before key r e
 given_stays (Ask c device slot read ∷ later) before key r e = given_stays later before key r e
 given_stays (Send c number ∷ later) before key r e = given_stays later before key r e
@@ -570,9 +575,11 @@ given_earliest : (before : History) (point slot : ℕ) (reading : Reading) → L
     → reading_at (given before) (point, slot) ≡ Some reading → IsReadingOf before point slot reading
 given_earliest [] point slot reading legal e = absurd (none-some reading e)
 given_earliest (Restart site ∷ before) point slot reading legal e = reading_later _ before point slot reading (given_earliest before point slot reading legal.2 e)
-given_earliest (Load caller key list ∷ before) point slot reading legal e =
+given_earliest (Load edition caller key list ∷ before) point slot reading legal e =
     reading_later _ before point slot reading (given_earliest before point slot reading legal.2 e)
 given_earliest (Order caller key name value ∷ before) point slot reading legal e =
+    reading_later _ before point slot reading (given_earliest before point slot reading legal.2 e)
+given_earliest (Void caller key name at ∷ before) point slot reading legal e =
     reading_later _ before point slot reading (given_earliest before point slot reading legal.2 e)
 given_earliest (Open line ∷ before) point slot reading legal e = reading_later _ before point slot reading (given_earliest before point slot reading legal.2 e)
 given_earliest (Ask c device s read ∷ before) point slot reading legal e =

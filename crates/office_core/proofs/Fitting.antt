@@ -28,13 +28,13 @@ use Rattle.read_planner.specs.declared.Read.{Read}
 use Rattle.read_planner.specs.Read.{read_request}
 use Rattle.poll_book.specs.declared.rows.PointRow.{PointRow}
 use Rattle.poll_book.specs.declared.rows.Reading.{Reading}
-use Rattle.poll_book.specs.Tables.{Key, key_cmp, Readings, reading_at, is_between, readings_between}
+use Rattle.poll_book.specs.Tables.{Key, key_cmp, Readings, marked_one, reading_at, is_between, readings_between}
 use Rattle.poll_book.specs.Changes.{keyed}
 use Rattle.poll_book.specs.Totals.{is_counted}
 use Rattle.office_core.specs.Cover.{Question, one_or_zero, Brings, covers, reads_table, has_size, words_in, reply_cells, given_of, given_rows, excepts}
 use Rattle.office_core.specs.Queries.{Query, Reads, Writes, fits}
 use Rattle.office_core.specs.Loads.{loading, added}
-use Rattle.office_core.specs.History.{Restart, Load, Order, Open, Ask, Send, Reply, Noise, History, site_of, points, is_used, asked, is_answered, given_by, given, readings, tables}
+use Rattle.office_core.specs.History.{Restart, Load, Order, Void, Open, Ask, Send, Reply, Noise, History, site_of, points, is_used, asked, is_answered, given_by, given, kept_readings, voids, readings, tables}
 use Rattle.office_core.specs.Legal.{Legal}
 use Rattle.office_core.specs.Fitting.{IsFitting}
 use Rattle.office_core.proofs.FirstArrivals.{same_key}
@@ -224,10 +224,10 @@ new_fit before c n unit legal bytes = by (is_answered before c n)
 -- what a history gives is of its points
 given_fit : (before : History) → Legal before → All (IsOf (points before)) (given before)
 given_fit [] legal = All-nil (IsOf [])
-given_fit (Load caller key list ∷ before) legal = by (is_used before (caller, key)) (given_fit before legal.2)
+given_fit (Load edition caller key list ∷ before) legal = by (is_used before (caller, key)) (given_fit before legal.2)
   where
     more : List PointRow
-    more = added (length (points before)) (loading (site_of before) (points before) list)
+    more = added (length (points before)) (loading edition (site_of before) (points before) list)
 
     by : (b : Bool) → All (IsOf (points before)) (given before) → All (IsOf (cond b (points before) (points before ++ more))) (given before)
     by true earlier = earlier
@@ -236,6 +236,7 @@ given_fit (Reply c n unit ∷ before) legal =
     All-append (IsOf (points before)) (given before) _ (given_fit before legal.2) (new_fit before c n unit legal.2 legal.0.0)
 given_fit (Restart site ∷ before) legal = given_fit before legal.2
 given_fit (Order caller key point value ∷ before) legal = given_fit before legal.2
+given_fit (Void caller key point at ∷ before) legal = given_fit before legal.2
 given_fit (Open line ∷ before) legal = given_fit before legal.2
 given_fit (Ask c device slot read ∷ before) legal = given_fit before legal.2
 given_fit (Send c number ∷ before) legal = given_fit before legal.2
@@ -244,7 +245,7 @@ given_fit (Noise c frame ∷ before) legal = given_fit before legal.2
 -- ---- the tables
 
 -- what holds of each row of a table holds of what stands under a key
-at_key : (P : Key × Reading → Type 0) (table : Readings) (key : Key) (reading : Reading) → All P table → reading_at table key ≡ Some reading → P (key, reading)
+pub at_key : (P : Key × Reading → Type 0) (table : Readings) (key : Key) (reading : Reading) → All P table → reading_at table key ≡ Some reading → P (key, reading)
 at_key P [] key reading all e = absurd (none-some reading e)
 at_key P (x ∷ table) key reading all e = by (at_key P table key reading (All-tail P x table all)) (eq_by_cmp key_cmp key x.0) refl e
   where
@@ -260,11 +261,18 @@ readings_of_points : (before : History) → Legal before → All (IsOf (points b
 readings_of_points before legal = with_rows_all (IsOf (points before)) (given before) [] (given_fit before legal) (All-nil (IsOf (points before)))
 
 -- a reading is marked as counted where its words count
-pub marked : (before : History) (known : PointRow) (slot : ℕ) (reading : Reading) → Legal before → Contains (points before) known
+pub said : (before : History) (known : PointRow) (slot : ℕ) (reading : Reading) → Legal before → Contains (points before) known
     → reading_at (readings before) (known.number, slot) ≡ Some reading → reading.counted ≡ is_counted known.point reading.words
-marked before known slot reading legal there e =
+said before known slot reading legal there e =
     let is = at_key (IsOf (points before)) (readings before) (known.number, slot) reading (readings_of_points before legal) e in
     subst (λ (r : PointRow). reading.counted ≡ is_counted r.point reading.words) (one_point 0 (points before) is.point known (numbered_points before) is.there there is.number) is.marked
+
+-- a row of a point of these with registers of its type
+record IsFit (known : List PointRow) (kept : Key × Reading) : Type 0 where
+  point : PointRow
+  there : Contains known point
+  number : point.number ≡ kept.0.0
+  registers : AreRegistersOf point.point.kind kept.1.words
 
 -- what is kept of each point has the form of its type
 pub tables_fit : (before : History) → Legal before → IsFitting (tables before)
@@ -272,15 +280,17 @@ tables_fit before legal k d lt =
     let known = get_or (points before) k d in (
       (points_formed before legal k d lt).0,
       λ from to j e within. of_type (Contains-get_or (points before) k d lt) from to
-          (get_or (readings_between known.number from to (readings before)) j e)
-          (All-filter (λ (x : Key × Reading). is_between known.number from to x.0) (IsOf (points before)) (readings before) all j e within)
-          (filter_passes (λ (x : Key × Reading). is_between known.number from to x.0) (readings before) j e within),
+          (get_or (readings_between known.number from to (kept_readings before)) j e)
+          (All-filter (λ (x : Key × Reading). is_between known.number from to x.0) (IsFit (points before)) (kept_readings before) all j e within)
+          (filter_passes (λ (x : Key × Reading). is_between known.number from to x.0) (kept_readings before) j e within),
     )
   where
-    all : All (IsOf (points before)) (readings before)
-    all = readings_of_points before legal
+    all : All (IsFit (points before)) (kept_readings before)
+    all = All-map (IsFit (points before)) (marked_one (voids before)) (readings before)
+        (All-weaker (IsOf (points before)) (λ x. IsFit (points before) (marked_one (voids before) x)) (λ x is. record { point = is.point; there = is.there; number = is.number; registers = is.registers }) (readings before)
+        (readings_of_points before legal))
 
-    of_type : Contains (points before) (get_or (points before) k d) → (from to : ℕ) (x : Key × Reading) → IsOf (points before) x
+    of_type : Contains (points before) (get_or (points before) k d) → (from to : ℕ) (x : Key × Reading) → IsFit (points before) x
         → is_between (get_or (points before) k d).number from to x.0 ≡ true → AreRegistersOf (get_or (points before) k d).point.kind x.1.words
     of_type there from to x is between =
         let own : PointRow = get_or (points before) k d in

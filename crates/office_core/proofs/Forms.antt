@@ -1,6 +1,6 @@
 -- Points that lists say have the form of a type that there is, and can be read.
-use Rattle.std.proofs.Common.{◌≡◌, ◌≤◌, ◌+◌, ℕ, zero, suc, Bool, true, false, cond, eqb, leb, get_or, List, [], ◌∷◌, ◌++◌, length, Option, Some, None, Result, Ok, Err, refl, sym, ◌∙◌, subst, arith, T}
-use Rattle.std.specs.Prelude.{ℤ, pos, neg_ℤ, All, IfOk, ◌&&◌, ◌||◌, not, map, option_map, find, is_none, ⊤}
+use Rattle.std.proofs.Common.{◌≡◌, ◌≤◌, ◌+◌, ℕ, zero, suc, Bool, true, false, cond, eqb, leb, get_or, List, [], ◌∷◌, ◌++◌, length, Option, Some, None, refl, sym, ◌∙◌, subst, arith, T}
+use Rattle.std.specs.Prelude.{ℤ, pos, neg_ℤ, All, ◌&&◌, ◌||◌, not, option_map, find}
 use Rattle.std.specs.Str.{bytes_eq}
 use Rattle.std.specs.Str.Parse.{digits_value}
 use Rattle.std.specs.Int.Signed.{le_z_yes}
@@ -8,7 +8,7 @@ use Rattle.std.specs.Char.{is_ascii_digit}
 use Rattle.std.specs.List.{list_all, list_any}
 use Rattle.std.proofs.lemmas.Bool.{and_parts, leb-true, le-leb}
 use Rattle.std.proofs.lemmas.Option.{none-some, same_Some, cond_some}
-use Rattle.std.proofs.lemmas.List.Elements.{All-nil, All-cons, All-head, All-tail, All-map, All-filter, All-append}
+use Rattle.std.proofs.lemmas.List.Elements.{All-nil, All-append}
 use Rattle.mb_pdu.specs.declared.table.Table.{Table}
 use Rattle.mb_pdu.specs.declared.table.Table.TheVariants.{Coil, Discrete, Holding, Input}
 use Rattle.sunspec.specs.declared.point_type.PointType.{PointType}
@@ -18,24 +18,20 @@ use Rattle.sunspec.specs.Digits.{number_of, number_within, is_number_within, sca
 use Rattle.sunspec.specs.Text.{IsScale}
 use Rattle.point_list.specs.declared.point.Point.{Point}
 use Rattle.point_list.specs.declared.point.Role.{Role}
-use Rattle.point_list.specs.declared.point.ListRow.{ListRow}
-use Rattle.point_list.specs.declared.error.ListError.{ListError}
-use Rattle.point_list.specs.Columns.{Record, field, ◌then◌, holds_bits, is_bit, same, in_table, named_in, unsized, sized, is_scaled, is_zero, scaled_by, scale_in as scale_said}
-use Rattle.point_list.specs.Header.{is_header}
-use Rattle.point_list.specs.Lists.{table_in, address_in, model_in, name_of_type_in, type_in, scale_in, role_in, roll_in, records_of, ends_in_time, Check, check, place_checks, meaning_checks, whole_checks, first_failed, fault_below}
-use Rattle.point_list.specs.declared.error.ListFault.{ListFault}
+use Rattle.point_list.specs.Columns.{Record, field, is_device, ◌then◌, holds_bits, is_bit, same, in_table, named_in, unsized, sized, is_scaled, is_zero, scaled_by, scale_in as scale_said}
+use Rattle.sunspec.specs.declared.word_order.WordOrder.{WordOrder}
+use Rattle.point_list.specs.Lists.{table_in, address_in, name_of_type_in, type_in, scale_in, role_in, roll_in, order_in, ends_in_time, Check, check, place_checks, meaning_checks, whole_checks, first_failed, fault_below}
 use Rattle.point_list.specs.declared.error.ListFault.TheVariants.{BadAddress, Twice}
-use Rattle.point_list.specs.ListMeaning.{point_in, row_before, rows_said, fault_or_later, first_fault, missing_header, rows_unless, body_meaning, list_meaning}
-use Rattle.point_list.specs.Resolving.{first_misplaced, list_at, misplaced, placed, resolved_list}
+use Rattle.point_list.specs.ListMeaning.{point_in}
 use Rattle.point_list.specs.Sites.{IsSound, all_differ}
-use Rattle.point_list.specs.declared.site.Site.{Site}
-use Rattle.point_list.proofs.Placing.{none_misplaced, placed_inside}
+use Rattle.point_list.proofs.Placing.{placed_inside}
 use Rattle.read_planner.specs.Place.{CanBeRead, size_in, size_of}
 use Rattle.poll_book.specs.declared.rows.PointRow.{PointRow}
 use Rattle.office_core.specs.Fitting.{HasForm}
 use Rattle.office_core.specs.Legal.{Legal}
-use Rattle.office_core.specs.Loads.{Loading, Refused, Taken, known_named, unknown_of, points_of, too_many, loading_rows, differing, loading_of, loading, numbered_on, added}
-use Rattle.office_core.specs.History.{Restart, Load, Order, Open, Ask, Send, Reply, Noise, History, site_of, points, is_used}
+use Rattle.office_core.proofs.OfLists.{added_so}
+use Rattle.office_core.specs.Loads.{loading, added}
+use Rattle.office_core.specs.History.{Restart, Load, Order, Void, Open, Ask, Send, Reply, Noise, History, site_of, points, is_used}
 
 -- the form of a point, a bit only in a table of bits, and an end by the last address
 abbrev pub IsFormed : Point → Type 0
@@ -171,11 +167,11 @@ none_after (c ∷ checks) rest e = by c.passes e (none_after checks rest)
     by false f later = absurd (cc)
 
 -- the point of a faultless record ends by the last address
-faultless_so : (known : List ℕ → Bool) (names : List (List ℕ)) (r : Record) → fault_below known names r ≡ None → ends_in_time (address_in r) (type_in r) ≡ true
+faultless_so : (columns : ℕ) (known : List ℕ → Bool) (names : List (List ℕ)) (r : Record) → fault_below columns known names r ≡ None → ends_in_time (address_in r) (type_in r) ≡ true
 unfolding fault_below
-faultless_so known names r e =
+faultless_so columns known names r e =
     by (ends_in_time (address_in r) (type_in r))
-    (none_after (meaning_checks r) (whole_checks names r) (none_after (place_checks known (length names) r) (meaning_checks r ++ whole_checks names r) e))
+    (none_after (meaning_checks r) (whole_checks names r) (none_after (place_checks columns known (length names) r) (meaning_checks r ++ whole_checks names r) e))
   where
     by : (b : Bool) → cond b (first_failed (check (not (list_any (λ name. bytes_eq (field r 0) name) names)) Twice 1 ∷ [])) (Some (BadAddress, 4)) ≡ None → b ≡ true
     by true f = refl
@@ -185,89 +181,36 @@ faultless_so known names r e =
 
 -- the point that a faultless record says is formed
 point_so : (r : Record) (point : Point) → ends_in_time (address_in r) (type_in r) ≡ true → point_in r ≡ Some point → IsFormed point
-point_so r point ends e = by (table_in r) (address_in r) (type_in r) (scale_in r) (role_in r) (roll_in r) refl refl refl ends e
+point_so r point ends e = by (table_in r) (address_in r) (type_in r) (scale_in r) (role_in r) (roll_in r) (order_in r) refl refl refl ends e
   where
-    said : Table → ℕ → PointType → ℤ → Role → ℕ → Point
-    said table address kind scale role roll =
-        record { name = field r 0; device = field r 1; table = table; address = address; kind = kind; scale = scale; role = role; roll = roll }
+    said : Table → ℕ → PointType → ℤ → Role → ℕ → WordOrder → Point
+    said table address kind scale role roll order =
+        record { name = field r 0; device = field r 1; table = table; address = address; kind = kind; scale = scale; role = role; roll = roll; order = order }
 
-    by : (t : Option Table) (a : Option ℕ) (k : Option PointType) (s : Option ℤ) (o : Option Role) (l : Option ℕ)
+    by : (t : Option Table) (a : Option ℕ) (k : Option PointType) (s : Option ℤ) (o : Option Role) (l : Option ℕ) (w : Option WordOrder)
         → table_in r ≡ t → type_in r ≡ k → scale_in r ≡ s → ends_in_time a k ≡ true
-        → (t then (λ table. a then (λ address. k then (λ kind. s then (λ scale. o then (λ role. l then (λ roll. Some (said table address kind scale role roll)))))))
+        → (t then (λ table. a then (λ address. k then (λ kind. s then (λ scale. o then (λ role. l then (λ roll. w then (λ order. Some (said table address kind scale role roll order))))))))
         ≡ Some point) → IsFormed point
-    by (Some table) (Some address) (Some kind) (Some scale) (Some role) (Some roll) t k s end f =
+    by (Some table) (Some address) (Some kind) (Some scale) (Some role) (Some roll) (Some order) t k s end f =
         let type = type_so r table kind t k in
-        subst IsFormed (same_Some (said table address kind scale role roll) point f)
+        subst IsFormed (same_Some (said table address kind scale role roll order) point f)
         ((type.0, scale_in_so r scale s), type.1, leb-true (address + (row kind).registers) 65536 end)
-    by None a k s o l t e g end f = absurd (none-some point f)
-    by (Some table) None k s o l t e g end f = absurd (none-some point f)
-    by (Some table) (Some address) None s o l t e g end f = absurd (none-some point f)
-    by (Some table) (Some address) (Some kind) None o l t e g end f = absurd (none-some point f)
-    by (Some table) (Some address) (Some kind) (Some scale) None l t e g end f = absurd (none-some point f)
-    by (Some table) (Some address) (Some kind) (Some scale) (Some role) None t e g end f = absurd (none-some point f)
-
--- the points of these rows are formed
-abbrev AreFormed : List ListRow → Type 0
-AreFormed rows = All (λ (said : ListRow). IsFormed said.point) rows
-
--- those of the rows that faultless records say are
-rows_formed : (known : List ℕ → Bool) (names : List (List ℕ)) (number : ℕ) (rs : List Record) → first_fault known names number rs ≡ None → AreFormed (rows_said number rs)
-rows_formed known names number [] none = All-nil (λ (said : ListRow). IsFormed said.point)
-rows_formed known names number (r ∷ rs) none =
-    by_fault (fault_below known names r) refl none (rows_formed known (names ++ field r 0 ∷ []) (number + 1) rs)
-  where
-    by : (o : Option Point) → point_in r ≡ o → ends_in_time (address_in r) (type_in r) ≡ true → AreFormed (rows_said (number + 1) rs)
-        → AreFormed (row_before number (model_in r) o (rows_said (number + 1) rs))
-    by None at ends rest = rest
-    by (Some point) at ends rest =
-        All-cons (λ (said : ListRow). IsFormed said.point) (record { row = number; point = point; model = model_in r }) (rows_said (number + 1) rs) (point_so r point ends at) rest
-
-    by_fault : (o : Option (ListFault × ℕ)) → fault_below known names r ≡ o
-        → fault_or_later number o (first_fault known (names ++ field r 0 ∷ []) (number + 1) rs) ≡ None
-        → (first_fault known (names ++ field r 0 ∷ []) (number + 1) rs ≡ None → AreFormed (rows_said (number + 1) rs)) → AreFormed (rows_said number (r ∷ rs))
-    by_fault None own later rest = by (point_in r) refl (faultless_so known names r own) (rest later)
-    by_fault (Some fault) own later rest = absurd (cc)
-
--- and those of the rows that a list means
-meaning_formed : (known : List ℕ → Bool) (list : List Record) → IfOk (list_meaning known list) AreFormed
-meaning_formed known [] = tt
-meaning_formed known (first ∷ body) = by (is_header first)
-  where
-    by_fault : (o : Option ListError) → first_fault known [] 2 body ≡ o → IfOk (rows_unless o (rows_said 2 body)) AreFormed
-    by_fault None none = rows_formed known [] 2 body none
-    by_fault (Some e) some = tt
-
-    by : (b : Bool) → IfOk (cond b (body_meaning known body) (Err missing_header)) AreFormed
-    by true = by_fault (first_fault known [] 2 body) refl
-    by false = tt
-
--- ---- points by model
-
--- the points of rows that all have a place
-rows_placed : (site : Site) (rows : List ListRow) → IsSound site → All (λ (said : ListRow). misplaced site said ≡ None) rows → AreFormed rows → AreFormed (map (placed site) rows)
-rows_placed site [] sound none formed = All-nil (λ (said : ListRow). IsFormed said.point)
-rows_placed site (said ∷ rows) sound none formed =
-    let here : IsFormed said.point = All-head (λ (x : ListRow). IsFormed x.point) said rows formed in
-    All-cons (λ (x : ListRow). IsFormed x.point) (placed site said) (map (placed site) rows)
-    (here.0, here.1, placed_inside site said sound (All-head (λ (x : ListRow). misplaced site x ≡ None) said rows none) here.2)
-    (rows_placed site rows sound (All-tail (λ (x : ListRow). misplaced site x ≡ None) said rows none) (All-tail (λ (x : ListRow). IsFormed x.point) said rows formed))
-
--- and those of the rows that a list means at a sound site
-resolved_formed : (site : Site) (m : Result (List ListRow) ListError) → IsSound site → IfOk m AreFormed → IfOk (resolved_list site m) AreFormed
-resolved_formed site (Err e) sound formed = tt
-resolved_formed site (Ok rows) sound formed = by (first_misplaced site rows) refl
-  where
-    by : (o : Option ListError) → first_misplaced site rows ≡ o → IfOk (rows_unless o (map (placed site) rows)) AreFormed
-    by None none = rows_placed site rows sound (none_misplaced site rows none) formed
-    by (Some e) some = tt
+    by (Some table) (Some address) (Some kind) (Some scale) (Some role) (Some roll) None t e g end f = absurd (none-some point f)
+    by None a k s o l w t e g end f = absurd (none-some point f)
+    by (Some table) None k s o l w t e g end f = absurd (none-some point f)
+    by (Some table) (Some address) None s o l w t e g end f = absurd (none-some point f)
+    by (Some table) (Some address) (Some kind) None o l w t e g end f = absurd (none-some point f)
+    by (Some table) (Some address) (Some kind) (Some scale) None l w t e g end f = absurd (none-some point f)
+    by (Some table) (Some address) (Some kind) (Some scale) (Some role) None w t e g end f = absurd (none-some point f)
 
 -- the site in force is sound
 site_sound : (before : History) → Legal before → IsSound (site_of before)
 unfolding all_differ
 site_sound [] legal = refl
 site_sound (Restart site ∷ before) legal = legal.0.0
-site_sound (Load caller key list ∷ before) legal = site_sound before legal.2
+site_sound (Load edition caller key list ∷ before) legal = site_sound before legal.2
 site_sound (Order caller key point value ∷ before) legal = site_sound before legal.2
+site_sound (Void caller key point at ∷ before) legal = site_sound before legal.2
 site_sound (Open line ∷ before) legal = site_sound before legal.2
 site_sound (Ask c device slot read ∷ before) legal = site_sound before legal.2
 site_sound (Send c number ∷ before) legal = site_sound before legal.2
@@ -276,68 +219,29 @@ site_sound (Noise c frame ∷ before) legal = site_sound before legal.2
 
 -- ---- what a list adds
 
--- the points that are taken are formed
-abbrev AreTaken : Loading → Type 0
-AreTaken (Refused reason) = ⊤
-AreTaken (Taken count new) = All IsFormed new
-
--- of rows with formed points formed points are taken
-taken_formed : (known : List PointRow) (rows : List ListRow) → AreFormed rows → AreTaken (loading_of known (Ok rows))
-taken_formed known rows formed = by (differing known rows)
-  where
-    all : All IsFormed (unknown_of known (points_of rows))
-    all = All-filter (λ (point : Point). is_none (known_named known point.name)) IsFormed (points_of rows)
-        (All-map IsFormed (λ (said : ListRow). said.point) rows formed)
-
-    few : (b : Bool) → AreTaken (cond b (Taken (length rows) (unknown_of known (points_of rows))) (Refused too_many))
-    few true = all
-    few false = tt
-
-    by : (o : Option ListRow) → AreTaken (loading_rows known rows o)
-    by None = few (leb (length known + length (unknown_of known (points_of rows))) 10000)
-    by (Some differs) = tt
-
--- and of a list that means such rows
-loading_formed : (known : List PointRow) (m : Result (List ListRow) ListError) → IfOk m AreFormed → AreTaken (loading_of known m)
-loading_formed known (Ok rows) formed = taken_formed known rows formed
-loading_formed known (Err e) formed = tt
-
 -- a row of the table of points is of a formed point
 abbrev pub IsFormedRow : PointRow → Type 0
 IsFormedRow known = IsFormed known.point
 
--- formed points make such rows
-numbered_formed : (n : ℕ) (new : List Point) → All IsFormed new → All IsFormedRow (numbered_on n new)
-numbered_formed n [] formed = All-nil IsFormedRow
-numbered_formed n (point ∷ new) formed =
-    All-cons IsFormedRow (record { number = n + 1; point = point }) (numbered_on (n + 1) new)
-    (All-head IsFormed point new formed)
-    (numbered_formed (n + 1) new (All-tail IsFormed point new formed))
-
--- and so do the points that a list adds
-added_formed : (n : ℕ) (l : Loading) → AreTaken l → All IsFormedRow (added n l)
-added_formed n (Refused reason) formed = All-nil IsFormedRow
-added_formed n (Taken count new) formed = numbered_formed n new formed
-
 -- the points that were accepted are formed
 pub points_formed : (before : History) → Legal before → All IsFormedRow (points before)
 points_formed [] legal = All-nil IsFormedRow
-points_formed (Load caller key list ∷ before) legal = by (is_used before (caller, key)) (points_formed before legal.2)
+points_formed (Load edition caller key list ∷ before) legal = by (is_used before (caller, key)) (points_formed before legal.2)
   where
-    new : Loading
-    new = loading (site_of before) (points before) list
-
     more : List PointRow
-    more = added (length (points before)) new
+    more = added (length (points before)) (loading edition (site_of before) (points before) list)
 
     by : (b : Bool) → All IsFormedRow (points before) → All IsFormedRow (cond b (points before) (points before ++ more))
     by true earlier = earlier
     by false earlier =
         All-append IsFormedRow (points before) more earlier
-        (added_formed (length (points before)) new (loading_formed (points before) (list_at (site_of before) (records_of list))
-        (resolved_formed (site_of before) _ (site_sound before legal.2) (meaning_formed _ (records_of list)))))
+        (added_so edition (site_of before) IsFormed
+        (λ first header names r point none. point_so r point (faultless_so (length first) (is_device (site_of before)) names r none))
+        (λ said none formed. (formed.0, formed.1, placed_inside (site_of before) said (site_sound before legal.2) none formed.2))
+        (length (points before)) (points before) list)
 points_formed (Restart site ∷ before) legal = points_formed before legal.2
 points_formed (Order caller key point value ∷ before) legal = points_formed before legal.2
+points_formed (Void caller key point at ∷ before) legal = points_formed before legal.2
 points_formed (Open line ∷ before) legal = points_formed before legal.2
 points_formed (Ask c device slot read ∷ before) legal = points_formed before legal.2
 points_formed (Send c number ∷ before) legal = points_formed before legal.2

@@ -10,10 +10,11 @@ use Rattle.std.proofs.lemmas.Bool.{eqb-true, eqb-false, cases_lt}
 use Rattle.std.proofs.lemmas.Cmp.{ranked}
 use Rattle.std.proofs.lemmas.Map.Views.{tells_apart}
 use Rattle.std.proofs.lemmas.Option.{none-some, same_Some}
+use Rattle.point_list.specs.Edition.{Edition, Second}
 use Rattle.poll_book.specs.declared.requests.Body.{Body}
 use Rattle.poll_book.specs.declared.requests.Body.TheVariants as body
 use Rattle.poll_book.specs.declared.requests.Outcome.{Outcome}
-use Rattle.poll_book.specs.declared.requests.Outcome.TheVariants.{Loaded, Ordered, RefusedFor}
+use Rattle.poll_book.specs.declared.requests.Outcome.TheVariants.{Loaded, Ordered, Voided, RefusedFor}
 use Rattle.poll_book.specs.declared.requests.Request.{Request}
 use Rattle.poll_book.specs.declared.rows.OrderState.{OrderState}
 use Rattle.poll_book.specs.declared.rows.OrderState.TheVariants.{Waiting}
@@ -22,8 +23,9 @@ use Rattle.poll_book.specs.Orders.{Settings, is_waiting, setting_at, with_settin
 use Rattle.poll_book.specs.Requests.{RequestKey, Requests, request_cmp, request_at, with_request}
 use Rattle.office_core.specs.Loads.{Loading, Refused as NotLoaded, Taken as IsLoaded, loading, outcome}
 use Rattle.office_core.specs.Orders.{Ordering, Refused, Taken, ordered, with_ordered, settled_by, state_by, settle, settle_at}
+use Rattle.office_core.specs.Voids.{Voiding, voided, Refused as NotVoided, Taken as IsVoided}
 use Rattle.office_core.specs.Queries.{Query, Reads, Writes, fits}
-use Rattle.office_core.specs.History.{Happening, Restart, Load, Order, Open, Ask, Send, Reply, Noise, History, site_of, points, settings, requests, asked, is_answered, is_same_key, is_used, ordering, outcome_of, first_asked}
+use Rattle.office_core.specs.History.{Happening, Restart, Load, Order, Void, Open, Ask, Send, Reply, Noise, History, site_of, points, settings, requests, asked, is_answered, is_same_key, is_used, ordering, voiding, outcome_of, first_asked}
 use Rattle.office_core.specs.FirstArrivals.{Happened}
 use Rattle.office_core.specs.KeptRequests.{asked_for, IsFirstRequest, OrderedUnder}
 use Rattle.office_core.proofs.Kept.{requests_total, exact_requests, equal_key, own_key, tied_key, used_is}
@@ -34,45 +36,49 @@ use Rattle.office_core.proofs.Standings.{step_later, or_true}
 -- ---- keys
 
 -- a key is used after it was asked under
-asked_used : (key : RequestKey) (now : Body) (older : History) → is_used (asked_for key now ∷ older) key ≡ true
-asked_used key (body.List list) older = ap (λ b. b || is_used older key) (own_key key)
-asked_used key (body.Order point value) older = ap (λ b. b || is_used older key) (own_key key)
+asked_used : (key : RequestKey) (edition : Edition) (now : Body) (older : History) → is_used (asked_for key edition now ∷ older) key ≡ true
+asked_used key edition (body.List list) older = ap (λ b. b || is_used older key) (own_key key)
+asked_used key edition (body.Order point value) older = ap (λ b. b || is_used older key) (own_key key)
+asked_used key edition (body.Void point slot) older = ap (λ b. b || is_used older key) (own_key key)
 
-used_on : (later : List Happening) (older : History) (key : RequestKey) (now : Body) → is_used (later ++ asked_for key now ∷ older) key ≡ true
-used_on [] older key now = asked_used key now older
-used_on (Restart site ∷ later) older key now = used_on later older key now
-used_on (Load caller word list ∷ later) older key now = or_true _ _ (used_on later older key now)
-used_on (Order caller word point value ∷ later) older key now = or_true _ _ (used_on later older key now)
-used_on (Open line ∷ later) older key now = used_on later older key now
-used_on (Ask c device slot read ∷ later) older key now = used_on later older key now
-used_on (Send c number ∷ later) older key now = used_on later older key now
-used_on (Reply c n unit ∷ later) older key now = used_on later older key now
-used_on (Noise c frame ∷ later) older key now = used_on later older key now
+used_on : (later : List Happening) (older : History) (key : RequestKey) (edition : Edition) (now : Body) → is_used (later ++ asked_for key edition now ∷ older) key ≡ true
+used_on [] older key by now = asked_used key by now older
+used_on (Restart site ∷ later) older key by now = used_on later older key by now
+used_on (Load edition caller word list ∷ later) older key by now = or_true _ _ (used_on later older key by now)
+used_on (Order caller word point value ∷ later) older key by now = or_true _ _ (used_on later older key by now)
+used_on (Void caller word point slot ∷ later) older key by now = or_true _ _ (used_on later older key by now)
+used_on (Open line ∷ later) older key by now = used_on later older key by now
+used_on (Ask c device slot read ∷ later) older key by now = used_on later older key by now
+used_on (Send c number ∷ later) older key by now = used_on later older key by now
+used_on (Reply c n unit ∷ later) older key by now = used_on later older key by now
+used_on (Noise c frame ∷ later) older key by now = used_on later older key by now
 
 -- and a key that was used was asked under
 record WasUsed (before : History) (key : RequestKey) : Type 0 where
   older : History
+  edition : Edition
   now : Body
-  came : Happened before (asked_for key now) older
+  came : Happened before (asked_for key edition now) older
 
 used_later : (h : Happening) (before : History) (key : RequestKey) → WasUsed before key → WasUsed (h ∷ before) key
-used_later h before key u = record { older = u.older; now = u.now; came = step_later h before (asked_for key u.now) u.older u.came }
+used_later h before key u = record { older = u.older; edition = u.edition; now = u.now; came = step_later h before (asked_for key u.edition u.now) u.older u.came }
 
-used_first : (before : History) (k key : RequestKey) (now : Body) → (is_used before key ≡ true → WasUsed before key)
-    → (is_same_key k key || is_used before key) ≡ true → WasUsed (asked_for k now ∷ before) key
-used_first before k key now rest e = by (is_same_key k key) refl e
+used_first : (before : History) (k : RequestKey) (edition : Edition) (key : RequestKey) (now : Body) → (is_used before key ≡ true → WasUsed before key)
+    → (is_same_key k key || is_used before key) ≡ true → WasUsed (asked_for k edition now ∷ before) key
+used_first before k edition key now rest e = by (is_same_key k key) refl e
   where
-    by : (b : Bool) → is_same_key k key ≡ b → (b || is_used before key) ≡ true → WasUsed (asked_for k now ∷ before) key
+    by : (b : Bool) → is_same_key k key ≡ b → (b || is_used before key) ≡ true → WasUsed (asked_for k edition now ∷ before) key
     by true same f =
         let keys = equal_key k key same in
-        record { older = before; now = now; came = record { later = []; stands = λ i. asked_for (keys i) now ∷ before } }
-    by false other f = used_later (asked_for k now) before key (rest f)
+        record { older = before; edition = edition; now = now; came = record { later = []; stands = λ i. asked_for (keys i) edition now ∷ before } }
+    by false other f = used_later (asked_for k edition now) before key (rest f)
 
 used_so : (before : History) (key : RequestKey) → is_used before key ≡ true → WasUsed before key
 used_so [] key e = absurd (cc)
 used_so (Restart site ∷ before) key e = used_later _ before key (used_so before key e)
-used_so (Load caller word list ∷ before) key e = used_first before (caller, word) key (body.List list) (λ f. used_so before key f) e
-used_so (Order caller word point value ∷ before) key e = used_first before (caller, word) key (body.Order point value) (λ f. used_so before key f) e
+used_so (Load edition caller word list ∷ before) key e = used_first before (caller, word) edition key (body.List list) (λ f. used_so before key f) e
+used_so (Order caller word point value ∷ before) key e = used_first before (caller, word) Second key (body.Order point value) (λ f. used_so before key f) e
+used_so (Void caller word point slot ∷ before) key e = used_first before (caller, word) Second key (body.Void point slot) (λ f. used_so before key f) e
 used_so (Open line ∷ before) key e = used_later _ before key (used_so before key e)
 used_so (Ask c device slot read ∷ before) key e = used_later _ before key (used_so before key e)
 used_so (Send c number ∷ before) key e = used_later _ before key (used_so before key e)
@@ -80,22 +86,22 @@ used_so (Reply c n unit ∷ before) key e = used_later _ before key (used_so bef
 used_so (Noise c frame ∷ before) key e = used_later _ before key (used_so before key e)
 
 -- no one asked under a key that wasn't used
-none_asked : (before : History) (key : RequestKey) → is_used before key ≡ false → (older : History) (now : Body) → Happened before (asked_for key now) older → ⊥
-none_asked before key unused older now came =
-    let yes : is_used before key ≡ true = ap (λ h. is_used h key) came.stands ∙ used_on came.later older key now in
+none_asked : (before : History) (key : RequestKey) → is_used before key ≡ false → (older : History) (edition : Edition) (now : Body) → Happened before (asked_for key edition now) older → ⊥
+none_asked before key unused older edition now came =
+    let yes : is_used before key ≡ true = ap (λ h. is_used h key) came.stands ∙ used_on came.later older key edition now in
     absurd (cc)
 
-unused_so : (before : History) (key : RequestKey) → ((older : History) (now : Body) → Happened before (asked_for key now) older → ⊥) → is_used before key ≡ false
+unused_so : (before : History) (key : RequestKey) → ((older : History) (edition : Edition) (now : Body) → Happened before (asked_for key edition now) older → ⊥) → is_used before key ≡ false
 unused_so before key none = by (is_used before key) refl
   where
     by : (b : Bool) → is_used before key ≡ b → b ≡ false
-    by true e = let u = used_so before key e in absurd (none u.older u.now u.came)
+    by true e = let u = used_so before key e in absurd (none u.older u.edition u.now u.came)
     by false e = refl
 
 -- ---- rows
 
-abbrev told : History → Body → Request
-told before now = record { body = now; outcome = outcome_of before now }
+abbrev told : History → Edition → Body → Request
+told before edition now = record { body = now; outcome = outcome_of before edition now }
 
 -- what is found after a request was put
 at_put : (key k : RequestKey) (now : Request) (table : Requests)
@@ -103,51 +109,55 @@ at_put : (key k : RequestKey) (now : Request) (table : Requests)
 at_put key k now table = rows.find-put request_cmp requests_total key k now table
 
 -- a row is what it was, or of the request that came
-pub row_either : {X : Type 0} (before : History) (k key : RequestKey) (now : Body) (request : Request)
-    → request_at (first_asked before k now (requests before)) key ≡ Some request
+pub row_either : {X : Type 0} (before : History) (k : RequestKey) (edition : Edition) (key : RequestKey) (now : Body) (request : Request)
+    → request_at (first_asked before k edition now (requests before)) key ≡ Some request
     → (request_at (requests before) key ≡ Some request → X)
-    → (is_used before k ≡ false → k ≡ key → told before now ≡ request → X)
+    → (is_used before k ≡ false → k ≡ key → told before edition now ≡ request → X)
     → X
-row_either {X} before k key now request e old new = by (is_used before k) refl e
+row_either {X} before k edition key now request e old new = by (is_used before k) refl e
   where
     put : is_used before k ≡ false → (b : Bool) → eq_by_cmp request_cmp key k ≡ b
-        → cond b (Some (told before now)) (request_at (requests before) key) ≡ Some request → X
-    put unused true same f = new unused (sym (tells_apart exact_requests key k same)) (same_Some (told before now) request f)
+        → cond b (Some (told before edition now)) (request_at (requests before) key) ≡ Some request → X
+    put unused true same f = new unused (sym (tells_apart exact_requests key k same)) (same_Some (told before edition now) request f)
     put unused false other f = old f
 
     by : (b : Bool) → is_used before k ≡ b
-        → request_at (cond b (requests before) (with_request k (told before now) (requests before))) key ≡ Some request → X
+        → request_at (cond b (requests before) (with_request k (told before edition now) (requests before))) key ≡ Some request → X
     by true used f = old f
     by false unused f =
-        put unused (eq_by_cmp request_cmp key k) refl (sym (at_put key k (told before now) (requests before)) ∙ f)
+        put unused (eq_by_cmp request_cmp key k) refl (sym (at_put key k (told before edition now) (requests before)) ∙ f)
 
 first_later : (h : Happening) (before : History) (key : RequestKey) (request : Request) → IsFirstRequest before key request → IsFirstRequest (h ∷ before) key request
 first_later h before key request r = record {
   earlier = r.earlier;
-  came = step_later h before (asked_for key request.body) r.earlier r.came;
+  edition = r.edition;
+  came = step_later h before (asked_for key r.edition request.body) r.earlier r.came;
   first = r.first;
   outcome = r.outcome;
 }
 
-first_more : (before : History) (k key : RequestKey) (now : Body) (request : Request)
+first_more : (before : History) (k : RequestKey) (edition : Edition) (key : RequestKey) (now : Body) (request : Request)
     → (request_at (requests before) key ≡ Some request → IsFirstRequest before key request)
-    → request_at (first_asked before k now (requests before)) key ≡ Some request → IsFirstRequest (asked_for k now ∷ before) key request
-first_more before k key now request rest e =
-    row_either before k key now request e
-    (λ f. first_later (asked_for k now) before key request (rest f))
+    → request_at (first_asked before k edition now (requests before)) key ≡ Some request → IsFirstRequest (asked_for k edition now ∷ before) key request
+first_more before k edition key now request rest e =
+    row_either before k edition key now request e
+    (λ f. first_later (asked_for k edition now) before key request (rest f))
     (λ unused same is. record {
       earlier = before;
-      came = record { later = []; stands = λ i. asked_for (same i) (is i).body ∷ before };
+      edition = edition;
+      came = record { later = []; stands = λ i. asked_for (same i) edition (is i).body ∷ before };
       first = none_asked before key (ap (is_used before) (sym same) ∙ unused);
-      outcome = ap (λ (r : Request). r.outcome) (sym is) ∙ ap (λ (r : Request). outcome_of before r.body) is;
+      outcome = ap (λ (r : Request). r.outcome) (sym is) ∙ ap (λ (r : Request). outcome_of before edition r.body) is;
     })
 
 row_first : (before : History) (key : RequestKey) (request : Request) → request_at (requests before) key ≡ Some request → IsFirstRequest before key request
 row_first [] key request e = absurd (none-some request e)
 row_first (Restart site ∷ before) key request e = first_later _ before key request (row_first before key request e)
-row_first (Load caller word list ∷ before) key request e = first_more before (caller, word) key (body.List list) request (λ f. row_first before key request f) e
+row_first (Load edition caller word list ∷ before) key request e = first_more before (caller, word) edition key (body.List list) request (λ f. row_first before key request f) e
 row_first (Order caller word point value ∷ before) key request e =
-    first_more before (caller, word) key (body.Order point value) request (λ f. row_first before key request f) e
+    first_more before (caller, word) Second key (body.Order point value) request (λ f. row_first before key request f) e
+row_first (Void caller word point slot ∷ before) key request e =
+    first_more before (caller, word) Second key (body.Void point slot) request (λ f. row_first before key request f) e
 row_first (Open line ∷ before) key request e = first_later _ before key request (row_first before key request e)
 row_first (Ask c device slot read ∷ before) key request e = first_later _ before key request (row_first before key request e)
 row_first (Send c number ∷ before) key request e = first_later _ before key request (row_first before key request e)
@@ -155,56 +165,59 @@ row_first (Reply c n unit ∷ before) key request e = first_later _ before key r
 row_first (Noise c frame ∷ before) key request e = first_later _ before key request (row_first before key request e)
 
 -- a row stays
-stays_by : (before : History) (k key : RequestKey) (now : Body) (request : Request) → request_at (requests before) key ≡ Some request
-    → request_at (first_asked before k now (requests before)) key ≡ Some request
-stays_by before k key now request e = by (is_used before k) refl
+stays_by : (before : History) (k : RequestKey) (edition : Edition) (key : RequestKey) (now : Body) (request : Request) → request_at (requests before) key ≡ Some request
+    → request_at (first_asked before k edition now (requests before)) key ≡ Some request
+stays_by before k edition key now request e = by (is_used before k) refl
   where
     used : is_used before key ≡ true
     used = used_is before key ∙ ap is_some e
 
     put : is_used before k ≡ false → (b : Bool) → eq_by_cmp request_cmp key k ≡ b
-        → cond b (Some (told before now)) (request_at (requests before) key) ≡ Some request
+        → cond b (Some (told before edition now)) (request_at (requests before) key) ≡ Some request
     put unused true same =
         let no : true ≡ false = sym used ∙ ap (is_used before) (tells_apart exact_requests key k same) ∙ unused in absurd (cc)
     put unused false other = e
 
     by : (b : Bool) → is_used before k ≡ b
-        → request_at (cond b (requests before) (with_request k (told before now) (requests before))) key ≡ Some request
+        → request_at (cond b (requests before) (with_request k (told before edition now) (requests before))) key ≡ Some request
     by true used = e
-    by false unused = at_put key k (told before now) (requests before) ∙ put unused (eq_by_cmp request_cmp key k) refl
+    by false unused = at_put key k (told before edition now) (requests before) ∙ put unused (eq_by_cmp request_cmp key k) refl
 
 pub row_stays : (later : List Happening) (before : History) (key : RequestKey) (request : Request) → request_at (requests before) key ≡ Some request
     → request_at (requests (later ++ before)) key ≡ Some request
 row_stays [] before key request e = e
 row_stays (Restart site ∷ later) before key request e = row_stays later before key request e
-row_stays (Load caller word list ∷ later) before key request e = stays_by (later ++ before) (caller, word) key (body.List list) request (row_stays later before key request e)
+row_stays (Load edition caller word list ∷ later) before key request e = stays_by (later ++ before) (caller, word) edition key (body.List list) request (row_stays later before key request e)
 row_stays (Order caller word point value ∷ later) before key request e =
-    stays_by (later ++ before) (caller, word) key (body.Order point value) request (row_stays later before key request e)
+    stays_by (later ++ before) (caller, word) Second key (body.Order point value) request (row_stays later before key request e)
+row_stays (Void caller word point slot ∷ later) before key request e =
+    stays_by (later ++ before) (caller, word) Second key (body.Void point slot) request (row_stays later before key request e)
 row_stays (Open line ∷ later) before key request e = row_stays later before key request e
 row_stays (Ask c device slot read ∷ later) before key request e = row_stays later before key request e
 row_stays (Send c number ∷ later) before key request e = row_stays later before key request e
 row_stays (Reply c n unit ∷ later) before key request e = row_stays later before key request e
 row_stays (Noise c frame ∷ later) before key request e = row_stays later before key request e
 
-requests_asked : (before : History) (key : RequestKey) (now : Body) → requests (asked_for key now ∷ before) ≡ first_asked before key now (requests before)
-requests_asked before key (body.List list) = refl
-requests_asked before key (body.Order point value) = refl
+requests_asked : (before : History) (key : RequestKey) (edition : Edition) (now : Body) → requests (asked_for key edition now ∷ before) ≡ first_asked before key edition now (requests before)
+requests_asked before key edition (body.List list) = refl
+requests_asked before key edition (body.Order point value) = refl
+requests_asked before key edition (body.Void point slot) = refl
 
-row_made : (before : History) (key : RequestKey) (now : Body) → is_used before key ≡ false
-    → request_at (requests (asked_for key now ∷ before)) key ≡ Some (told before now)
-row_made before key now unused =
+row_made : (before : History) (key : RequestKey) (edition : Edition) (now : Body) → is_used before key ≡ false
+    → request_at (requests (asked_for key edition now ∷ before)) key ≡ Some (told before edition now)
+row_made before key edition now unused =
     let old = requests before in
-    ap (λ t. request_at t key) (requests_asked before key now)
-    ∙ ap (λ b. request_at (cond b old (with_request key (told before now) old)) key) unused
-    ∙ at_put key key (told before now) old
-    ∙ ap (λ b. cond b (Some (told before now)) (request_at old key)) (tied_key key)
+    ap (λ t. request_at t key) (requests_asked before key edition now)
+    ∙ ap (λ b. request_at (cond b old (with_request key (told before edition now) old)) key) unused
+    ∙ at_put key key (told before edition now) old
+    ∙ ap (λ b. cond b (Some (told before edition now)) (request_at old key)) (tied_key key)
 
 -- and the first request makes it
 first_row : (before : History) (key : RequestKey) (request : Request) → IsFirstRequest before key request → request_at (requests before) key ≡ Some request
 first_row before key request r =
     ap (λ h. request_at (requests h) key) r.came.stands
-    ∙ row_stays r.came.later (asked_for key request.body ∷ r.earlier) key request
-    (row_made r.earlier key request.body (unused_so r.earlier key r.first) ∙ (λ i. Some (record { body = request.body; outcome = sym r.outcome i })))
+    ∙ row_stays r.came.later (asked_for key r.edition request.body ∷ r.earlier) key request
+    (row_made r.earlier key r.edition request.body (unused_so r.earlier key r.first) ∙ (λ i. Some (record { body = request.body; outcome = sym r.outcome i })))
 
 pub kept_request : (before : History) (key : RequestKey) (request : Request)
     → (request_at (requests before) key ≡ Some request → IsFirstRequest before key request)
@@ -317,8 +330,9 @@ settled_same (Some (Writes w)) unit table a = by (fits (Writes w) unit)
 pub numbered : (before : History) → AreOrders 0 (settings before)
 numbered [] = tt
 numbered (Restart site ∷ before) = numbered before
-numbered (Load caller word list ∷ before) = numbered before
+numbered (Load edition caller word list ∷ before) = numbered before
 numbered (Open line ∷ before) = numbered before
+numbered (Void caller key point at ∷ before) = numbered before
 numbered (Ask c device slot read ∷ before) = numbered before
 numbered (Send c number ∷ before) = numbered before
 numbered (Noise c frame ∷ before) = numbered before
@@ -367,11 +381,16 @@ reply_same before c n unit =
 abbrev number_of : Outcome → ℕ
 number_of (Loaded count) = 0
 number_of (Ordered number) = number
+number_of (Voided slot) = 0
 number_of (RefusedFor reason) = 0
 
 list_none : (loaded : Loading) (number : ℕ) → outcome loaded ≡ Ordered number → ⊥
 list_none (NotLoaded reason) number e = absurd (cc)
 list_none (IsLoaded count points) number e = absurd (cc)
+
+void_none : (slot : ℕ) (v : Voiding) (number : ℕ) → voided slot v ≡ Ordered number → ⊥
+void_none slot (NotVoided fault) number e = absurd (cc)
+void_none slot (IsVoided known) number e = absurd (cc)
 
 -- an order that is accepted takes the next number, and its setting stands
 pub order_next : (o : Ordering) (table : Settings) (number : ℕ) → AreOrders 0 table → ordered (last_order table) o ≡ Ordered number
@@ -384,21 +403,24 @@ order_next (Taken point words) table number a e =
     let long : length (with_setting (last_order table + 1) new table) ≡ length table + 1 = m.1 in
     (sym (ap number_of e), last_is (with_setting (last_order table + 1) new table) m.0 ∙ long ∙ omega arith)
 
-ordered_next : (before : History) (now : Body) (number : ℕ) → outcome_of before now ≡ Ordered number → number ≡ last_order (settings before) + 1
-ordered_next before (body.List list) number e = absurd (list_none (loading (site_of before) (points before) list) number e)
-ordered_next before (body.Order point value) number e = (order_next (ordering before point value) (settings before) number (numbered before) e).0
+ordered_next : (before : History) (edition : Edition) (now : Body) (number : ℕ) → outcome_of before edition now ≡ Ordered number → number ≡ last_order (settings before) + 1
+ordered_next before edition (body.List list) number e = absurd (list_none (loading edition (site_of before) (points before) list) number e)
+ordered_next before edition (body.Void point slot) number e = absurd (void_none slot (voiding before point slot) number e)
+ordered_next before edition (body.Order point value) number e = (order_next (ordering before point value) (settings before) number (numbered before) e).0
 
-ordered_last : (before : History) (key : RequestKey) (now : Body) (number : ℕ) → is_used before key ≡ false → outcome_of before now ≡ Ordered number
-    → last_order (settings (asked_for key now ∷ before)) ≡ last_order (settings before) + 1
-ordered_last before key (body.List list) number unused e = absurd (list_none (loading (site_of before) (points before) list) number e)
-ordered_last before key (body.Order point value) number unused e =
+ordered_last : (before : History) (key : RequestKey) (edition : Edition) (now : Body) (number : ℕ) → is_used before key ≡ false → outcome_of before edition now ≡ Ordered number
+    → last_order (settings (asked_for key edition now ∷ before)) ≡ last_order (settings before) + 1
+ordered_last before key edition (body.List list) number unused e = absurd (list_none (loading edition (site_of before) (points before) list) number e)
+ordered_last before key edition (body.Void point slot) number unused e = absurd (void_none slot (voiding before point slot) number e)
+ordered_last before key edition (body.Order point value) number unused e =
     ap (λ b. last_order (cond b (settings before) (with_ordered (ordering before point value) (settings before)))) unused
     ∙ (order_next (ordering before point value) (settings before) number (numbered before) e).1
 
 -- no request ends an order
-pub asked_longer : (before : History) (key : RequestKey) (now : Body) → last_order (settings before) ≤ last_order (settings (asked_for key now ∷ before))
-asked_longer before key (body.List list) = omega arith
-asked_longer before key (body.Order point value) = by (is_used before key)
+pub asked_longer : (before : History) (key : RequestKey) (edition : Edition) (now : Body) → last_order (settings before) ≤ last_order (settings (asked_for key edition now ∷ before))
+asked_longer before key edition (body.List list) = omega arith
+asked_longer before key edition (body.Void point slot) = omega arith
+asked_longer before key edition (body.Order point value) = by (is_used before key)
   where
     by : (b : Bool) → last_order (settings before) ≤ last_order (cond b (settings before) (with_ordered (ordering before point value) (settings before)))
     by true = omega arith
@@ -411,17 +433,17 @@ asked_longer before key (body.Order point value) = by (is_used before key)
         omega arith
 
 -- an order has one of the numbers
-ranged_more : (before : History) (k key : RequestKey) (now : Body) (number : ℕ)
+ranged_more : (before : History) (k : RequestKey) (edition : Edition) (key : RequestKey) (now : Body) (number : ℕ)
     → (OrderedUnder before key number → number ≤ last_order (settings before))
-    → (u : Body) → request_at (first_asked before k now (requests before)) key ≡ Some (record { body = u; outcome = Ordered number })
-    → number ≤ last_order (settings (asked_for k now ∷ before))
-ranged_more before k key now number rest u e =
-    row_either before k key now (record { body = u; outcome = Ordered number }) e
-    (λ old. let le : number ≤ last_order (settings before) = rest (u, old) in let more = asked_longer before k now in omega arith)
+    → (u : Body) → request_at (first_asked before k edition now (requests before)) key ≡ Some (record { body = u; outcome = Ordered number })
+    → number ≤ last_order (settings (asked_for k edition now ∷ before))
+ranged_more before k edition key now number rest u e =
+    row_either before k edition key now (record { body = u; outcome = Ordered number }) e
+    (λ old. let le : number ≤ last_order (settings before) = rest (u, old) in let more = asked_longer before k edition now in omega arith)
     (λ unused same is.
-    let out : outcome_of before now ≡ Ordered number = ap (λ (r : Request). r.outcome) is in
-    let next : number ≡ last_order (settings before) + 1 = ordered_next before now number out in
-    let last = ordered_last before k now number unused out in
+    let out : outcome_of before edition now ≡ Ordered number = ap (λ (r : Request). r.outcome) is in
+    let next : number ≡ last_order (settings before) + 1 = ordered_next before edition now number out in
+    let last = ordered_last before k edition now number unused out in
     omega arith)
 
 ranged : (before : History) (key : RequestKey) (number : ℕ) → OrderedUnder before key number → number ≤ last_order (settings before)
@@ -433,29 +455,30 @@ ranged (Send c order ∷ before) key number u = ranged before key number u
 ranged (Noise c frame ∷ before) key number u = ranged before key number u
 ranged (Reply c n unit ∷ before) key number u =
     let le : number ≤ last_order (settings before) = ranged before key number u in let same = reply_same before c n unit in omega arith
-ranged (Load caller word list ∷ before) key number u = ranged_more before (caller, word) key (body.List list) number (λ v. ranged before key number v) u.0 u.1
+ranged (Load edition caller word list ∷ before) key number u = ranged_more before (caller, word) edition key (body.List list) number (λ v. ranged before key number v) u.0 u.1
+ranged (Void caller word point slot ∷ before) key number u = ranged_more before (caller, word) Second key (body.Void point slot) number (λ v. ranged before key number v) u.0 u.1
 ranged (Order caller word point value ∷ before) key number u =
-    ranged_more before (caller, word) key (body.Order point value) number (λ v. ranged before key number v) u.0 u.1
+    ranged_more before (caller, word) Second key (body.Order point value) number (λ v. ranged before key number v) u.0 u.1
 
 -- an order has one key
-one_more : (before : History) (k a b : RequestKey) (now : Body) (number : ℕ)
+one_more : (before : History) (k : RequestKey) (edition : Edition) (a b : RequestKey) (now : Body) (number : ℕ)
     → (OrderedUnder before a number → OrderedUnder before b number → a ≡ b)
-    → (u v : Body) → request_at (first_asked before k now (requests before)) a ≡ Some (record { body = u; outcome = Ordered number })
-    → request_at (first_asked before k now (requests before)) b ≡ Some (record { body = v; outcome = Ordered number }) → a ≡ b
-one_more before k a b now number rest u v e f =
-    row_either before k a now (record { body = u; outcome = Ordered number }) e
-    (λ old. row_either before k b now (record { body = v; outcome = Ordered number }) f
+    → (u v : Body) → request_at (first_asked before k edition now (requests before)) a ≡ Some (record { body = u; outcome = Ordered number })
+    → request_at (first_asked before k edition now (requests before)) b ≡ Some (record { body = v; outcome = Ordered number }) → a ≡ b
+one_more before k edition a b now number rest u v e f =
+    row_either before k edition a now (record { body = u; outcome = Ordered number }) e
+    (λ old. row_either before k edition b now (record { body = v; outcome = Ordered number }) f
     (λ other. rest (u, old) (v, other))
     (λ unused same is. absurd (too_far a u old v is)))
-    (λ unused same is. row_either before k b now (record { body = v; outcome = Ordered number }) f
+    (λ unused same is. row_either before k edition b now (record { body = v; outcome = Ordered number }) f
     (λ other. absurd (too_far b v other u is))
     (λ _ again _. sym same ∙ again))
   where
     too_far : (key : RequestKey) (u : Body) → request_at (requests before) key ≡ Some (record { body = u; outcome = Ordered number })
-        → (v : Body) → told before now ≡ record { body = v; outcome = Ordered number } → ⊥
+        → (v : Body) → told before edition now ≡ record { body = v; outcome = Ordered number } → ⊥
     too_far key u old v is =
         let le : number ≤ last_order (settings before) = ranged before key number (u, old) in
-        let next : number ≡ last_order (settings before) + 1 = ordered_next before now number (ap (λ (r : Request). r.outcome) is) in
+        let next : number ≡ last_order (settings before) + 1 = ordered_next before edition now number (ap (λ (r : Request). r.outcome) is) in
         omega arith
 
 pub one_key : (before : History) (a b : RequestKey) (number : ℕ) → OrderedUnder before a number → OrderedUnder before b number → a ≡ b
@@ -466,10 +489,12 @@ one_key (Ask c device slot read ∷ before) a b number u v = one_key before a b 
 one_key (Send c order ∷ before) a b number u v = one_key before a b number u v
 one_key (Reply c n unit ∷ before) a b number u v = one_key before a b number u v
 one_key (Noise c frame ∷ before) a b number u v = one_key before a b number u v
-one_key (Load caller word list ∷ before) a b number u v =
-    one_more before (caller, word) a b (body.List list) number (λ x y. one_key before a b number x y) u.0 v.0 u.1 v.1
+one_key (Load edition caller word list ∷ before) a b number u v =
+    one_more before (caller, word) edition a b (body.List list) number (λ x y. one_key before a b number x y) u.0 v.0 u.1 v.1
+one_key (Void caller word point slot ∷ before) a b number u v =
+    one_more before (caller, word) Second a b (body.Void point slot) number (λ x y. one_key before a b number x y) u.0 v.0 u.1 v.1
 one_key (Order caller word point value ∷ before) a b number u v =
-    one_more before (caller, word) a b (body.Order point value) number (λ x y. one_key before a b number x y) u.0 v.0 u.1 v.1
+    one_more before (caller, word) Second a b (body.Order point value) number (λ x y. one_key before a b number x y) u.0 v.0 u.1 v.1
 
 -- and a key one order
 pub one_order : (before : History) (key : RequestKey) (m n : ℕ) → OrderedUnder before key m → OrderedUnder before key n → m ≡ n
@@ -485,8 +510,9 @@ key_later h before number k = (k.0, (k.1.0, row_stays (h ∷ []) before k.0 _ k.
 has_key : (before : History) (number : ℕ) → 1 ≤ number → number ≤ last_order (settings before) → HasKey before number
 has_key [] number least most = absurd (omega arith)
 has_key (Restart site ∷ before) number least most = key_later (Restart site) before number (has_key before number least most)
-has_key (Load caller word list ∷ before) number least most = key_later (Load caller word list) before number (has_key before number least most)
+has_key (Load edition caller word list ∷ before) number least most = key_later (Load edition caller word list) before number (has_key before number least most)
 has_key (Open line ∷ before) number least most = key_later (Open line) before number (has_key before number least most)
+has_key (Void caller key point at ∷ before) number least most = key_later (Void caller key point at) before number (has_key before number least most)
 has_key (Ask c device slot read ∷ before) number least most = key_later (Ask c device slot read) before number (has_key before number least most)
 has_key (Send c order ∷ before) number least most = key_later (Send c order) before number (has_key before number least most)
 has_key (Noise c frame ∷ before) number least most = key_later (Noise c frame) before number (has_key before number least most)
@@ -514,8 +540,8 @@ has_key (Order caller word point value ∷ before) number least most = by (λ le
           let next : last_order (with_ordered (Taken at words) (settings before)) ≡ last_order (settings before) + 1 =
           (order_next (Taken at words) (settings before) (last_order (settings before) + 1) (numbered before) refl).1 in
           let number_is : last_order (settings before) + 1 ≡ number = omega arith in
-          let out : outcome_of before now ≡ Ordered number = ap (ordered (last_order (settings before))) is ∙ ap Ordered number_is in
-          (key, (now, row_made before key now unused ∙ (λ i. Some (record { body = now; outcome = out i }))))
+          let out : outcome_of before Second now ≡ Ordered number = ap (ordered (last_order (settings before))) is ∙ ap Ordered number_is in
+          (key, (now, row_made before key Second now unused ∙ (λ i. Some (record { body = now; outcome = out i }))))
       | inr less ↦ old (rest (omega arith))
     ]
 
@@ -532,6 +558,6 @@ pub orders : (before : History) (number : ℕ)
 orders before number = (
   (λ e. let in_range = (is_order before number).0 e in has_key before number in_range.0 in_range.1),
   (λ k. let r = row_first before k.0 (record { body = k.1.0; outcome = Ordered number }) k.1.1 in
-      let next : number ≡ last_order (settings r.earlier) + 1 = ordered_next r.earlier k.1.0 number (sym r.outcome) in
+      let next : number ≡ last_order (settings r.earlier) + 1 = ordered_next r.earlier r.edition k.1.0 number (sym r.outcome) in
       (is_order before number).1 (omega arith, ranged before k.0 number k.1)),
 )

@@ -9,7 +9,7 @@ use Rattle.poll_book.specs.Tables.{Tables, Within}
 use Rattle.office_core.specs.declared.event.Event.{Event}
 use Rattle.office_core.specs.declared.event.Event.TheVariants as event
 use Rattle.office_core.specs.declared.event.EventAnswer.{EventAnswer}
-use Rattle.office_core.specs.History.{Happening, Restart, Load, Order, Open, Ask, Send, Reply, Noise, History, requests, tables}
+use Rattle.office_core.specs.History.{Happening, Restart, Load, Order, Void, Open, Ask, Send, Reply, Noise, History, requests, tables}
 use Rattle.office_core.specs.Leavings.{LeftAfter, Leaves}
 use Rattle.office_core.specs.Legal.{MayHappen}
 use Rattle.office_core.specs.Standing.{Goes, Sees, StandsFor, is_store}
@@ -102,8 +102,9 @@ leaves_unwritten stands may may' seen told same within before happening s can se
 pub ask_writes_nothing : (conn : ℕ) (device : List ℕ) (slot : ℕ) (read : Read) (before : History) (happening : Happening) → Sees before happening (event.Ask conn device slot read)
     → tables (happening ∷ before) ≡ tables before
 ask_writes_nothing conn device slot read before (Restart site) sees = refl
-ask_writes_nothing conn device slot read before (Load caller key list) sees = absurd sees
+ask_writes_nothing conn device slot read before (Load edition caller key list) sees = absurd sees
 ask_writes_nothing conn device slot read before (Order caller key point value) sees = absurd sees
+ask_writes_nothing conn device slot read before (Void caller key point at) sees = absurd sees
 ask_writes_nothing conn device slot read before (Open line) sees = absurd sees
 ask_writes_nothing conn device slot read before (Ask c d s r) sees = refl
 ask_writes_nothing conn device slot read before (Send c n) sees = refl
@@ -112,8 +113,9 @@ ask_writes_nothing conn device slot read before (Noise c frame) sees = refl
 
 pub send_writes_nothing : (conn number : ℕ) (before : History) (happening : Happening) → Sees before happening (event.Send conn number) → tables (happening ∷ before) ≡ tables before
 send_writes_nothing conn number before (Restart site) sees = refl
-send_writes_nothing conn number before (Load caller key list) sees = absurd sees
+send_writes_nothing conn number before (Load edition caller key list) sees = absurd sees
 send_writes_nothing conn number before (Order caller key point value) sees = absurd sees
+send_writes_nothing conn number before (Void caller key point at) sees = absurd sees
 send_writes_nothing conn number before (Open line) sees = absurd sees
 send_writes_nothing conn number before (Ask c d s r) sees = refl
 send_writes_nothing conn number before (Send c n) sees = refl
@@ -122,8 +124,9 @@ send_writes_nothing conn number before (Noise c frame) sees = refl
 
 pub restart_writes_nothing : (before : History) (happening : Happening) → Sees before happening event.Restart → tables (happening ∷ before) ≡ tables before
 restart_writes_nothing before (Restart site) sees = refl
-restart_writes_nothing before (Load caller key list) sees = absurd sees
+restart_writes_nothing before (Load edition caller key list) sees = absurd sees
 restart_writes_nothing before (Order caller key point value) sees = absurd sees
+restart_writes_nothing before (Void caller key point at) sees = absurd sees
 restart_writes_nothing before (Open line) sees = absurd sees
 restart_writes_nothing before (Ask c d s r) sees = refl
 restart_writes_nothing before (Send c n) sees = refl

@@ -12,6 +12,7 @@ pub mod Loading
 pub mod Newness
 pub mod Given
 pub mod Rows
+pub mod Marks
 pub mod Elements
 pub mod OnePoint
 pub mod Totalled
@@ -39,8 +40,11 @@ pub mod Asking
 pub mod Sending
 pub mod Opening
 pub mod Messages
+pub mod OfLists
 pub mod Forms
+pub mod OldHistories
 pub mod Fitting
+pub mod Voiding
 pub mod ByName
 pub mod StepsLost
 pub mod SlotsLost
@@ -49,3 +53,4 @@ pub mod Calls
 pub mod SameArrivals
 pub mod AskedAgain
 pub mod Looked
+pub mod Shown

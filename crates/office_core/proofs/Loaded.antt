@@ -5,7 +5,7 @@ use Rattle.poll_book.specs.declared.rows.PointRow.{PointRow}
 use Rattle.poll_book.specs.Tables.{Tables}
 use Rattle.poll_book.specs.Changes.{AreNumbered}
 use Rattle.office_core.specs.Loads.{Loading, Refused, Taken, loading, added}
-use Rattle.office_core.specs.History.{Restart, Load, Order, Open, Ask, Send, Reply, Noise, History, tables, points, site_of, is_used}
+use Rattle.office_core.specs.History.{Restart, Load, Order, Void, Open, Ask, Send, Reply, Noise, History, tables, points, site_of, is_used}
 use Rattle.office_core.specs.Standing.{StandsFor}
 use Rattle.office_core.proofs.Newness.{numbered-append, numbered_so}
 
@@ -16,18 +16,19 @@ numbered_added n (Taken count points) = numbered_so n points
 -- the accepted points are numbered from 1
 pub numbered_points : (before : History) → AreNumbered 0 (points before)
 numbered_points [] = tt
-numbered_points (Load caller key list ∷ before) = by (is_used before (caller, key)) (numbered_points before)
+numbered_points (Load edition caller key list ∷ before) = by (is_used before (caller, key)) (numbered_points before)
   where
     more : List PointRow
-    more = added (length (points before)) (loading (site_of before) (points before) list)
+    more = added (length (points before)) (loading edition (site_of before) (points before) list)
 
     by : (b : Bool) → AreNumbered 0 (points before) → AreNumbered 0 (cond b (points before) (points before ++ more))
     by true earlier = earlier
     by false earlier =
         numbered-append 0 (length (points before)) (points before) more (omega arith) earlier
-        (numbered_added (length (points before)) (loading (site_of before) (points before) list))
+        (numbered_added (length (points before)) (loading edition (site_of before) (points before) list))
 numbered_points (Restart site ∷ before) = numbered_points before
 numbered_points (Order caller key point value ∷ before) = numbered_points before
+numbered_points (Void caller key point at ∷ before) = numbered_points before
 numbered_points (Open line ∷ before) = numbered_points before
 numbered_points (Ask c device slot read ∷ before) = numbered_points before
 numbered_points (Send c number ∷ before) = numbered_points before

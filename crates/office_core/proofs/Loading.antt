@@ -6,6 +6,7 @@ use Rattle.std.proofs.lemmas.Bool.{le-leb, lt-leb, cases_lt, lt-ltb, le-ltb}
 use Rattle.std.proofs.lemmas.List.{length-map}
 use Rattle.std.proofs.lemmas.Option.{none-some, same_Some}
 use Rattle.point_list.specs.Columns.{Record, field, is_device}
+use Rattle.point_list.specs.Edition.{Edition, Second}
 use Rattle.point_list.specs.Lists.{AreRows, SayRows, names_in, IsFaultOf, IsMemory}
 use Rattle.point_list.specs.ListMeaning.{rows_unless}
 use Rattle.point_list.specs.Resolving.{first_misplaced, list_at, placed, point_placed, resolved_list}
@@ -50,11 +51,11 @@ said number (r ∷ body) [] say = absurd say
 said number (r ∷ body) (x ∷ rows) say = ap suc (said (number + 1) body rows say.1)
 
 -- a list has at most 10,000 rows
-pub few_rows : (known : List ℕ → Bool) (list : List Record) (rows : List ListRow) → AreRows known list rows → length rows ≤ 10000
-few_rows known list rows are =
+pub few_rows : (edition : Edition) (known : List ℕ → Bool) (list : List Record) (rows : List ListRow) → AreRows edition known list rows → length rows ≤ 10000
+few_rows edition known list rows are =
     let count = said 2 are.body rows are.say in
     ⊎_elim (λ (gt : 10000 < length are.body).
-    let some = few_names known (names_in (take 10000 are.body)) (get_or are.body 10000 []) (are.faultless 10000 gt) in
+    let some = few_names (length are.first) known (names_in (take 10000 are.body)) (get_or are.body 10000 []) (are.faultless 10000 gt) in
     absurd (omega (arith, some, length-map (take 10000 are.body) (λ (r : Record). field r 0), length-take 10000 are.body)))
     (λ (le : length are.body ≤ 10000). (let n = count in omega arith))
     (cases_lt 10000 (length are.body))
@@ -90,21 +91,21 @@ points_placed : (site : Site) (rows : List ListRow) → map (point_placed site) 
 points_placed site [] = refl
 points_placed site (x ∷ rows) = ap (λ l. point_placed site x ∷ l) (points_placed site rows)
 
-module _ (site : Site) (list : List Record) (rows : List ListRow) (are : AreRows (is_device site) list rows) where
+module _ (site : Site) (list : List Record) (rows : List ListRow) (are : AreRows Second (is_device site) list rows) where
   -- the rows of a list at a site are those that it says, placed
-  pub rows_at : first_misplaced site rows ≡ None → list_at site list ≡ Ok (map (placed site) rows)
-  rows_at none = ap (resolved_list site) (rows_are (is_device site) list rows are) ∙ ap (λ o. rows_unless o (map (placed site) rows)) none
+  pub rows_at : first_misplaced site rows ≡ None → list_at Second site list ≡ Ok (map (placed site) rows)
+  rows_at none = ap (resolved_list site) (rows_are Second (is_device site) list rows are) ∙ ap (λ o. rows_unless o (map (placed site) rows)) none
 
-  pub fault_at_site : (e : ListError) → first_misplaced site rows ≡ Some e → list_at site list ≡ Err e
-  fault_at_site e some = ap (resolved_list site) (rows_are (is_device site) list rows are) ∙ ap (λ o. rows_unless o (map (placed site) rows)) some
+  pub fault_at_site : (e : ListError) → first_misplaced site rows ≡ Some e → list_at Second site list ≡ Err e
+  fault_at_site e some = ap (resolved_list site) (rows_are Second (is_device site) list rows are) ∙ ap (λ o. rows_unless o (map (placed site) rows)) some
 
   pub are_points : (points : List Point) → points ≡ map (point_placed site) rows → ArePointsOf (map (placed site) rows) points
   are_points points is = record { same = is ∙ points_placed site rows; numbered = numbers_placed site 2 are.body rows are.say }
 
 -- the fault of a list alone is its fault at a site
-pub list_fault : (site : Site) (list : List Record) (e : ListError) → IsMemory e ⊎ IsFaultOf (is_device site) list e → IsMemory e ⊎ (list_at site list ≡ Err e)
+pub list_fault : (site : Site) (list : List Record) (e : ListError) → IsMemory e ⊎ IsFaultOf Second (is_device site) list e → IsMemory e ⊎ (list_at Second site list ≡ Err e)
 list_fault site list e (inl memory) = inl memory
-list_fault site list e (inr fault) = inr (ap (resolved_list site) (fault_is (is_device site) list e fault))
+list_fault site list e (inr fault) = inr (ap (resolved_list site) (fault_is Second (is_device site) list e fault))
 
 -- ---- the first row that differs
 

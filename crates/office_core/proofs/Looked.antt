@@ -20,9 +20,9 @@ given_many known (Some device) read words = length-map (covered known device rea
 
 -- each covered point is given one reading, so what looked so often for the readings did for the points
 pub looks_given : (site : Site) (known : List PointRow) (asking : Asking) (words : List ℕ) (rows : List (PointRow × List ℕ)) (old new : ℕ) → rows ≡ given_at site known asking words
-    → IsRaisedAtMost (4 * length rows) old new → IsRaisedAtMost (4 * length (covered_at site known asking)) old new
+    → IsRaisedAtMost (5 * length rows) old new → IsRaisedAtMost (5 * length (covered_at site known asking)) old new
 looks_given site known asking words rows old new are looks =
-    subst (λ n. IsRaisedAtMost (4 * n) old new) (ap length are ∙ given_many (take asking.known known) (device_name site asking.device) asking.read words) looks
+    subst (λ n. IsRaisedAtMost (5 * n) old new) (ap length are ∙ given_many (take asking.known known) (device_name site asking.device) asking.read words) looks
 
 named_is : (former : Option Open) (frame : Frame) (number : ℕ) (asked : Asked) (reply : Reply) → Names former frame number asked reply
     → named former frame ≡ Some (record { asked = asked; settled = false })
@@ -30,8 +30,8 @@ named_is former frame number asked reply names = ap (λ o. named o frame) names.
 
 -- what looked so often for the query's points did for those of the frame's
 pub looks_named : (site : Site) (known copy : List PointRow) (former : Option Open) (frame : Frame) (number : ℕ) (asked : Asked) (reply : Reply) (old new : ℕ)
-    → Names former frame number asked reply → copy ≡ known → IsRaisedAtMost (4 * length (covered_by site copy asked)) old new
-    → IsRaisedAtMost (4 * length (covered_matched site known (named former frame))) old new
+    → Names former frame number asked reply → copy ≡ known → IsRaisedAtMost (5 * length (covered_by site copy asked)) old new
+    → IsRaisedAtMost (5 * length (covered_matched site known (named former frame))) old new
 looks_named site known copy former frame number asked reply old new names same looks =
-    subst (λ o. IsRaisedAtMost (4 * length (covered_matched site known o)) old new) (sym (named_is former frame number asked reply names))
-    (subst (λ l. IsRaisedAtMost (4 * length (covered_by site l asked)) old new) same looks)
+    subst (λ o. IsRaisedAtMost (5 * length (covered_matched site known o)) old new) (sym (named_is former frame number asked reply names))
+    (subst (λ l. IsRaisedAtMost (5 * length (covered_by site l asked)) old new) same looks)

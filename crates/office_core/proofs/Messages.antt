@@ -87,8 +87,9 @@ module _ (before : History) (conn : ℕ) (frame : Frame) (bytes : IsBytes frame.
 
 -- a message may happen as what it is told as, and is seen so
 told_so : (before : History) (seen : Event) → IsMessage seen → IsTold before (happening_of before seen) seen
-told_so before (event.Load caller key list) good = (good, (refl, refl, refl))
+told_so before (event.Load caller key list) good = (good, (refl, refl, refl, refl))
 told_so before (event.Order caller key point value) good = (good, (refl, refl, refl, refl))
+told_so before (event.Void caller key point slot) good = (good, (refl, refl, refl, refl))
 told_so before (event.Open line) bytes = (bytes, refl)
 told_so before (event.Ask conn device slot read) bounds = (bounds, (refl, refl, refl, refl))
 told_so before (event.Send conn number) bounds = (bounds, (refl, refl))

@@ -17,7 +17,7 @@ use Rattle.poll_book.specs.declared.rows.Change.{Change}
 use Rattle.poll_book.specs.declared.requests.RequestRow.{RequestRow}
 use Rattle.poll_book.specs.Orders.{Settings, is_waiting, last_order, setting_at, with_setting}
 use Rattle.poll_book.specs.Requests.{request_at, with_request}
-use Rattle.poll_book.specs.Tables.{Tables, Within, Key, key_cmp, Readings, reading_at, new_rows, sum_at, with_rows, with_sums}
+use Rattle.poll_book.specs.Tables.{Tables, Within, Key, key_cmp, Readings, marked, reading_at, new_rows, sum_at, with_rows, with_sums}
 use Rattle.poll_book.specs.Totals.{totals_of}
 use Rattle.poll_book.specs.Changes.{applied, HaveTotals, as_rows, as_sums, counters, keyed, new_sums, with_order, AreNumbered, HasWords, KeepWords, AreThere, IsNew, IsNextOrSettled, IsNextOrSettledAs}
 use Rattle.poll_book.proofs.Tabled.{exact_keys}
@@ -25,6 +25,7 @@ use Rattle.office_core.specs.Leavings.{LeftAfter}
 use Rattle.office_core.specs.Loads.{numbered_on}
 use Rattle.office_core.specs.Orders.{Ordering, Refused as NoOrder, Taken as ATaken, ordering_row, settle, settle_at, waiting_at, with_ordered}
 use Rattle.office_core.specs.Keeping.{AreCovered, IsCounted, Rises, asked_change, no_change, with_given, with_readings, with_state}
+use Rattle.office_core.proofs.Marks.{marked_rise}
 use Rattle.office_core.proofs.Totalled.{loaded_sums, recorded_sums, stored_sum, sum_numbers, sums_there}
 
 -- ---- points
@@ -80,27 +81,28 @@ rises_new table n (row ∷ rest) r = by (is_none (reading_at table row.0)) refl 
 
 -- ---- changes
 
-still_numbered : (kept : Tables) → IsCounted kept → AreNumbered 0 (kept.points ++ [])
+pub still_numbered : (kept : Tables) → IsCounted kept → AreNumbered 0 (kept.points ++ [])
 still_numbered kept counted = subst (AreNumbered 0) (sym (append-nil kept.points)) counted.points
 
 -- what is stored is of the counters
-of_counters : (kept : Tables) → IsCounted kept → map (λ row. row.0) kept.totals ≡ counters kept.points
+pub of_counters : (kept : Tables) → IsCounted kept → map (λ row. row.0) kept.totals ≡ counters kept.points
 of_counters kept counted = ap (map (λ (row : ℕ × ℕ). row.0)) counted.totals ∙ sum_numbers kept.points kept.readings
 
 -- the change of a reply
 pub record IsReplied (change : Change) (kept : Tables) (slot : ℕ) (covered : List (PointRow × List ℕ)) : Type 0 where
-  pub alone : change ≡ record { points = []; readings = change.readings; totals = change.totals; setting = None; request = None; connections = None }
-  pub readings : as_rows change.readings ≡ new_rows kept.readings (keyed slot covered)
-  pub totals : as_sums change.totals ≡ new_sums kept.readings slot covered
+  pub alone : change ≡ record { points = []; readings = change.readings; totals = change.totals; void = None; setting = None; request = None; connections = None }
+  pub readings : as_rows change.readings ≡ new_rows kept.readings (marked kept.voids (keyed slot covered))
+  pub totals : as_sums change.totals ≡ new_sums kept.voids kept.readings slot covered
 
 pub new_replied : (change : Change) (kept : Tables) (slot : ℕ) (covered : List (PointRow × List ℕ)) → IsReplied change kept slot covered → IsCounted kept
     → AreCovered kept.points slot covered → IsNew change kept
 new_replied change kept slot covered is counted are = subst (λ x. IsNew x kept) (sym is.alone) (record {
   points = still_numbered kept counted;
-  readings = subst (KeepWords kept.readings) (sym is.readings) (rises_new kept.readings 0 (keyed slot covered) are.rise);
+  readings = subst (KeepWords kept.readings) (sym is.readings) (rises_new kept.readings 0 (marked kept.voids (keyed slot covered)) (marked_rise kept.voids 0 (keyed slot covered) are.rise));
+  void = tt;
   totals = of_counters kept counted;
   sums = subst (AreThere kept.totals) (sym is.totals)
-      (subst (λ t. AreThere t (new_sums kept.readings slot covered)) (sym counted.totals) (sums_there kept.points kept.readings slot covered counted.points are.known));
+      (subst (λ t. AreThere t (new_sums kept.voids kept.readings slot covered)) (sym counted.totals) (sums_there kept.points kept.voids kept.readings slot covered counted.points are.known));
   setting = tt;
   request = tt;
 })
@@ -108,8 +110,8 @@ new_replied change kept slot covered is counted are = subst (λ x. IsNew x kept)
 pub applied_replied : (change : Change) (kept : Tables) (slot : ℕ) (covered : List (PointRow × List ℕ)) → IsReplied change kept slot covered → IsCounted kept
     → AreCovered kept.points slot covered → applied change kept ≡ with_given (keyed slot covered) kept
 applied_replied change kept slot covered is counted are =
-    let totals : with_sums (as_sums change.totals) kept.totals ≡ totals_of kept.points (with_rows (new_rows kept.readings (keyed slot covered)) kept.readings) =
-    (λ i. with_sums (is.totals i) (counted.totals i)) ∙ recorded_sums kept.points kept.readings slot covered counted.points counted.by_key are in
+    let totals : with_sums (as_sums change.totals) kept.totals ≡ totals_of kept.points (with_rows (new_rows kept.readings (marked kept.voids (keyed slot covered))) kept.readings) =
+    (λ i. with_sums (is.totals i) (counted.totals i)) ∙ recorded_sums kept.points kept.voids kept.readings slot covered counted.points counted.by_key are in
     ap (λ x. applied x kept) is.alone
     ∙ (λ i. record kept { points = append-nil kept.points i; readings = with_rows (is.readings i) kept.readings; totals = totals i })
 
@@ -120,13 +122,13 @@ totals_had kept slot covered counted are k d lt counts =
     ap (λ t. sum_at t known.number) counted.totals ∙ stored_sum kept.points kept.readings known counted.points (are.known k d lt) counts
 
 -- a reply that brings no reading leaves the tables
-pub none_given : (kept : Tables) (rows : Readings) → IsCounted kept → new_rows kept.readings rows ≡ [] → with_given rows kept ≡ kept
+pub none_given : (kept : Tables) (rows : Readings) → IsCounted kept → new_rows kept.readings (marked kept.voids rows) ≡ [] → with_given rows kept ≡ kept
 none_given kept rows counted none =
     ap (λ l. with_readings (with_rows l kept.readings) kept) none ∙ (λ i. record kept { totals = sym counted.totals i })
 
 -- a change that only counts a connection
 pub new_connection : (n : ℕ) (kept : Tables) → IsCounted kept → IsNew (record no_change { connections = Some n }) kept
-new_connection n kept counted = record { points = still_numbered kept counted; readings = tt; totals = of_counters kept counted; sums = tt; setting = tt; request = tt }
+new_connection n kept counted = record { points = still_numbered kept counted; readings = tt; void = tt; totals = of_counters kept counted; sums = tt; setting = tt; request = tt }
 
 pub applied_connection : (n : ℕ) (kept : Tables) → applied (record no_change { connections = Some n }) kept ≡ record kept { connections = n }
 applied_connection n kept = λ i. record kept { points = append-nil kept.points i; connections = n }
@@ -145,6 +147,7 @@ pub new_state : (order : ℕ) (setting : Setting) (state : OrderState) (kept : T
 new_state order setting state kept there waits settled counted = record {
   points = still_numbered kept counted;
   readings = tt;
+  void = tt;
   totals = of_counters kept counted;
   sums = tt;
   setting = by (is_waiting state) settled;
@@ -190,6 +193,7 @@ new_request : (points : List PointRow) (setting : Option SettingRow) (request : 
 new_request points setting request kept counted numbered next unused = record {
   points = numbered-append 0 (length kept.points) kept.points points (omega arith) counted.points numbered;
   readings = tt;
+  void = tt;
   totals = of_counters kept counted;
   sums = tt;
   setting = next;

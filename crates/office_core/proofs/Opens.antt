@@ -11,7 +11,7 @@ use Rattle.office_core.specs.declared.error.OfficeError.{OfficeError}
 use Rattle.office_core.specs.declared.event.EventAnswer.TheVariants as answer
 use Rattle.office_core.specs.Sites.{line_place}
 use Rattle.office_core.specs.Orders.{send_fault}
-use Rattle.office_core.specs.History.{Restart, Load, Order, Open, Ask, Send, Reply, Noise, History, tables, points, site_of, connections, open_line, open_fault, same_line, line_after, asked, settings, ask_fault}
+use Rattle.office_core.specs.History.{Restart, Load, Order, Void, Open, Ask, Send, Reply, Noise, History, tables, points, site_of, connections, open_line, open_fault, same_line, line_after, asked, settings, ask_fault}
 use Rattle.office_core.specs.Answers.{answer_of, refused_or}
 use Rattle.office_core.specs.Standing.{queries_from, queries, open_one, open_of, StandsFor, IsFormer, Closes}
 use Rattle.office_core.proofs.Asks.{ask_made, asked_not}
@@ -30,8 +30,9 @@ and_made false n m h = h
 pub opened : (before : History) (conn : ℕ) → IsSome (open_line before conn) → conn ≤ connections before
 opened [] conn some = absurd (cc)
 opened (Restart site ∷ before) conn some = absurd (cc)
-opened (Load caller key list ∷ before) conn some = opened before conn some
+opened (Load edition caller key list ∷ before) conn some = opened before conn some
 opened (Order caller key point value ∷ before) conn some = opened before conn some
+opened (Void caller key point at ∷ before) conn some = opened before conn some
 opened (Open line ∷ before) conn some =
     by (open_made before line) (eqb conn (connections before + 1)) (same_line (line_place (site_of before) line) (open_line before conn)) (opened before conn) refl some
   where
@@ -50,8 +51,9 @@ opened (Noise c frame ∷ before) conn some = opened before conn some
 pub unopened : (before : History) (conn : ℕ) → connections before < conn → asked before conn ≡ []
 unopened [] conn h = refl
 unopened (Restart site ∷ before) conn h = unopened before conn h
-unopened (Load caller key list ∷ before) conn h = unopened before conn h
+unopened (Load edition caller key list ∷ before) conn h = unopened before conn h
 unopened (Order caller key point value ∷ before) conn h = unopened before conn h
+unopened (Void caller key point at ∷ before) conn h = unopened before conn h
 unopened (Open line ∷ before) conn h =
     let more = and_made (open_made before line) (connections before) (connections before) (omega arith) in
     unopened before conn (omega arith)
@@ -86,8 +88,9 @@ lines_after before name line made place d =
 pub one_a_line : (before : History) (a b line : ℕ) → open_line before a ≡ Some line → open_line before b ≡ Some line → a ≡ b
 one_a_line [] a b line x y = absurd (cc)
 one_a_line (Restart site ∷ before) a b line x y = absurd (cc)
-one_a_line (Load caller key list ∷ before) a b line x y = one_a_line before a b line x y
+one_a_line (Load edition caller key list ∷ before) a b line x y = one_a_line before a b line x y
 one_a_line (Order caller key point value ∷ before) a b line x y = one_a_line before a b line x y
+one_a_line (Void caller key point at ∷ before) a b line x y = one_a_line before a b line x y
 one_a_line (Open name ∷ before) a b line x y =
     by (open_made before name) (eqb a (connections before + 1)) (eqb b (connections before + 1)) refl refl (one_a_line before a b line) x y
   where

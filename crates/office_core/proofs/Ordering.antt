@@ -16,7 +16,7 @@ use Rattle.office_core.specs.declared.error.OfficeError.TheVariants as error
 use Rattle.office_core.specs.declared.site.Target.{Target}
 use Rattle.office_core.specs.Errors.{IsCaused}
 use Rattle.office_core.specs.Orders.{Refused, Taken, is_setting, ordering_of, ordering_words, is_number, send_fault_of, send_fault_at, send_fault_on}
-use Rattle.office_core.specs.Registers.{registers_of}
+use Rattle.office_core.specs.Registers.{registers_for}
 use Rattle.office_core.specs.Sites.{target}
 
 -- ---- orders
@@ -29,20 +29,20 @@ not_set Counter apart = refl
 -- a point whose role isn't setting
 pub no_setting : (orders : ℕ) (known : PointRow) (value : ℤ) → known.point.role ≢ IsSet → ordering_of orders (Some known) value ≡ Refused fault.NotASetting
 no_setting orders known value apart =
-    ap (λ b. cond b (ordering_words orders known.number (registers_of known.point.kind value)) (Refused fault.NotASetting)) (not_set known.point.role apart)
+    ap (λ b. cond b (ordering_words orders known.number (registers_for known.point value)) (Refused fault.NotASetting)) (not_set known.point.role apart)
 
 set_so : (orders : ℕ) (known : PointRow) (value : ℤ) → known.point.role ≡ IsSet
-    → ordering_of orders (Some known) value ≡ ordering_words orders known.number (registers_of known.point.kind value)
+    → ordering_of orders (Some known) value ≡ ordering_words orders known.number (registers_for known.point value)
 set_so orders known value is =
-    ap (λ r. cond (is_setting r) (ordering_words orders known.number (registers_of known.point.kind value)) (Refused fault.NotASetting)) is
+    ap (λ r. cond (is_setting r) (ordering_words orders known.number (registers_for known.point value)) (Refused fault.NotASetting)) is
 
 -- a value that no registers have
-pub no_registers : (orders : ℕ) (known : PointRow) (value : ℤ) → known.point.role ≡ IsSet → None ≡ registers_of known.point.kind value
+pub no_registers : (orders : ℕ) (known : PointRow) (value : ℤ) → known.point.role ≡ IsSet → None ≡ registers_for known.point value
     → ordering_of orders (Some known) value ≡ Refused fault.OutOfRange
 no_registers orders known value is none = set_so orders known value is ∙ ap (ordering_words orders known.number) (sym none)
 
 -- no order more
-pub no_number : (orders : ℕ) (known : PointRow) (value : ℤ) (words : List ℕ) → known.point.role ≡ IsSet → Some words ≡ registers_of known.point.kind value → 1000000 ≤ orders
+pub no_number : (orders : ℕ) (known : PointRow) (value : ℤ) (words : List ℕ) → known.point.role ≡ IsSet → Some words ≡ registers_for known.point value → 1000000 ≤ orders
     → ordering_of orders (Some known) value ≡ Refused fault.TooManyOrders
 no_number orders known value words is some full =
     set_so orders known value is ∙ ap (ordering_words orders known.number) (sym some)

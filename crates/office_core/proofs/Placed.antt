@@ -15,7 +15,7 @@ use Rattle.office_core.specs.declared.site.Target.{Target}
 use Rattle.office_core.specs.Sites.{target, target_in, target_at, device_name, device_place, line_place}
 use Rattle.office_core.specs.Cover.{Question}
 use Rattle.office_core.specs.Queries.{Query, Reads, Writes}
-use Rattle.office_core.specs.History.{Restart, Load, Order, Open, Ask, Send, Reply, Noise, History, points, site_of, connections, open_line, same_line, asked, ask_fault, ask_fault_on, question_to}
+use Rattle.office_core.specs.History.{Restart, Load, Order, Void, Open, Ask, Send, Reply, Noise, History, points, site_of, connections, open_line, same_line, asked, ask_fault, ask_fault_on, question_to}
 use Rattle.office_core.proofs.Finding.{got}
 use Rattle.office_core.proofs.Asks.{asks}
 use Rattle.office_core.proofs.Sends.{send_made, sends}
@@ -64,8 +64,9 @@ old_or_new (x ∷ xs) new q (suc k) e = old_or_new xs new q k e
 pub placed : (before : History) (c n : ℕ) (q : Question) → IsSome (open_line before c) → slice_get (asked before c) n ≡ Some (Reads q) → device_name (site_of before) q.place ≡ Some q.device
 placed [] c n q some at = absurd (cc)
 placed (Restart site ∷ before) c n q some at = absurd (cc)
-placed (Load caller key list ∷ before) c n q some at = placed before c n q some at
+placed (Load edition caller key list ∷ before) c n q some at = placed before c n q some at
 placed (Order caller key point value ∷ before) c n q some at = placed before c n q some at
+placed (Void caller key point slot ∷ before) c n q some at = placed before c n q some at
 placed (Open name ∷ before) c n q some at =
     by (open_made before name) (eqb c (connections before + 1)) (same_line (line_place (site_of before) name) (open_line before c)) refl (λ s. placed before c n q s at) some
   where

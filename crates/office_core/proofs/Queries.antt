@@ -7,7 +7,7 @@ use Rattle.poll_match.proofs.Windows.{last_settled}
 use Rattle.office_core.specs.Cover.{Question}
 use Rattle.office_core.specs.Queries.{Query, Reads, Writes, asked_of}
 use Rattle.office_core.specs.Orders.{send_fault, writing}
-use Rattle.office_core.specs.History.{Restart, Load, Order, Open, Ask, Send, Reply, Noise, History, points, site_of, open_line, asked, is_answered, settings, fits_query, ask_fault, question}
+use Rattle.office_core.specs.History.{Restart, Load, Order, Void, Open, Ask, Send, Reply, Noise, History, points, site_of, open_line, asked, is_answered, settings, fits_query, ask_fault, question}
 use Rattle.office_core.specs.Standing.{queries_from, queries, open_one, open_of}
 
 -- ---- the list of queries
@@ -74,8 +74,9 @@ neither false d f a e h = h
 pub unasked : (before : History) (conn number : ℕ) → length (asked before conn) ≤ number → is_answered before conn number ≡ false
 unasked [] conn number h = refl
 unasked (Restart site ∷ before) conn number h = unasked before conn number h
-unasked (Load caller key list ∷ before) conn number h = unasked before conn number h
+unasked (Load edition caller key list ∷ before) conn number h = unasked before conn number h
 unasked (Order caller key point value ∷ before) conn number h = unasked before conn number h
+unasked (Void caller key point at ∷ before) conn number h = unasked before conn number h
 unasked (Open line ∷ before) conn number h = unasked before conn number h
 unasked (Ask c device slot read ∷ before) conn number h =
     let longer = asked_longer (eqb c conn && is_none (ask_fault (open_line before c) (site_of before) (points before) (length (asked before c)) device read)) (asked before conn) (Reads (question (site_of before) (points before) device slot read) ∷ []) in

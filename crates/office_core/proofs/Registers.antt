@@ -1,5 +1,6 @@
 -- The registers of a number are those whose value it is.
 use Rattle.std.proofs.Common.{◌≡◌, ◌≢◌, ◌<◌, ◌≤◌, ◌+◌, ◌-◌, ◌*◌, ◌/◌, ◌%◌, ◌^◌, ◌∙◌, ℕ, zero, suc, ℤ, pos, negsuc, true, false, Option, Some, None, List, [], ◌∷◌, length, ltb, refl, sym, ap, arith, inl, inr}
+use Rattle.std.specs.Prelude.{option_map}
 use Rattle.std.proofs.Math.Nat.{div-add-mod, div-lt_iff_lt-mul, mod-eq_of_lt, mod-lt, mul-add-div_right, mul-add-mod_self_right, pow-le-pow_right, pow-suc}
 use Rattle.std.proofs.lemmas.Nat.{div-mul-add}
 use Rattle.std.proofs.lemmas.Bool.{cases_Bool, cases_lt, lt-ltb}
@@ -11,11 +12,14 @@ use Rattle.sunspec.specs.declared.point_type.PointType.{PointType}
 use Rattle.sunspec.specs.declared.point_type.Content.{Content}
 use Rattle.sunspec.specs.declared.point_type.Content.TheVariants.{Signed, Unsigned, Address, Bit as Cell, Text}
 use Rattle.sunspec.specs.declared.value.Value.TheVariants.{Number}
+use Rattle.sunspec.specs.WordOrder.{arranged}
+use Rattle.sunspec.proofs.Arranged.{arranged_registers, arranged_twice, arranged_words}
 use Rattle.sunspec.proofs.Table.{some_bits}
 use Rattle.sunspec.proofs.Meanings.{sum_fits}
 use Rattle.sunspec.proofs.Sums.{power_of_registers, register_sum_below}
 use Rattle.sunspec.proofs.Encodings.{bits_in_registers, halves, number_of_value, twos_complement-high, twos_complement-low, twos_complement-negative, value_of_sum, word_fits}
-use Rattle.office_core.specs.Registers.{registers_from, registers_meaning, registers_of, signed_sum, sum_of, unsigned_sum}
+use Rattle.point_list.specs.declared.point.Point.{Point}
+use Rattle.office_core.specs.Registers.{registers_for, registers_from, registers_meaning, registers_of, signed_sum, sum_of, unsigned_sum}
 
 some_power : (count : ℕ) → 0 < 65536 ^ count
 some_power count = let least : 65536 ^ 0 ≤ 65536 ^ count = pow-le-pow_right (omega arith) {i = 0} {j = count} (omega arith) in omega arith
@@ -158,3 +162,23 @@ no_meaning kind number (Some sum) e none = elim (cases_Bool (is_unimplemented (r
 
 pub unregistered : (kind : PointType) (number : ℤ) → ((words : List ℕ) → AreWords words → AreRegistersOf kind words → value kind words ≢ Number number) → registers_of kind number ≡ None
 unregistered kind number none = no_meaning kind number (sum_of (row kind).content (bits_of kind) number) refl none
+
+-- ---- registers as they are sent
+
+-- registers of a point whose value is the number, as they are sent, are its registers
+pub arranged_so : (point : Point) (number : ℤ) (words : List ℕ) → AreWords words → AreRegistersOf point.kind words
+    → value point.kind (arranged point.order words) ≡ Number number → registers_for point number ≡ Some words
+arranged_so point number words fits are is =
+    ap (option_map (arranged point.order))
+    (registered point.kind number (arranged point.order words) (arranged_words point.order words fits) (arranged_registers point.kind point.order words are) is)
+    ∙ ap Some (arranged_twice point.order words)
+
+-- and where no registers have that value, there are none
+pub arranged_none : (point : Point) (number : ℤ)
+    → ((words : List ℕ) → AreWords words → AreRegistersOf point.kind words → value point.kind (arranged point.order words) ≢ Number number)
+    → registers_for point number ≡ None
+arranged_none point number none =
+    ap (option_map (arranged point.order))
+    (unregistered point.kind number (λ words fits are is.
+    none (arranged point.order words) (arranged_words point.order words fits) (arranged_registers point.kind point.order words are)
+    (ap (value point.kind) (arranged_twice point.order words) ∙ is)))

@@ -14,6 +14,7 @@ use Rattle.mb_pdu.proofs.Answered.{answered}
 use Rattle.mb_pdu.proofs.Tells.{told}
 use Rattle.point_list.specs.declared.site.Site.{Site}
 use Rattle.read_planner.specs.declared.Read.{Read}
+use Rattle.point_list.specs.Edition.{Second}
 use Rattle.poll_match.specs.Queries.{write_request}
 use Rattle.poll_book.specs.declared.requests.Body.TheVariants as body
 use Rattle.poll_book.specs.declared.rows.PointRow.{PointRow}
@@ -28,7 +29,7 @@ use Rattle.office_core.specs.Sites.{target}
 use Rattle.office_core.specs.Queries.{Writing, Query, Reads, Writes, fits}
 use Rattle.office_core.specs.Orders.{Ordering, Refused, Taken, with_ordered, send_fault, send_fault_of, send_fault_at, send_fault_on, is_number, state_by, settle, settle_at, settled_by, writing_at, writing_of}
 use Rattle.office_core.specs.Keeping.{reply_state}
-use Rattle.office_core.specs.History.{Happening, Restart, Load, Order, Open, Ask, Send, Reply, Noise, History, site_of, points, settings, open_line, ask_fault, question, asked, fits_query, is_answered, is_used, ordering}
+use Rattle.office_core.specs.History.{Happening, Restart, Load, Order, Void, Open, Ask, Send, Reply, Noise, History, site_of, points, settings, open_line, ask_fault, question, asked, fits_query, is_answered, is_used, ordering}
 use Rattle.office_core.specs.Legal.{Legal}
 use Rattle.office_core.specs.FirstArrivals.{Happened}
 use Rattle.office_core.specs.SettledOrders.{IsSend, IsOldest, IsReplyToSend, IsFirstToSend, Settles, IsSettledBy}
@@ -181,8 +182,9 @@ refusal before c number = send_fault (open_line before c) (site_of before) (poin
 pub write_sent : (before : History) (c n : ℕ) (w : Writing) → slice_get (asked before c) n ≡ Some (Writes w) → WasSent before c n w
 write_sent [] c n w e = absurd (none-some (Writes w) e)
 write_sent (Restart site ∷ before) c n w e = sent_later (Restart site) before c n w (write_sent before c n w e)
-write_sent (Load caller key list ∷ before) c n w e = sent_later (Load caller key list) before c n w (write_sent before c n w e)
+write_sent (Load edition caller key list ∷ before) c n w e = sent_later (Load edition caller key list) before c n w (write_sent before c n w e)
 write_sent (Order caller key point value ∷ before) c n w e = sent_later (Order caller key point value) before c n w (write_sent before c n w e)
+write_sent (Void caller key point at ∷ before) c n w e = sent_later (Void caller key point at) before c n w (write_sent before c n w e)
 write_sent (Open line ∷ before) c n w e = sent_later (Open line) before c n w (write_sent before c n w e)
 write_sent (Reply d m unit ∷ before) c n w e = sent_later (Reply d m unit) before c n w (write_sent before c n w e)
 write_sent (Noise d frame ∷ before) c n w e = sent_later (Noise d frame) before c n w (write_sent before c n w e)
@@ -244,8 +246,9 @@ fit_later h before c n f = record {
 pub answered_by : (before : History) (c n : ℕ) → is_answered before c n ≡ true → HasFit before c n
 answered_by [] c n e = absurd (cc)
 answered_by (Restart site ∷ before) c n e = fit_later (Restart site) before c n (answered_by before c n e)
-answered_by (Load caller key list ∷ before) c n e = fit_later (Load caller key list) before c n (answered_by before c n e)
+answered_by (Load edition caller key list ∷ before) c n e = fit_later (Load edition caller key list) before c n (answered_by before c n e)
 answered_by (Order caller key point value ∷ before) c n e = fit_later (Order caller key point value) before c n (answered_by before c n e)
+answered_by (Void caller key point at ∷ before) c n e = fit_later (Void caller key point at) before c n (answered_by before c n e)
 answered_by (Open line ∷ before) c n e = fit_later (Open line) before c n (answered_by before c n e)
 answered_by (Ask d device slot read ∷ before) c n e = fit_later (Ask d device slot read) before c n (answered_by before c n e)
 answered_by (Send d number ∷ before) c n e = fit_later (Send d number) before c n (answered_by before c n e)
@@ -377,8 +380,9 @@ module _ (order : ℕ) (setting : Setting) (done : is_waiting setting.state ≡ 
   pub never_changes : (before : History) (later : List Happening) → setting_at (settings before) order ≡ Some setting → setting_at (settings (later ++ before)) order ≡ Some setting
   never_changes before [] e = e
   never_changes before (Restart site ∷ later) e = never_changes before later e
-  never_changes before (Load caller key list ∷ later) e = never_changes before later e
+  never_changes before (Load edition caller key list ∷ later) e = never_changes before later e
   never_changes before (Open line ∷ later) e = never_changes before later e
+  never_changes before (Void caller key point at ∷ later) e = never_changes before later e
   never_changes before (Ask c device slot read ∷ later) e = never_changes before later e
   never_changes before (Send c number ∷ later) e = never_changes before later e
   never_changes before (Noise c frame ∷ later) e = never_changes before later e
@@ -417,15 +421,16 @@ not_waiting (Excepted code) state e = by (eqb code 5 || eqb code 6) e
 longer_on : (later : List Happening) (before : History) → last_order (settings before) ≤ last_order (settings (later ++ before))
 longer_on [] before = omega arith
 longer_on (Restart site ∷ later) before = longer_on later before
-longer_on (Load caller key list ∷ later) before = longer_on later before
+longer_on (Load edition caller key list ∷ later) before = longer_on later before
 longer_on (Open line ∷ later) before = longer_on later before
+longer_on (Void caller key point at ∷ later) before = longer_on later before
 longer_on (Ask c device slot read ∷ later) before = longer_on later before
 longer_on (Send c number ∷ later) before = longer_on later before
 longer_on (Noise c frame ∷ later) before = longer_on later before
 longer_on (Reply c n unit ∷ later) before = let same = reply_same (later ++ before) c n unit in let rest = longer_on later before in omega arith
 longer_on (Order caller key point value ∷ later) before =
     let more : last_order (settings (later ++ before)) ≤ last_order (settings (Order caller key point value ∷ later ++ before)) =
-    asked_longer (later ++ before) (caller, key) (body.Order point value) in
+    asked_longer (later ++ before) (caller, key) Second (body.Order point value) in
     let rest = longer_on later before in omega arith
 
 order_at : (o : Option PointRow) (site : Site) (number : ℕ) (words : List ℕ) → (writing_at o site number words).order ≡ number
@@ -573,9 +578,10 @@ pub settled_so : (before : History) (order : ℕ) (setting : Setting) → Legal 
     → is_waiting setting.state ≡ false → IsSettledBy before order setting.state
 settled_so [] order setting legal e done = absurd (none-some setting e)
 settled_so (Restart site ∷ before) order setting legal e done = settled_later (Restart site) before order setting.state (settled_so before order setting legal.2 e done)
-settled_so (Load caller key list ∷ before) order setting legal e done =
-    settled_later (Load caller key list) before order setting.state (settled_so before order setting legal.2 e done)
+settled_so (Load edition caller key list ∷ before) order setting legal e done =
+    settled_later (Load edition caller key list) before order setting.state (settled_so before order setting legal.2 e done)
 settled_so (Open line ∷ before) order setting legal e done = settled_later (Open line) before order setting.state (settled_so before order setting legal.2 e done)
+settled_so (Void caller key point at ∷ before) order setting legal e done = settled_later (Void caller key point at) before order setting.state (settled_so before order setting legal.2 e done)
 settled_so (Ask c device slot read ∷ before) order setting legal e done =
     settled_later (Ask c device slot read) before order setting.state (settled_so before order setting legal.2 e done)
 settled_so (Send c number ∷ before) order setting legal e done = settled_later (Send c number) before order setting.state (settled_so before order setting legal.2 e done)

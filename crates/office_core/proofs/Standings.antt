@@ -4,7 +4,7 @@ use Rattle.std.specs.Prelude.{slice_get}
 use Rattle.std.proofs.lemmas.Bool.{eq-eqb}
 use Rattle.std.proofs.lemmas.Option.{none-some, same_Some}
 use Rattle.office_core.specs.Queries.{Query, Reads, Writes}
-use Rattle.office_core.specs.History.{Happening, Restart, Load, Order, Open, Ask, Send, Reply, Noise, History, asked, fits_query, is_answered}
+use Rattle.office_core.specs.History.{Happening, Restart, Load, Order, Void, Open, Ask, Send, Reply, Noise, History, asked, fits_query, is_answered}
 use Rattle.office_core.specs.Legal.{Legal}
 use Rattle.office_core.specs.FirstArrivals.{Happened}
 use Rattle.office_core.proofs.Asks.{ask_made, asks}
@@ -49,8 +49,9 @@ pub asked_stays : (later : List Happening) (before : History) (c n : ℕ) (q : Q
     → slice_get (asked (later ++ before) c) n ≡ Some q
 asked_stays [] before c n q e = e
 asked_stays (Restart site ∷ later) before c n q e = asked_stays later before c n q e
-asked_stays (Load caller key list ∷ later) before c n q e = asked_stays later before c n q e
+asked_stays (Load edition caller key list ∷ later) before c n q e = asked_stays later before c n q e
 asked_stays (Order caller key point value ∷ later) before c n q e = asked_stays later before c n q e
+asked_stays (Void caller key point at ∷ later) before c n q e = asked_stays later before c n q e
 asked_stays (Open line ∷ later) before c n q e = asked_stays later before c n q e
 asked_stays (Reply d m unit ∷ later) before c n q e = asked_stays later before c n q e
 asked_stays (Noise d frame ∷ later) before c n q e = asked_stays later before c n q e
@@ -73,8 +74,9 @@ answers_on [] older c n unit e =
     ∙ ap (λ b. (b && fits_query (slice_get (asked older c) n) unit) || is_answered older c n) (eq-eqb n n refl)
     ∙ ap (λ b. b || is_answered older c n) e
 answers_on (Restart site ∷ later) older c n unit e = answers_on later older c n unit e
-answers_on (Load caller key list ∷ later) older c n unit e = answers_on later older c n unit e
+answers_on (Load edition caller key list ∷ later) older c n unit e = answers_on later older c n unit e
 answers_on (Order caller key point value ∷ later) older c n unit e = answers_on later older c n unit e
+answers_on (Void caller key point at ∷ later) older c n unit e = answers_on later older c n unit e
 answers_on (Open line ∷ later) older c n unit e = answers_on later older c n unit e
 answers_on (Ask d device slot read ∷ later) older c n unit e = answers_on later older c n unit e
 answers_on (Send d number ∷ later) older c n unit e = answers_on later older c n unit e

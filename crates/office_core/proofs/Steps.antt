@@ -8,12 +8,13 @@ use Rattle.mb_pdu.specs.declared.reply.Reply.TheVariants.{Bits, Registers, Writt
 use Rattle.mb_mbap.specs.declared.frame.Frame.{Frame}
 use Rattle.point_list.specs.declared.site.Site.{Site}
 use Rattle.read_planner.specs.declared.Read.{Read}
+use Rattle.point_list.specs.Edition.{First, Second}
 use Rattle.poll_match.specs.declared.asked.Asked.{Asked}
 use Rattle.poll_match.specs.declared.error.MatchError.{MatchError}
 use Rattle.poll_match.specs.Queries.{request_of}
 use Rattle.poll_match.specs.Window.{Open as OpenOne, held, refusal, Names, with_answer, with_query, Changes, fresh}
 use Rattle.poll_book.specs.declared.rows.PointRow.{PointRow}
-use Rattle.poll_book.specs.Tables.{Tables, Readings, new_rows}
+use Rattle.poll_book.specs.Tables.{AreByKey, Tables, Readings, marked, new_rows}
 use Rattle.poll_book.specs.Changes.{keyed}
 use Rattle.poll_book.specs.Totals.{totals_of}
 use Rattle.office_core.specs.declared.error.OfficeError.{OfficeError}
@@ -36,8 +37,9 @@ use Rattle.office_core.specs.declared.event.RequestAnswer.TheVariants.{Kept}
 use Rattle.office_core.specs.Cover.{Question, cells, excepts, given_named, given_rows, reply_cells}
 use Rattle.office_core.specs.Queries.{Query, Reads, Writes, Writing, asked_of, exception_code, query_frame}
 use Rattle.office_core.specs.Orders.{ordered, ordering_of, send_fault, with_ordered, writing}
+use Rattle.office_core.specs.Voids.{voided, voiding_of, with_voiding}
 use Rattle.office_core.specs.Loads.{known_named, loading, outcome, added}
-use Rattle.office_core.specs.History.{Happening, Restart, Load, Order, Open, Ask, Send, Reply, Noise, History, tables, points, site_of, settings, requests, connections, open_line, open_fault, asked, ask_fault, question, readings}
+use Rattle.office_core.specs.History.{Happening, Restart, Load, Order, Void, Open, Ask, Send, Reply, Noise, History, tables, points, site_of, settings, requests, connections, open_line, open_fault, asked, ask_fault, question, kept_readings, readings, voids}
 use Rattle.office_core.specs.Answers.{answer_again, answer_of, unit_answer}
 use Rattle.office_core.specs.Keeping.{IsCopy, asking_of, with_given, with_state, rows_at, brought, arrival_of}
 use Rattle.office_core.specs.Standing.{StandsFor, IsFormer, Closes, Sees, Goes, is_store}
@@ -45,10 +47,11 @@ use Rattle.office_core.specs.Legal.{MayHappen}
 use Rattle.office_core.proofs.Cells.{cells_spelled, exception_spelled, bits_plain, words_plain, no_echo}
 use Rattle.office_core.proofs.Loaded.{restarted}
 use Rattle.office_core.proofs.CountedTables.{counted_tables}
-use Rattle.office_core.proofs.Kept.{asked_again, asked_list, asked_order}
+use Rattle.office_core.proofs.BySlot.{readings_sorted}
+use Rattle.office_core.proofs.Kept.{asked_again, asked_list, asked_order, asked_void}
 use Rattle.office_core.proofs.Written.{state_is, written_told}
 use Rattle.office_core.proofs.Naming.{accepted, found_is}
-use Rattle.office_core.proofs.Arrivals.{recorded, arrival_refused, arrival_accepted, arrival_tables}
+use Rattle.office_core.proofs.Arrivals.{recorded, told_marked, arrival_refused, arrival_accepted, arrival_tables}
 use Rattle.office_core.proofs.Asks.{asks, ask_refused, ask_made_so}
 use Rattle.office_core.proofs.Opens.{open_refused, open_made_so}
 use Rattle.office_core.proofs.Sends.{sends, send_refused, send_made_so}
@@ -184,7 +187,7 @@ module _ (holds : Tables → Type 0) (now : Site) (known : List PointRow) (all :
         (subst holds' as_unit (new kept stands.tables (copy_of before stands))) all' (subst (λ m. Changes conn (with_answer m) all all') here.0 settled) in (
           done.0,
           ap answer.Arrived (is kept stands.tables) ∙ ap (λ (x : Asked). answer.Arrived (arrival_of now known x reply kept)) here.1
-              ∙ told_is now known frame.unit kept q named reply spelled ∙ ap (λ l. unit_answer kept.readings l q frame.unit) stands.points ∙ done.1,
+              ∙ told_is now known frame.unit kept q named reply spelled ∙ ap (λ l. unit_answer kept.readings l q frame.unit) stands.points ∙ told_marked (voids before) (readings before) (points before) q frame.unit ∙ done.1,
         );
   }
 
@@ -219,8 +222,9 @@ module _ (holds : Tables → Type 0) (now : Site) (known : List PointRow) (all :
       by : (before : History) (h : Happening) → StandsFor holds now known all before → Sees before h (event.Ask conn device slot read)
           → StandsFor holds now known all (h ∷ before) × (answer.Refused e ≡ answer_of before h)
       by before (Restart site) stands sees = absurd sees
-      by before (Load caller key list) stands sees = absurd sees
+      by before (Load edition caller key list) stands sees = absurd sees
       by before (Order caller key point value) stands sees = absurd sees
+      by before (Void caller key point at) stands sees = absurd sees
       by before (Send c number) stands sees = absurd sees
       by before (Open line) stands sees = absurd sees
       by before (Ask c d s r) stands sees =
@@ -242,8 +246,9 @@ module _ (holds : Tables → Type 0) (now : Site) (known : List PointRow) (all :
       by : (before : History) (h : Happening) → StandsFor holds now known all before → Sees before h (event.Ask conn device slot read)
           → StandsFor holds now known all' (h ∷ before) × (answer.Query frame ≡ answer_of before h)
       by before (Restart site) stands sees = absurd sees
-      by before (Load caller key list) stands sees = absurd sees
+      by before (Load edition caller key list) stands sees = absurd sees
       by before (Order caller key point value) stands sees = absurd sees
+      by before (Void caller key point at) stands sees = absurd sees
       by before (Send c number) stands sees = absurd sees
       by before (Open line) stands sees = absurd sees
       by before (Ask c d s r) stands sees =
@@ -269,8 +274,9 @@ module _ (holds : Tables → Type 0) (now : Site) (known : List PointRow) (all :
       by : (before : History) (h : Happening) → StandsFor holds now known all before → Sees before h (event.Open name)
           → StandsFor holds' now known all (h ∷ before) × (answer.Refused e ≡ answer_of before h)
       by before (Restart site) stands sees = absurd sees
-      by before (Load caller key list) stands sees = absurd sees
+      by before (Load edition caller key list) stands sees = absurd sees
       by before (Order caller key point value) stands sees = absurd sees
+      by before (Void caller key point at) stands sees = absurd sees
       by before (Send c number) stands sees = absurd sees
       by before (Open line) stands sees =
           open_refused holds' now known all before (same_stands holds' all (λ conn. refl) before (λ h. keeps (tables before) h (copy_of before stands)) stands) line e
@@ -292,8 +298,9 @@ module _ (holds : Tables → Type 0) (now : Site) (known : List PointRow) (all :
       by : (before : History) (h : Happening) → StandsFor holds now known all before → Sees before h (event.Open name)
           → StandsFor holds' now known all' (h ∷ before) × (answer.Opened new ≡ answer_of before h)
       by before (Restart site) stands sees = absurd sees
-      by before (Load caller key list) stands sees = absurd sees
+      by before (Load edition caller key list) stands sees = absurd sees
       by before (Order caller key point value) stands sees = absurd sees
+      by before (Void caller key point at) stands sees = absurd sees
       by before (Send c number) stands sees = absurd sees
       by before (Open l) stands sees =
           let m = made before stands in
@@ -313,8 +320,9 @@ module _ (holds : Tables → Type 0) (now : Site) (known : List PointRow) (all :
       → (before : History) (happening : Happening) → StandsFor holds now known all before → Sees before happening (event.Open name)
       → record (tables before) { connections = new } ≡ tables (happening ∷ before)
   opened_made name line new place made before (Restart site) stands sees = absurd sees
-  opened_made name line new place made before (Load caller key list) stands sees = absurd sees
+  opened_made name line new place made before (Load edition caller key list) stands sees = absurd sees
   opened_made name line new place made before (Order caller key point value) stands sees = absurd sees
+  opened_made name line new place made before (Void caller key point at) stands sees = absurd sees
   opened_made name line new place made before (Open l) stands sees =
       let m = made before stands in
       let fault : open_fault (line_place (site_of before) l) (connections before) ≡ None = (λ i. open_fault (line_place (sym stands.site i) (sym sees i)) (connections before)) ∙ m.1 in
@@ -341,8 +349,9 @@ module _ (holds : Tables → Type 0) (now : Site) (known : List PointRow) (all :
       by : (before : History) (h : Happening) → StandsFor holds now known all before → Sees before h (event.Send conn number)
           → StandsFor holds' now known all (h ∷ before) × (answer.Refused e ≡ answer_of before h)
       by before (Restart site) stands sees = absurd sees
-      by before (Load caller key list) stands sees = absurd sees
+      by before (Load edition caller key list) stands sees = absurd sees
       by before (Order caller key point value) stands sees = absurd sees
+      by before (Void caller key point at) stands sees = absurd sees
       by before (Open line) stands sees = absurd sees
       by before (Ask c d s r) stands sees = absurd sees
       by before (Send c m) stands sees =
@@ -365,8 +374,9 @@ module _ (holds : Tables → Type 0) (now : Site) (known : List PointRow) (all :
       by : (before : History) (h : Happening) → StandsFor holds now known all before → Sees before h (event.Send conn number)
           → StandsFor holds' now known all' (h ∷ before) × (answer.Query frame ≡ answer_of before h)
       by before (Restart site) stands sees = absurd sees
-      by before (Load caller key list) stands sees = absurd sees
+      by before (Load edition caller key list) stands sees = absurd sees
       by before (Order caller key point value) stands sees = absurd sees
+      by before (Void caller key point at) stands sees = absurd sees
       by before (Open line) stands sees = absurd sees
       by before (Ask c d s r) stands sees = absurd sees
       by before (Send c m) stands sees =
@@ -384,6 +394,7 @@ module _ (holds : Tables → Type 0) (now : Site) (known : List PointRow) (all :
   abbrev pub seen_of : RequestKey → Body → Event
   seen_of key (body.List list) = event.Load key.0 key.1 list
   seen_of key (body.Order point value) = event.Order key.0 key.1 point value
+  seen_of key (body.Void point slot) = event.Void key.0 key.1 point slot
 
   abbrev Unused : RequestKey → History → Type 0
   Unused key before = StandsFor holds now known all before × (request_at (requests before) key ≡ None)
@@ -400,11 +411,13 @@ module _ (holds : Tables → Type 0) (now : Site) (known : List PointRow) (all :
       by : (before : History) (h : Happening) → StandsFor holds now known all before → Sees before h (event.Load key.0 key.1 list)
           → StandsFor holds' now known all (h ∷ before) × (answer.Request told ≡ answer_of before h)
       by before (Restart site) stands sees = absurd sees
-      by before (Load c k l) stands sees =
+      by before (Load First c k l) stands sees = let no : Second ≡ First = sees.3 in absurd (cc)
+      by before (Load Second c k l) stands sees =
           asked_again holds' now known all before (same_stands holds' all (λ c. refl) before (keeps (tables before)) stands) (c, k) (body.List l) first
           ((λ i. request_at (requests before) (sym sees.0 i, sym sees.1 i)) ∙ there (tables before) stands.tables) told
           (λ outcome. is outcome ∙ λ i. answer_again (Some first) (body.List (sees.2 i)) outcome)
       by before (Order c k p v) stands sees = absurd sees
+      by before (Void c k p s) stands sees = absurd sees
       by before (Open line) stands sees = absurd sees
       by before (Ask c d s r) stands sees = absurd sees
       by before (Send c m) stands sees = absurd sees
@@ -418,11 +431,31 @@ module _ (holds : Tables → Type 0) (now : Site) (known : List PointRow) (all :
       by : (before : History) (h : Happening) → StandsFor holds now known all before → Sees before h (event.Order key.0 key.1 point value)
           → StandsFor holds' now known all (h ∷ before) × (answer.Request told ≡ answer_of before h)
       by before (Restart site) stands sees = absurd sees
-      by before (Load c k l) stands sees = absurd sees
+      by before (Load edition c k l) stands sees = absurd sees
       by before (Order c k p v) stands sees =
           asked_again holds' now known all before (same_stands holds' all (λ c. refl) before (keeps (tables before)) stands) (c, k) (body.Order p v) first
           ((λ i. request_at (requests before) (sym sees.0 i, sym sees.1 i)) ∙ there (tables before) stands.tables) told
           (λ outcome. is outcome ∙ λ i. answer_again (Some first) (body.Order (sees.2 i) (sees.3 i)) outcome)
+      by before (Void c k p s) stands sees = absurd sees
+      by before (Open line) stands sees = absurd sees
+      by before (Ask c d s r) stands sees = absurd sees
+      by before (Send c m) stands sees = absurd sees
+      by before (Reply c n unit) stands sees = absurd sees
+      by before (Noise c frame) stands sees = absurd sees
+  again_goes key (body.Void point slot) first holds' keeps there told is = record {
+    refused = λ before stands store. absurd (false≢true store);
+    happened = λ before happening stands may sees _. by before happening stands sees;
+  }
+    where
+      by : (before : History) (h : Happening) → StandsFor holds now known all before → Sees before h (event.Void key.0 key.1 point slot)
+          → StandsFor holds' now known all (h ∷ before) × (answer.Request told ≡ answer_of before h)
+      by before (Restart site) stands sees = absurd sees
+      by before (Load edition c k l) stands sees = absurd sees
+      by before (Order c k p v) stands sees = absurd sees
+      by before (Void c k p s) stands sees =
+          asked_again holds' now known all before (same_stands holds' all (λ c. refl) before (keeps (tables before)) stands) (c, k) (body.Void p s) first
+          ((λ i. request_at (requests before) (sym sees.0 i, sym sees.1 i)) ∙ there (tables before) stands.tables) told
+          (λ outcome. is outcome ∙ λ i. answer_again (Some first) (body.Void (sees.2 i) (sees.3 i)) outcome)
       by before (Open line) stands sees = absurd sees
       by before (Ask c d s r) stands sees = absurd sees
       by before (Send c m) stands sees = absurd sees
@@ -432,30 +465,32 @@ module _ (holds : Tables → Type 0) (now : Site) (known : List PointRow) (all :
   pub loaded_goes : (caller key list : List ℕ) (holds' : Tables → Type 0)
       → ((kept : Tables) → holds kept → IsCopy known kept → request_at kept.requests (caller, key) ≡ None
       → holds' (record kept {
-        points = kept.points ++ added (length known) (loading now known list);
-        totals = totals_of (kept.points ++ added (length known) (loading now known list)) kept.readings;
-        requests = with_request (caller, key) (record { body = body.List list; outcome = outcome (loading now known list) }) kept.requests;
+        points = kept.points ++ added (length known) (loading Second now known list);
+        totals = totals_of (kept.points ++ added (length known) (loading Second now known list)) kept.readings;
+        requests = with_request (caller, key) (record { body = body.List list; outcome = outcome (loading Second now known list) }) kept.requests;
       }))
-      → (known' : List PointRow) → known' ≡ known ++ added (length known) (loading now known list)
-      → Goes (Unused (caller, key)) (StandsFor holds' now known' all) (event.Load caller key list) (answer.Request (Kept true (outcome (loading now known list))))
+      → (known' : List PointRow) → known' ≡ known ++ added (length known) (loading Second now known list)
+      → Goes (Unused (caller, key)) (StandsFor holds' now known' all) (event.Load caller key list) (answer.Request (Kept true (outcome (loading Second now known list))))
   loaded_goes caller key list holds' kept known' more = record {
     refused = λ before stands store. absurd (false≢true store);
     happened = λ before happening stands may sees _. by before happening stands sees;
   }
     where
       by : (before : History) (h : Happening) → Unused (caller, key) before → Sees before h (event.Load caller key list)
-          → StandsFor holds' now known' all (h ∷ before) × (answer.Request (Kept true (outcome (loading now known list))) ≡ answer_of before h)
+          → StandsFor holds' now known' all (h ∷ before) × (answer.Request (Kept true (outcome (loading Second now known list))) ≡ answer_of before h)
       by before (Restart site) stands sees = absurd sees
-      by before (Load c k l) (stands, none) sees =
+      by before (Load First c k l) (stands, none) sees = let no : Second ≡ First = sees.3 in absurd (cc)
+      by before (Load Second c k l) (stands, none) sees =
           let new = subst (λ (x : List ℕ × List ℕ × List ℕ × Site × List PointRow). holds' (record (tables before) {
-            points = points before ++ added (length x.4) (loading x.3 x.4 x.2);
-            totals = totals_of (points before ++ added (length x.4) (loading x.3 x.4 x.2)) (readings before);
-            requests = with_request (x.0, x.1) (record { body = body.List x.2; outcome = outcome (loading x.3 x.4 x.2) }) (requests before);
+            points = points before ++ added (length x.4) (loading Second x.3 x.4 x.2);
+            totals = totals_of (points before ++ added (length x.4) (loading Second x.3 x.4 x.2)) (kept_readings before);
+            requests = with_request (x.0, x.1) (record { body = body.List x.2; outcome = outcome (loading Second x.3 x.4 x.2) }) (requests before);
           })) (λ i. (sees.0 i, sees.1 i, sees.2 i, stands.site i, stands.points i)) (kept (tables before) stands.tables (copy_of before stands) none) in
           let done = asked_list holds now known all before stands (c, k) l ((λ i. request_at (requests before) (sym sees.0 i, sym sees.1 i)) ∙ none) holds' new
-          known' (more ∙ ap (λ (x : List ℕ). known ++ added (length known) (loading now known x)) sees.2) in
-          (done.0, ap (λ (x : List ℕ). answer.Request (Kept true (outcome (loading now known x)))) sees.2 ∙ done.1)
+          known' (more ∙ ap (λ (x : List ℕ). known ++ added (length known) (loading Second now known x)) sees.2) in
+          (done.0, ap (λ (x : List ℕ). answer.Request (Kept true (outcome (loading Second now known x)))) sees.2 ∙ done.1)
       by before (Order c k p v) stands sees = absurd sees
+      by before (Void c k p s) stands sees = absurd sees
       by before (Open line) stands sees = absurd sees
       by before (Ask c d s r) stands sees = absurd sees
       by before (Send c m) stands sees = absurd sees
@@ -478,7 +513,7 @@ module _ (holds : Tables → Type 0) (now : Site) (known : List PointRow) (all :
       by : (before : History) (h : Happening) → Unused (caller, key) before → Sees before h (event.Order caller key point value)
           → StandsFor holds' now known all (h ∷ before) × (answer.Request (Kept true told) ≡ answer_of before h)
       by before (Restart site) stands sees = absurd sees
-      by before (Load c k l) stands sees = absurd sees
+      by before (Load edition c k l) stands sees = absurd sees
       by before (Order c k p v) (stands, none) sees =
           let orders : ℕ = last_order (settings before) in
           let same : told ≡ ordered orders (ordering_of orders (known_named (points before) p) v) =
@@ -488,6 +523,46 @@ module _ (holds : Tables → Type 0) (now : Site) (known : List PointRow) (all :
             requests = with_request (x.0, x.1) (record { body = body.Order x.2 x.3; outcome = x.5 }) (requests before);
           })) (λ i. (sees.0 i, sees.1 i, sees.2 i, sees.3 i, stands.points i, same i)) (kept (tables before) stands.tables (copy_of before stands) none) in
           let done = asked_order holds now known all before stands (c, k) p v ((λ i. request_at (requests before) (sym sees.0 i, sym sees.1 i)) ∙ none) holds' new in
+          (done.0, ap (λ o. answer.Request (Kept true o)) same ∙ done.1)
+      by before (Void c k p s) stands sees = absurd sees
+      by before (Open line) stands sees = absurd sees
+      by before (Ask c d s r) stands sees = absurd sees
+      by before (Send c m) stands sees = absurd sees
+      by before (Reply c n unit) stands sees = absurd sees
+      by before (Noise c frame) stands sees = absurd sees
+
+  pub voided_goes : (caller key point : List ℕ) (slot : ℕ) (holds' : Tables → Type 0) (told : Outcome)
+      → ((kept : Tables) → holds kept → told ≡ voided slot (voiding_of kept.voids (known_named known point) slot))
+      → ((kept : Tables) (table : Readings) → holds kept → IsCopy known kept → AreByKey table → kept.readings ≡ marked kept.voids table
+      → request_at kept.requests (caller, key) ≡ None
+      → holds' (record kept {
+        readings = marked (with_voiding slot (voiding_of kept.voids (known_named known point) slot) kept.voids) table;
+        voids = with_voiding slot (voiding_of kept.voids (known_named known point) slot) kept.voids;
+        totals = totals_of kept.points (marked (with_voiding slot (voiding_of kept.voids (known_named known point) slot) kept.voids) table);
+        requests = with_request (caller, key) (record { body = body.Void point slot; outcome = told }) kept.requests;
+      }))
+      → Goes (Unused (caller, key)) (StandsFor holds' now known all) (event.Void caller key point slot) (answer.Request (Kept true told))
+  voided_goes caller key point slot holds' told is kept = record {
+    refused = λ before stands store. absurd (false≢true store);
+    happened = λ before happening stands may sees _. by before happening stands sees;
+  }
+    where
+      by : (before : History) (h : Happening) → Unused (caller, key) before → Sees before h (event.Void caller key point slot)
+          → StandsFor holds' now known all (h ∷ before) × (answer.Request (Kept true told) ≡ answer_of before h)
+      by before (Restart site) stands sees = absurd sees
+      by before (Load edition c k l) stands sees = absurd sees
+      by before (Order c k p v) stands sees = absurd sees
+      by before (Void c k p s) (stands, none) sees =
+          let same : told ≡ voided s (voiding_of (voids before) (known_named (points before) p) s) =
+          is (tables before) stands.tables ∙ (λ i. voided (sees.3 i) (voiding_of (voids before) (known_named (stands.points i) (sees.2 i)) (sees.3 i))) in
+          let new = subst (λ (x : List ℕ × List ℕ × List ℕ × ℕ × List PointRow × Outcome). holds' (record (tables before) {
+            readings = marked (with_voiding x.3 (voiding_of (voids before) (known_named x.4 x.2) x.3) (voids before)) (readings before);
+            voids = with_voiding x.3 (voiding_of (voids before) (known_named x.4 x.2) x.3) (voids before);
+            totals = totals_of (points before) (marked (with_voiding x.3 (voiding_of (voids before) (known_named x.4 x.2) x.3) (voids before)) (readings before));
+            requests = with_request (x.0, x.1) (record { body = body.Void x.2 x.3; outcome = x.5 }) (requests before);
+          })) (λ i. (sees.0 i, sees.1 i, sees.2 i, sees.3 i, stands.points i, same i))
+          (kept (tables before) (readings before) stands.tables (copy_of before stands) (readings_sorted before) refl none) in
+          let done = asked_void holds now known all before stands (c, k) p s ((λ i. request_at (requests before) (sym sees.0 i, sym sees.1 i)) ∙ none) holds' new in
           (done.0, ap (λ o. answer.Request (Kept true o)) same ∙ done.1)
       by before (Open line) stands sees = absurd sees
       by before (Ask c d s r) stands sees = absurd sees
@@ -505,8 +580,9 @@ module _ (holds : Tables → Type 0) (now : Site) (known : List PointRow) (all :
           → StandsFor holds now known [] (h ∷ before) × (answer.Restarted ≡ answer_of before h)
       by before (Restart site) stands sees =
           (subst (λ s. StandsFor holds s known [] (Restart site ∷ before)) (sees ∙ sym stands.site) (restarted holds site known before stands.tables stands.points), refl)
-      by before (Load caller key list) stands sees = absurd sees
+      by before (Load edition caller key list) stands sees = absurd sees
       by before (Order caller key point value) stands sees = absurd sees
+      by before (Void caller key point at) stands sees = absurd sees
       by before (Send c number) stands sees = absurd sees
       by before (Open line) stands sees = absurd sees
       by before (Ask c d s r) stands sees = absurd sees

@@ -15,15 +15,16 @@ use Rattle.std.proofs.lemmas.Map.Views.{tells_apart}
 use Rattle.std.proofs.lemmas.Option.{none-some, same_Some}
 use Rattle.poll_book.specs.declared.rows.PointRow.{PointRow}
 use Rattle.poll_book.specs.declared.rows.Reading.{Reading}
-use Rattle.poll_book.specs.Tables.{AreByKey, Key, key_cmp, Readings, Sums, reading_at, new_rows, sum_at, with_row, with_rows, with_sums}
-use Rattle.poll_book.specs.Totals.{counted_number, counted_numbers, is_counted, is_counter, steps, total, totals_of}
+use Rattle.poll_book.specs.Tables.{AreByKey, Key, key_cmp, Readings, Sums, Voids, is_void, marked, marked_one, reading_at, new_rows, sum_at, with_row, with_rows, with_sums}
+use Rattle.poll_book.specs.Totals.{counted_number, counted_numbers, is_counter, steps, total, totals_of}
 use Rattle.poll_book.specs.Changes.{AreNumbered, AreThere, counters, keyed, keyed_one, new_sum, new_sums}
-use Rattle.poll_book.proofs.Lacked.{of_counter}
+use Rattle.poll_book.proofs.Lacked.{its_own, mark_is, number_in as counted_in, of_counter}
 use Rattle.poll_book.proofs.Repairs.{not_counted_is, of_another_is}
 use Rattle.poll_book.proofs.Tabled.{exact_keys, keys_total}
 use Rattle.office_core.specs.Keeping.{AreCovered, Rises}
 use Rattle.office_core.proofs.Elements.{among, in_none, further, foremost}
 use Rattle.office_core.proofs.OnePoint.{number_in, one_point}
+use Rattle.office_core.proofs.Marks.{marked_rise}
 use Rattle.office_core.proofs.Rows.{with_rows_sorted}
 
 -- ---- readings of one point among others
@@ -69,26 +70,26 @@ total_beside known slot reading (x ∷ xs) table sorted others =
 -- ---- the totals of a reply
 
 -- a total that changes is that of its point
-sum_key : (table : Readings) (slot : ℕ) (c : PointRow × List ℕ) (s : ℕ × ℕ) → new_sum table slot c ≡ Some s → s.0 ≡ c.0.number
-sum_key table slot c s e = by (is_none (reading_at table (c.0.number, slot)) && is_counted c.0.point c.1) (total c.0 (with_row (c.0.number, slot) (keyed_one slot c).1 table)) e
+sum_key : (voids : Voids) (table : Readings) (slot : ℕ) (c : PointRow × List ℕ) (s : ℕ × ℕ) → new_sum voids table slot c ≡ Some s → s.0 ≡ c.0.number
+sum_key voids table slot c s e = by (is_none (reading_at table (c.0.number, slot)) && (marked_one voids (keyed_one slot c)).1.counted) (total c.0 (with_row (c.0.number, slot) (marked_one voids (keyed_one slot c)).1 table)) e
   where
     by : (b : Bool) (t : ℕ) → cond b (Some (let pair : ℕ × ℕ = (c.0.number, t) in pair)) None ≡ Some s → s.0 ≡ c.0.number
     by true t f = sym (ap (λ (p : ℕ × ℕ). p.0) (same_Some _ s f))
     by false t f = absurd (none-some s f)
 
 -- none of points that come later
-no_sum : (table : Readings) (slot n k : ℕ) (covered : List (PointRow × List ℕ)) → Rises n (keyed slot covered) → k ≤ n → sum_at (new_sums table slot covered) k ≡ None
-no_sum table slot n k [] rise le = refl
-no_sum table slot n k (c ∷ covered) rise le =
+no_sum : (voids : Voids) (table : Readings) (slot n k : ℕ) (covered : List (PointRow × List ℕ)) → Rises n (keyed slot covered) → k ≤ n → sum_at (new_sums voids table slot covered) k ≡ None
+no_sum voids table slot n k [] rise le = refl
+no_sum voids table slot n k (c ∷ covered) rise le =
     let low : n < c.0.number = rise.0 in
-    by (new_sum table slot c) (λ s e. sum_key table slot c s e) low (no_sum table slot c.0.number k covered rise.1 (omega arith))
+    by (new_sum voids table slot c) (λ s e. sum_key voids table slot c s e) low (no_sum voids table slot c.0.number k covered rise.1 (omega arith))
   where
-    by : (o : Option (ℕ × ℕ)) → ((s : ℕ × ℕ) → o ≡ Some s → s.0 ≡ c.0.number) → n < c.0.number → sum_at (new_sums table slot covered) k ≡ None
-        → sum_at (cons_option o (new_sums table slot covered)) k ≡ None
+    by : (o : Option (ℕ × ℕ)) → ((s : ℕ × ℕ) → o ≡ Some s → s.0 ≡ c.0.number) → n < c.0.number → sum_at (new_sums voids table slot covered) k ≡ None
+        → sum_at (cons_option o (new_sums voids table slot covered)) k ≡ None
     by None key low rest = rest
     by (Some s) key low rest =
         let is : s.0 ≡ c.0.number = key s refl in
-        ap (λ b. cond b (Some s.1) (sum_at (new_sums table slot covered) k)) (unsigned_tied k s.0 ∙ ne_eqb k s.0 (λ e. omega arith)) ∙ rest
+        ap (λ b. cond b (Some s.1) (sum_at (new_sums voids table slot covered) k)) (unsigned_tied k s.0 ∙ ne_eqb k s.0 (λ e. omega arith)) ∙ rest
 
 -- the readings of points that come later are of others
 rise_others : (known : PointRow) (n : ℕ) (xs : Readings) → Rises n xs → known.number ≤ n → All (IsOther known) xs
@@ -101,77 +102,77 @@ abbrev lacks : Readings → Key × Reading → Bool
 lacks table row = is_none (reading_at table row.0)
 
 -- what becomes of a total by the readings of a reply
-after_reply : (known : PointRow) (points : List PointRow) (table : Readings) (slot n : ℕ) (covered : List (PointRow × List ℕ)) → AreNumbered 0 points → Contains points known
+after_reply : (known : PointRow) (points : List PointRow) (voids : Voids) (table : Readings) (slot n : ℕ) (covered : List (PointRow × List ℕ)) → AreNumbered 0 points → Contains points known
     → AreByKey table → All (λ c. Contains points c.0) covered → Rises n (keyed slot covered)
-    → option_or (sum_at (new_sums table slot covered) known.number) (Some (total known table)) ≡ Some (total known (with_rows (new_rows table (keyed slot covered)) table))
-after_reply known points table slot n [] numbered there sorted are rise = refl
-after_reply known points table slot n (c ∷ covered) numbered there sorted are rise =
+    → option_or (sum_at (new_sums voids table slot covered) known.number) (Some (total known table)) ≡ Some (total known (with_rows (new_rows table (marked voids (keyed slot covered))) table))
+after_reply known points voids table slot n [] numbered there sorted are rise = refl
+after_reply known points voids table slot n (c ∷ covered) numbered there sorted are rise =
     by (eqb c.0.number known.number) refl
-    (after_reply known points table slot c.0.number covered numbered there sorted (All-tail (λ (x : PointRow × List ℕ). Contains points x.0) c covered are) rise.1)
+    (after_reply known points voids table slot c.0.number covered numbered there sorted (All-tail (λ (x : PointRow × List ℕ). Contains points x.0) c covered are) rise.1)
   where
     later : Readings
-    later = new_rows table (keyed slot covered)
+    later = new_rows table (marked voids (keyed slot covered))
 
     sums : Sums
-    sums = new_sums table slot covered
+    sums = new_sums voids table slot covered
 
     Claim : Type 0
-    Claim = option_or (sum_at (cons_option (new_sum table slot c) sums) known.number) (Some (total known table))
-        ≡ Some (total known (with_rows (cond (lacks table (keyed_one slot c)) (keyed_one slot c ∷ later) later) table))
+    Claim = option_or (sum_at (cons_option (new_sum voids table slot c) sums) known.number) (Some (total known table))
+        ≡ Some (total known (with_rows (cond (lacks table (marked_one voids (keyed_one slot c))) (marked_one voids (keyed_one slot c) ∷ later) later) table))
 
     -- of another point
     other : c.0.number ≢ known.number → option_or (sum_at sums known.number) (Some (total known table)) ≡ Some (total known (with_rows later table)) → Claim
     other apart rest =
-        ap (λ o. option_or o (Some (total known table))) (head (new_sum table slot c) (λ s e. sum_key table slot c s e))
+        ap (λ o. option_or o (Some (total known table))) (head (new_sum voids table slot c) (λ s e. sum_key voids table slot c s e))
         ∙ rest
-        ∙ row (lacks table (keyed_one slot c))
+        ∙ row (lacks table (marked_one voids (keyed_one slot c)))
       where
         head : (o : Option (ℕ × ℕ)) → ((s : ℕ × ℕ) → o ≡ Some s → s.0 ≡ c.0.number) → sum_at (cons_option o sums) known.number ≡ sum_at sums known.number
         head None key = refl
         head (Some s) key =
             ap (λ b. cond b (Some s.1) (sum_at sums known.number)) (unsigned_tied known.number s.0 ∙ ne_eqb known.number s.0 (λ e. apart (sym (e ∙ key s refl))))
 
-        row : (b : Bool) → Some (total known (with_rows later table)) ≡ Some (total known (with_rows (cond b (keyed_one slot c ∷ later) later) table))
-        row true = ap Some (sym (of_another_is known (c.0.number, slot) (keyed_one slot c).1 (with_rows later table) apart))
+        row : (b : Bool) → Some (total known (with_rows later table)) ≡ Some (total known (with_rows (cond b (marked_one voids (keyed_one slot c) ∷ later) later) table))
+        row true = ap Some (sym (of_another_is known (c.0.number, slot) (marked_one voids (keyed_one slot c)).1 (with_rows later table) apart))
         row false = refl
 
     -- of this point, whose later readings are none
     own : c.0 ≡ known → Claim
-    own same = subst (λ (k : PointRow). option_or (sum_at (cons_option (new_sum table slot c) sums) k.number) (Some (total k table))
-        ≡ Some (total k (with_rows (cond (lacks table (keyed_one slot c)) (keyed_one slot c ∷ later) later) table))) same (here (reading_at table (c.0.number, slot)) (counted_number c.0.point c.1) refl refl)
+    own same = subst (λ (k : PointRow). option_or (sum_at (cons_option (new_sum voids table slot c) sums) k.number) (Some (total k table))
+        ≡ Some (total k (with_rows (cond (lacks table (marked_one voids (keyed_one slot c))) (marked_one voids (keyed_one slot c) ∷ later) later) table))) same (here (reading_at table (c.0.number, slot)) (counted_in voids slot c.0 c.1) refl refl)
       where
         others : All (IsOther c.0) later
-        others = All-filter (lacks table) (IsOther c.0) (keyed slot covered) (rise_others c.0 c.0.number (keyed slot covered) rise.1 (omega arith))
+        others = All-filter (lacks table) (IsOther c.0) (marked voids (keyed slot covered)) (rise_others c.0 c.0.number (marked voids (keyed slot covered)) (marked_rise voids c.0.number (keyed slot covered) rise.1) (omega arith))
 
         none_later : sum_at sums c.0.number ≡ None
-        none_later = no_sum table slot c.0.number c.0.number covered rise.1 (omega arith)
+        none_later = no_sum voids table slot c.0.number c.0.number covered rise.1 (omega arith)
 
         reading : Reading
-        reading = (keyed_one slot c).1
+        reading = (marked_one voids (keyed_one slot c)).1
 
         sum : ℕ
         sum = total c.0 (with_row (c.0.number, slot) reading table)
 
-        here : (o : Option Reading) (v : Option ℕ) → reading_at table (c.0.number, slot) ≡ o → counted_number c.0.point c.1 ≡ v
-            → option_or (sum_at (cons_option (cond (is_none (reading_at table (c.0.number, slot)) && is_counted c.0.point c.1) (Some (c.0.number, sum)) None) sums) c.0.number) (Some (total c.0 table))
+        here : (o : Option Reading) (v : Option ℕ) → reading_at table (c.0.number, slot) ≡ o → counted_in voids slot c.0 c.1 ≡ v
+            → option_or (sum_at (cons_option (cond (is_none (reading_at table (c.0.number, slot)) && reading.counted) (Some (c.0.number, sum)) None) sums) c.0.number) (Some (total c.0 table))
             ≡ Some (total c.0 (with_rows (cond (is_none (reading_at table (c.0.number, slot))) ((((c.0.number, slot), reading)) ∷ later) later) table))
         here (Some r) v e f =
-            ap (λ o. option_or (sum_at (cons_option (cond (is_none o && is_counted c.0.point c.1) (Some (let pair : ℕ × ℕ = (c.0.number, sum) in pair)) None) sums) c.0.number) (Some (total c.0 table))) e
+            ap (λ o. option_or (sum_at (cons_option (cond (is_none o && reading.counted) (Some (let pair : ℕ × ℕ = (c.0.number, sum) in pair)) None) sums) c.0.number) (Some (total c.0 table))) e
             ∙ ap (λ o. option_or o (Some (total c.0 table))) none_later
             ∙ ap Some (sym (total_others c.0 later table others))
             ∙ sym (ap (λ o. Some (total c.0 (with_rows (cond (is_none o) ((let pair : Key × Reading = ((c.0.number, slot), reading) in pair) ∷ later) later) table))) e)
         here None (Some number) e f =
-            ap (λ o. option_or (sum_at (cons_option (cond (is_none o && is_counted c.0.point c.1) (Some (let pair : ℕ × ℕ = (c.0.number, sum) in pair)) None) sums) c.0.number) (Some (total c.0 table))) e
-            ∙ ap (λ v. option_or (sum_at (cons_option (cond (is_some v) (Some (let pair : ℕ × ℕ = (c.0.number, sum) in pair)) None) sums) c.0.number) (Some (total c.0 table))) f
+            ap (λ o. option_or (sum_at (cons_option (cond (is_none o && reading.counted) (Some (let pair : ℕ × ℕ = (c.0.number, sum) in pair)) None) sums) c.0.number) (Some (total c.0 table))) e
+            ∙ ap (λ b. option_or (sum_at (cons_option (cond b (Some (let pair : ℕ × ℕ = (c.0.number, sum) in pair)) None) sums) c.0.number) (Some (total c.0 table))) (mark_is voids slot c.0 c.1 ∙ ap is_some f)
             ∙ ap (λ b. option_or (cond b (Some sum) (sum_at sums c.0.number)) (Some (total c.0 table))) (unsigned_tied c.0.number c.0.number ∙ eq-eqb c.0.number c.0.number refl)
             ∙ ap Some (sym (total_beside c.0 slot reading later table sorted others))
             ∙ sym (ap (λ o. Some (total c.0 (with_rows (cond (is_none o) ((let pair : Key × Reading = ((c.0.number, slot), reading) in pair) ∷ later) later) table))) e)
         here None None e f =
-            ap (λ o. option_or (sum_at (cons_option (cond (is_none o && is_counted c.0.point c.1) (Some (let pair : ℕ × ℕ = (c.0.number, sum) in pair)) None) sums) c.0.number) (Some (total c.0 table))) e
-            ∙ ap (λ v. option_or (sum_at (cons_option (cond (is_some v) (Some (let pair : ℕ × ℕ = (c.0.number, sum) in pair)) None) sums) c.0.number) (Some (total c.0 table))) f
+            ap (λ o. option_or (sum_at (cons_option (cond (is_none o && reading.counted) (Some (let pair : ℕ × ℕ = (c.0.number, sum) in pair)) None) sums) c.0.number) (Some (total c.0 table))) e
+            ∙ ap (λ b. option_or (sum_at (cons_option (cond b (Some (let pair : ℕ × ℕ = (c.0.number, sum) in pair)) None) sums) c.0.number) (Some (total c.0 table))) (mark_is voids slot c.0 c.1 ∙ ap is_some f)
             ∙ ap (λ o. option_or o (Some (total c.0 table))) none_later
             ∙ ap Some (sym (total_beside c.0 slot reading later table sorted others
-            ∙ not_counted_is c.0 slot reading table sorted e (ap (λ b. cond b (counted_number c.0.point c.1) None) (ap is_some f))))
+            ∙ not_counted_is c.0 slot reading table sorted e (ap (λ b. cond b (counted_number c.0.point c.1) None) (mark_is voids slot c.0 c.1 ∙ ap is_some f))))
             ∙ sym (ap (λ o. Some (total c.0 (with_rows (cond (is_none o) ((let pair : Key × Reading = ((c.0.number, slot), reading) in pair) ∷ later) later) table))) e)
 
     by : (b : Bool) → eqb c.0.number known.number ≡ b → option_or (sum_at sums known.number) (Some (total known table)) ≡ Some (total known (with_rows later table)) → Claim
@@ -303,48 +304,52 @@ record OfCounter (points : List PointRow) (k : ℕ) : Type 0 where
   counter : PointRow
   is : IsCounterAt points k counter
 
-sum_counter : (points : List PointRow) (table : Readings) (slot : ℕ) (c : PointRow × List ℕ) (s : ℕ × ℕ) → Contains points c.0 → new_sum table slot c ≡ Some s → IsCounterAt points s.0 c.0
-sum_counter points table slot c s there e = by (is_none (reading_at table (c.0.number, slot))) (counted_number c.0.point c.1) refl e
+sum_counter : (points : List PointRow) (voids : Voids) (table : Readings) (slot : ℕ) (c : PointRow × List ℕ) (s : ℕ × ℕ) → Contains points c.0 → new_sum voids table slot c ≡ Some s → IsCounterAt points s.0 c.0
+sum_counter points voids table slot c s there e = by (is_none (reading_at table (c.0.number, slot))) (counted_in voids slot c.0 c.1) refl (ap (λ b. cond (is_none (reading_at table (c.0.number, slot)) && b) (Some (let pair : ℕ × ℕ = (c.0.number, total c.0 (with_row (c.0.number, slot) (marked_one voids (keyed_one slot c)).1 table)) in pair)) None) (sym (mark_is voids slot c.0 c.1)) ∙ e)
   where
-    by : (a : Bool) (v : Option ℕ) → counted_number c.0.point c.1 ≡ v
-        → cond (a && is_some v) (Some (let pair : ℕ × ℕ = (c.0.number, total c.0 (with_row (c.0.number, slot) (keyed_one slot c).1 table)) in pair)) None ≡ Some s → IsCounterAt points s.0 c.0
-    by true (Some n) counts f = record { there = there; number = ap (λ (p : ℕ × ℕ). p.0) (same_Some _ s f); counts = of_counter c.0.point c.1 n counts }
-    by true None counts f = absurd (none-some s f)
+    by : (a : Bool) (v : Option ℕ) → counted_in voids slot c.0 c.1 ≡ v
+        → cond (a && is_some (counted_in voids slot c.0 c.1)) (Some (let pair : ℕ × ℕ = (c.0.number, total c.0 (with_row (c.0.number, slot) (marked_one voids (keyed_one slot c)).1 table)) in pair)) None ≡ Some s → IsCounterAt points s.0 c.0
+    by true (Some n) counts f = record {
+      there = there;
+      number = ap (λ (p : ℕ × ℕ). p.0) (same_Some _ s (ap (λ v. cond (is_some v) (Some (let pair : ℕ × ℕ = (c.0.number, total c.0 (with_row (c.0.number, slot) (marked_one voids (keyed_one slot c)).1 table)) in pair)) None) (sym counts) ∙ f));
+      counts = of_counter c.0.point c.1 n (its_own (is_void voids (c.0.number, slot)) (counted_number c.0.point c.1) n counts);
+    }
+    by true None counts f = absurd (none-some s (ap (λ v. cond (is_some v) (Some (let pair : ℕ × ℕ = (c.0.number, total c.0 (with_row (c.0.number, slot) (marked_one voids (keyed_one slot c)).1 table)) in pair)) None) (sym counts) ∙ f))
     by false v counts f = absurd (none-some s f)
 
-sums_counter : (points : List PointRow) (table : Readings) (slot : ℕ) (covered : List (PointRow × List ℕ)) (k s : ℕ) → All (λ c. Contains points c.0) covered
-    → sum_at (new_sums table slot covered) k ≡ Some s → OfCounter points k
-sums_counter points table slot [] k s are e = absurd (none-some s e)
-sums_counter points table slot (c ∷ covered) k s are e =
-    by (new_sum table slot c) (λ t f. sum_counter points table slot c t (All-head (λ (x : PointRow × List ℕ). Contains points x.0) c covered are) f)
-    (sums_counter points table slot covered k s (All-tail (λ (x : PointRow × List ℕ). Contains points x.0) c covered are)) e
+sums_counter : (points : List PointRow) (voids : Voids) (table : Readings) (slot : ℕ) (covered : List (PointRow × List ℕ)) (k s : ℕ) → All (λ c. Contains points c.0) covered
+    → sum_at (new_sums voids table slot covered) k ≡ Some s → OfCounter points k
+sums_counter points voids table slot [] k s are e = absurd (none-some s e)
+sums_counter points voids table slot (c ∷ covered) k s are e =
+    by (new_sum voids table slot c) (λ t f. sum_counter points voids table slot c t (All-head (λ (x : PointRow × List ℕ). Contains points x.0) c covered are) f)
+    (sums_counter points voids table slot covered k s (All-tail (λ (x : PointRow × List ℕ). Contains points x.0) c covered are)) e
   where
-    by : (o : Option (ℕ × ℕ)) → ((t : ℕ × ℕ) → o ≡ Some t → IsCounterAt points t.0 c.0) → (sum_at (new_sums table slot covered) k ≡ Some s → OfCounter points k)
-        → sum_at (cons_option o (new_sums table slot covered)) k ≡ Some s → OfCounter points k
+    by : (o : Option (ℕ × ℕ)) → ((t : ℕ × ℕ) → o ≡ Some t → IsCounterAt points t.0 c.0) → (sum_at (new_sums voids table slot covered) k ≡ Some s → OfCounter points k)
+        → sum_at (cons_option o (new_sums voids table slot covered)) k ≡ Some s → OfCounter points k
     by None key rest f = rest f
     by (Some t) key rest f = tied (eq_by_cmp nat_cmp k t.0) refl f
       where
-        tied : (b : Bool) → eq_by_cmp nat_cmp k t.0 ≡ b → cond b (Some t.1) (sum_at (new_sums table slot covered) k) ≡ Some s → OfCounter points k
+        tied : (b : Bool) → eq_by_cmp nat_cmp k t.0 ≡ b → cond b (Some t.1) (sum_at (new_sums voids table slot covered) k) ≡ Some s → OfCounter points k
         tied true same g =
             let own = key t refl in
             record { counter = c.0; is = record { there = own.there; number = own.number ∙ sym (eqb-true k t.0 (sym (unsigned_tied k t.0) ∙ same)); counts = own.counts } }
         tied false other g = rest g
 
 -- the totals after a reply
-pub recorded_sums : (points : List PointRow) (table : Readings) (slot : ℕ) (covered : List (PointRow × List ℕ)) → AreNumbered 0 points → AreByKey table → AreCovered points slot covered
-    → with_sums (new_sums table slot covered) (totals_of points table) ≡ totals_of points (with_rows (new_rows table (keyed slot covered)) table)
-recorded_sums points table slot covered numbered sorted are =
+pub recorded_sums : (points : List PointRow) (voids : Voids) (table : Readings) (slot : ℕ) (covered : List (PointRow × List ℕ)) → AreNumbered 0 points → AreByKey table → AreCovered points slot covered
+    → with_sums (new_sums voids table slot covered) (totals_of points table) ≡ totals_of points (with_rows (new_rows table (marked voids (keyed slot covered))) table)
+recorded_sums points voids table slot covered numbered sorted are =
     rows.same_entries nat_cmp nat_cmp_total exact_unsigned (with_sums sums old) new (with_sums_sorted sums old (sums_sorted 0 points table numbered)) (sums_sorted 0 points after numbered)
     (λ k. at_with_sums sums old k ∙ by k (counter_at points k) refl)
   where
     sums : Sums
-    sums = new_sums table slot covered
+    sums = new_sums voids table slot covered
 
     old : Sums
     old = totals_of points table
 
     after : Readings
-    after = with_rows (new_rows table (keyed slot covered)) table
+    after = with_rows (new_rows table (marked voids (keyed slot covered))) table
 
     new : Sums
     new = totals_of points after
@@ -352,7 +357,7 @@ recorded_sums points table slot covered numbered sorted are =
     none : (k : ℕ) (o : Option ℕ) → sum_at sums k ≡ o → counter_at points k ≡ None → o ≡ None
     none k None e f = refl
     none k (Some s) e f =
-        let of = sums_counter points table slot covered k s are.known e in
+        let of = sums_counter points voids table slot covered k s are.known e in
         let found : counter_at points k ≡ Some of.counter = ap (counter_at points) (sym of.is.number) ∙ counter_found 0 points of.counter numbered of.is.there of.is.counts in
         absurd (none-some of.counter (sym f ∙ found))
 
@@ -365,19 +370,19 @@ recorded_sums points table slot covered numbered sorted are =
         let is = counter_is points k known e in
         ap (option_or (sum_at sums k)) (sum_of points table k ∙ ap (option_map (λ x. total x table)) e)
         ∙ ap (λ n. option_or (sum_at sums n) (Some (total known table))) (sym is.number)
-        ∙ after_reply known points table slot 0 covered numbered is.there sorted are.known are.rise
+        ∙ after_reply known points voids table slot 0 covered numbered is.there sorted are.known are.rise
         ∙ sym (sum_of points after k ∙ ap (option_map (λ x. total x after)) e)
 
 -- each of them is there already
-pub sums_there : (points : List PointRow) (table : Readings) (slot : ℕ) (covered : List (PointRow × List ℕ)) → AreNumbered 0 points → All (λ c. Contains points c.0) covered
-    → AreThere (totals_of points table) (new_sums table slot covered)
-sums_there points table slot [] numbered are = tt
-sums_there points table slot (c ∷ covered) numbered are =
-    by (new_sum table slot c) (λ t f. sum_counter points table slot c t (All-head (λ (x : PointRow × List ℕ). Contains points x.0) c covered are) f)
-    (sums_there points table slot covered numbered (All-tail (λ (x : PointRow × List ℕ). Contains points x.0) c covered are))
+pub sums_there : (points : List PointRow) (voids : Voids) (table : Readings) (slot : ℕ) (covered : List (PointRow × List ℕ)) → AreNumbered 0 points → All (λ c. Contains points c.0) covered
+    → AreThere (totals_of points table) (new_sums voids table slot covered)
+sums_there points voids table slot [] numbered are = tt
+sums_there points voids table slot (c ∷ covered) numbered are =
+    by (new_sum voids table slot c) (λ t f. sum_counter points voids table slot c t (All-head (λ (x : PointRow × List ℕ). Contains points x.0) c covered are) f)
+    (sums_there points voids table slot covered numbered (All-tail (λ (x : PointRow × List ℕ). Contains points x.0) c covered are))
   where
-    by : (o : Option (ℕ × ℕ)) → ((t : ℕ × ℕ) → o ≡ Some t → IsCounterAt points t.0 c.0) → AreThere (totals_of points table) (new_sums table slot covered)
-        → AreThere (totals_of points table) (cons_option o (new_sums table slot covered))
+    by : (o : Option (ℕ × ℕ)) → ((t : ℕ × ℕ) → o ≡ Some t → IsCounterAt points t.0 c.0) → AreThere (totals_of points table) (new_sums voids table slot covered)
+        → AreThere (totals_of points table) (cons_option o (new_sums voids table slot covered))
     by None key rest = rest
     by (Some t) key rest =
         let is = key t refl in (
@@ -445,3 +450,49 @@ loaded_sums points more table numbered next all known =
         let low = (number_in 0 points x numbered was.there).1 in
         let m = is.number in
         let n = was.number in absurd (omega arith)
+
+-- ---- a reading that is written over
+
+-- the totals after a reading of a counter is written over
+pub written_sum : (points : List PointRow) (table : Readings) (known : PointRow) (key : Key) (reading : Reading) → AreNumbered 0 points → Contains points known
+    → is_counter known.point.role ≡ true → key.0 ≡ known.number
+    → with_sums ((known.number, total known (with_row key reading table)) ∷ []) (totals_of points table) ≡ totals_of points (with_row key reading table)
+written_sum points table known key reading numbered there counts own =
+    rows.same_entries nat_cmp nat_cmp_total exact_unsigned (with_sums sums old) new (with_sums_sorted sums old (sums_sorted 0 points table numbered)) (sums_sorted 0 points after numbered)
+    (λ k. at_with_sums sums old k ∙ by k (counter_at points k) refl ∙ sym (sum_of points after k))
+  where
+    after : Readings
+    after = with_row key reading table
+
+    sums : Sums
+    sums = (known.number, total known after) ∷ []
+
+    old : Sums
+    old = totals_of points table
+
+    new : Sums
+    new = totals_of points after
+
+    at_sums : (k : ℕ) → sum_at sums k ≡ cond (eqb k known.number) (Some (total known after)) None
+    at_sums k = ap (λ b. cond b (Some (total known after)) None) (unsigned_tied k known.number)
+
+    found : counter_at points known.number ≡ Some known
+    found = counter_found 0 points known numbered there counts
+
+    by : (k : ℕ) (o : Option PointRow) → counter_at points k ≡ o → option_or (sum_at sums k) (sum_at old k) ≡ option_map (λ x. total x after) (counter_at points k)
+    by k o e = at (eqb k known.number) refl o e
+      where
+        at : (b : Bool) → eqb k known.number ≡ b → (o : Option PointRow) → counter_at points k ≡ o → option_or (sum_at sums k) (sum_at old k) ≡ option_map (λ x. total x after) (counter_at points k)
+        at true same o e =
+            ap (λ s. option_or s (sum_at old k)) (at_sums k ∙ ap (λ b. cond b (Some (total known after)) None) same)
+            ∙ sym (ap (option_map (λ x. total x after)) (ap (counter_at points) (eqb-true k known.number same) ∙ found))
+        at false other None e =
+            ap (λ s. option_or s (sum_at old k)) (at_sums k ∙ ap (λ b. cond b (Some (total known after)) None) other)
+            ∙ sum_of points table k ∙ ap (option_map (λ x. total x table)) e ∙ sym (ap (option_map (λ x. total x after)) e)
+        at false other (Some x) e =
+            let is = counter_is points k x e in
+            let apart : key.0 ≢ x.number = λ same. eqb-false k known.number other (sym is.number ∙ sym same ∙ own) in
+            ap (λ s. option_or s (sum_at old k)) (at_sums k ∙ ap (λ b. cond b (Some (total known after)) None) other)
+            ∙ sum_of points table k ∙ ap (option_map (λ x. total x table)) e
+            ∙ ap Some (sym (of_another_is x key reading table apart))
+            ∙ sym (ap (option_map (λ x. total x after)) e)

@@ -3,6 +3,7 @@ use Rattle.std.specs.Prelude.{ℕ, ◌+◌, ◌%◌, Bool, true, false, not, ◌
 use Rattle.std.specs.Ordering.{int_eq}
 use Rattle.std.specs.Str.{bytes_eq}
 use Rattle.mb_mbap.specs.declared.frame.Frame.{Frame}
+use Rattle.point_list.specs.Edition.{Edition, Second}
 use Rattle.poll_match.specs.Window.{numbered}
 use Rattle.poll_book.specs.declared.rows.PointRow.{PointRow}
 use Rattle.poll_book.specs.declared.requests.Body.{Body}
@@ -22,7 +23,7 @@ use Rattle.office_core.specs.Sites.{line_place}
 use Rattle.office_core.specs.Cover.{given_rows}
 use Rattle.office_core.specs.Queries.{Query, Reads, Writes, unit_id_of, fits, is_excepted, exception_code, query_frame}
 use Rattle.office_core.specs.Orders.{send_fault, writing}
-use Rattle.office_core.specs.History.{Happening, Restart, Load, Order, Open, Ask, Send, Reply, Noise, History, site_of, points, connections, open_line, open_fault, ask_fault, question, asked, is_answered, settings, requests, outcome_of, readings}
+use Rattle.office_core.specs.History.{Happening, Restart, Load, Order, Void, Open, Ask, Send, Reply, Noise, History, site_of, points, connections, open_line, open_fault, ask_fault, question, asked, is_answered, settings, requests, outcome_of, readings}
 
 abbrev pub refused_or : Option OfficeError → EventAnswer → EventAnswer
 refused_or None told = told
@@ -30,20 +31,25 @@ refused_or (Some fault) told = answer.Refused fault
 
 -- ---- requests
 
--- a list of the same bytes, or an order of the same value for a point of the same name
+-- a list of the same bytes, an order of the same value for a point of the same name, or the same slot of such a point
 abbrev pub same_body : Body → Body → Bool
 same_body (body.List a) (body.List b) = bytes_eq a b
 same_body (body.Order p a) (body.Order q b) = bytes_eq p q && int_eq a b
+same_body (body.Void p a) (body.Void q b) = bytes_eq p q && a == b
 same_body (body.List a) (body.Order q b) = false
+same_body (body.List a) (body.Void q b) = false
 same_body (body.Order p a) (body.List b) = false
+same_body (body.Order p a) (body.Void q b) = false
+same_body (body.Void p a) (body.List b) = false
+same_body (body.Void p a) (body.Order q b) = false
 
 -- the first outcome under a key is told again to the same request, and any other is refused
 abbrev pub answer_again : Option Request → Body → Outcome → RequestAnswer
 answer_again None now outcome = Kept true outcome
 answer_again (Some first) now outcome = if same_body first.body now then Kept false first.outcome else KeyReused
 
-abbrev pub request_answer : History → RequestKey → Body → EventAnswer
-request_answer before key now = answer.Request (answer_again (request_at (requests before) key) now (outcome_of before now))
+abbrev pub request_answer : History → RequestKey → Edition → Body → EventAnswer
+request_answer before key edition now = answer.Request (answer_again (request_at (requests before) key) now (outcome_of before edition now))
 
 -- ---- arrivals
 
@@ -92,8 +98,9 @@ reply_frame n query unit = record { transaction = n % 65536; unit_id = unit_id_a
 -- the answer to what happens after that history
 abbrev pub answer_of : History → Happening → EventAnswer
 answer_of before (Restart site) = answer.Restarted
-answer_of before (Load caller key list) = request_answer before (caller, key) (body.List list)
-answer_of before (Order caller key point value) = request_answer before (caller, key) (body.Order point value)
+answer_of before (Load edition caller key list) = request_answer before (caller, key) edition (body.List list)
+answer_of before (Order caller key point value) = request_answer before (caller, key) Second (body.Order point value)
+answer_of before (Void caller key point slot) = request_answer before (caller, key) Second (body.Void point slot)
 answer_of before (Open line) = refused_or (open_fault (line_place (site_of before) line) (connections before)) (answer.Opened (connections before + 1))
 answer_of before (Ask c device slot read) =
     refused_or (ask_fault (open_line before c) (site_of before) (points before) (length (asked before c)) device read)

@@ -12,7 +12,7 @@ use Rattle.poll_book.specs.Tables.{reading_at}
 use Rattle.poll_book.specs.Totals.{counted_number, is_counted}
 use Rattle.poll_book.specs.Histories.{IsRising}
 use Rattle.office_core.specs.Cover.{Question, Brings, covers, words_in, reply_cells}
-use Rattle.office_core.specs.History.{Happening, Ask, Reply, History, site_of, points, open_line, ask_fault, question, asked, readings}
+use Rattle.office_core.specs.History.{Happening, Ask, Reply, History, site_of, points, open_line, ask_fault, question, asked, kept_readings}
 
 -- ---- replies
 
@@ -77,10 +77,10 @@ pub record IsReadingOf (before : History) (point slot : ℕ) (reading : Reading)
 
 -- ---- totals
 
--- in this slot stands a counted reading of a counter, with this number
+-- in this slot, which isn't voided, stands a counted reading of a counter, with this number
 pub record Counts (before : History) (known : PointRow) (slot number : ℕ) : Type 0 where
   pub reading : Reading
-  pub stands : reading_at (readings before) (known.number, slot) ≡ Some reading
+  pub stands : reading_at (kept_readings before) (known.number, slot) ≡ Some reading
   pub counted : reading.counted ≡ true
   pub reads : counted_number known.point reading.words ≡ Some number
 

@@ -1,7 +1,8 @@
 -- Tables in which what is kept of a point has the form of its type.
-use Rattle.std.specs.Prelude.{ℕ, All}
+use Rattle.std.specs.Prelude.{ℕ, All, List, Option}
 use Rattle.sunspec.specs.PointType.{IsSized}
-use Rattle.sunspec.specs.Text.{IsScale}
+use Rattle.sunspec.specs.Text.{IsScale, shown}
+use Rattle.sunspec.specs.WordOrder.{arranged}
 use Rattle.sunspec.specs.Value.{AreRegistersOf}
 use Rattle.point_list.specs.declared.point.Point.{Point}
 use Rattle.poll_book.specs.declared.rows.PointRow.{PointRow}
@@ -11,6 +12,10 @@ use Rattle.poll_book.specs.declared.rows.Reading.{Reading}
 -- a type that there is, and a scale from -10 to 10
 abbrev pub HasForm : Point → Type 0
 HasForm point = IsSized point.kind × IsScale point.scale
+
+-- what registers of a point mean, as they came
+abbrev pub point_text : Point → List ℕ → Option (List ℕ)
+point_text point words = shown point.kind point.scale (arranged point.order words)
 
 -- each of these readings has as many registers as the point's type, and a cell holds 0 or 1
 abbrev pub AreOf : Point → Readings → Type 0

@@ -3,6 +3,7 @@
 use Rattle.std.specs.Prelude.{ℕ, ℤ, ◌+◌, Bool, false, not, ◌&&◌, ◌||◌, if◌then◌else◌, ◌==◌, nat_le, List, [], ◌∷◌, ◌++◌, length, Option, Some, None, is_none, slice_get}
 use Rattle.std.specs.Str.{bytes_eq}
 use Rattle.mb_mbap.specs.declared.frame.Frame.{Frame}
+use Rattle.point_list.specs.Edition.{Edition, Second}
 use Rattle.point_list.specs.declared.site.Site.{Site}
 use Rattle.read_planner.specs.declared.Read.{Read}
 use Rattle.poll_book.specs.declared.rows.PointRow.{PointRow}
@@ -11,7 +12,7 @@ use Rattle.poll_book.specs.declared.requests.Body.TheVariants as body
 use Rattle.poll_book.specs.declared.requests.Outcome.{Outcome}
 use Rattle.poll_book.specs.Orders.{Settings, last_order}
 use Rattle.poll_book.specs.Requests.{RequestKey, Requests, with_request}
-use Rattle.poll_book.specs.Tables.{Tables, Readings, with_rows}
+use Rattle.poll_book.specs.Tables.{Tables, Readings, Voids, marked, with_rows}
 use Rattle.poll_book.specs.Totals as totals
 use Rattle.office_core.specs.declared.error.OfficeError.{OfficeError}
 use Rattle.office_core.specs.declared.error.OfficeError.TheVariants as error
@@ -21,12 +22,16 @@ use Rattle.office_core.specs.Cover.{Question, is_readable, excepts, given_rows}
 use Rattle.office_core.specs.Queries.{Query, Reads, Writes, fits}
 use Rattle.office_core.specs.Loads.{known_named, loading, outcome, added}
 use Rattle.office_core.specs.Orders.{Ordering, ordering_of, ordered, with_ordered, send_fault, writing, settled_by}
+use Rattle.office_core.specs.Voids.{Voiding, voiding_of, voided, with_voiding}
 
--- what may happen. A reply is named by its connection and the true number of its query there
+-- what may happen. A list is judged by an edition of the form of lists: what callers ask for today is judged by the second, and lists
+-- of tables that were made before there was one were judged by the first. A reply is named by its connection and the true number of
+-- its query there
 pub data Happening : Type 0 where
   Restart : (site : Site) → Happening
-  Load : (caller key list : List ℕ) → Happening
+  Load : (edition : Edition) (caller key list : List ℕ) → Happening
   Order : (caller key point : List ℕ) (value : ℤ) → Happening
+  Void : (caller key point : List ℕ) (slot : ℕ) → Happening
   Open : (line : List ℕ) → Happening
   Ask : (conn : ℕ) (device : List ℕ) (slot : ℕ) (read : Read) → Happening
   Send : (conn number : ℕ) → Happening
@@ -53,16 +58,17 @@ is_same_key a b = bytes_eq a.0 b.0 && bytes_eq a.1 b.1
 -- a caller asked for something under this key
 abbrev pub is_used : History → RequestKey → Bool
 is_used [] key = false
-is_used (Load caller word list ∷ before) key = is_same_key (caller, word) key || is_used before key
+is_used (Load edition caller word list ∷ before) key = is_same_key (caller, word) key || is_used before key
 is_used (Order caller word point value ∷ before) key = is_same_key (caller, word) key || is_used before key
+is_used (Void caller word point slot ∷ before) key = is_same_key (caller, word) key || is_used before key
 is_used (_ ∷ before) key = is_used before key
 
 -- the points that were accepted, in order; a list counts where it is the first request under its key
 abbrev pub points : History → List PointRow
 points [] = []
-points (Load caller key list ∷ before) =
+points (Load edition caller key list ∷ before) =
     if is_used before (caller, key) then points before
-    else points before ++ added (length (points before)) (loading (site_of before) (points before) list)
+    else points before ++ added (length (points before)) (loading edition (site_of before) (points before) list)
 points (_ ∷ before) = points before
 
 -- ---- connections
@@ -158,26 +164,45 @@ abbrev mutual
       else settled_by (slice_get (asked before c) n) unit (settings before)
   settings (_ ∷ before) = settings before
 
+-- ---- voids
+
+-- what becomes of a slot that is voided
+abbrev pub voiding_after : Voids → History → List ℕ → ℕ → Voiding
+voiding_after table before point slot = voiding_of table (known_named (points before) point) slot
+
+-- the pairs of points and slots that accepted voids name
+abbrev pub voids : History → Voids
+voids [] = []
+voids (Void caller key point slot ∷ before) =
+    if is_used before (caller, key) then voids before
+    else with_voiding slot (voiding_after (voids before) before point slot) (voids before)
+voids (_ ∷ before) = voids before
+
+abbrev pub voiding : History → List ℕ → ℕ → Voiding
+voiding before point slot = voiding_after (voids before) before point slot
+
 -- ---- requests
 
 -- what becomes of an order
 abbrev pub ordering : History → List ℕ → ℤ → Ordering
 ordering before point value = ordering_of (last_order (settings before)) (known_named (points before) point) value
 
--- what becomes of what a caller asks for
-abbrev pub outcome_of : History → Body → Outcome
-outcome_of before (body.List list) = outcome (loading (site_of before) (points before) list)
-outcome_of before (body.Order point value) = ordered (last_order (settings before)) (ordering before point value)
+-- what becomes of what a caller asks for, a list by an edition
+abbrev pub outcome_of : History → Edition → Body → Outcome
+outcome_of before edition (body.List list) = outcome (loading edition (site_of before) (points before) list)
+outcome_of before edition (body.Order point value) = ordered (last_order (settings before)) (ordering before point value)
+outcome_of before edition (body.Void point slot) = voided slot (voiding before point slot)
 
-abbrev pub first_asked : History → RequestKey → Body → Requests → Requests
-first_asked before key asked table =
-    if is_used before key then table else with_request key (record { body = asked; outcome = outcome_of before asked }) table
+abbrev pub first_asked : History → RequestKey → Edition → Body → Requests → Requests
+first_asked before key edition asked table =
+    if is_used before key then table else with_request key (record { body = asked; outcome = outcome_of before edition asked }) table
 
 -- the first request under each key, with what became of it
 abbrev pub requests : History → Requests
 requests [] = []
-requests (Load caller key list ∷ before) = first_asked before (caller, key) (body.List list) (requests before)
-requests (Order caller key point value ∷ before) = first_asked before (caller, key) (body.Order point value) (requests before)
+requests (Load edition caller key list ∷ before) = first_asked before (caller, key) edition (body.List list) (requests before)
+requests (Order caller key point value ∷ before) = first_asked before (caller, key) Second (body.Order point value) (requests before)
+requests (Void caller key point slot ∷ before) = first_asked before (caller, key) Second (body.Void point slot) (requests before)
 requests (_ ∷ before) = requests before
 
 -- ---- what first arrivals give
@@ -198,13 +223,18 @@ given (_ ∷ before) = given before
 abbrev pub readings : History → Readings
 readings before = with_rows (given before) []
 
+-- they are kept as counted where they count and their slots aren't voided
+abbrev pub kept_readings : History → Readings
+kept_readings before = marked (voids before) (readings before)
+
 -- ---- the tables
 
 abbrev pub tables : History → Tables
 tables before = record {
   points = points before;
-  readings = readings before;
-  totals = totals.totals_of (points before) (readings before);
+  readings = kept_readings before;
+  voids = voids before;
+  totals = totals.totals_of (points before) (kept_readings before);
   settings = settings before;
   requests = requests before;
   connections = connections before;
@@ -212,4 +242,4 @@ tables before = record {
 
 -- how far a counter went by its counted readings
 abbrev pub total : History → PointRow → ℕ
-total before known = totals.total known (readings before)
+total before known = totals.total known (kept_readings before)

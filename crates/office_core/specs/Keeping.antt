@@ -1,12 +1,14 @@
 -- What a keeper holds, and what is written to it.
-use Rattle.std.specs.Prelude.{◌≡◌, ℕ, ◌<◌, ◌≤◌, All, Contains, ⊤, List, [], ◌∷◌, length, Option, Some, None}
+use Rattle.std.specs.Prelude.{◌≡◌, ℕ, ◌<◌, ◌≤◌, All, Contains, T, ⊤, true, List, [], ◌∷◌, length, Option, Some, None}
 use Rattle.mb_pdu.specs.declared.reply.Reply.{Reply}
 use Rattle.mb_pdu.specs.declared.reply.Reply.TheVariants.{Excepted}
 use Rattle.point_list.specs.declared.site.Site.{Site}
 use Rattle.poll_match.specs.declared.asked.Asked.{Asked}
 use Rattle.poll_match.specs.declared.asked.Asked.TheVariants as asked
 use Rattle.poll_book.specs.declared.rows.Change.{Change}
+use Rattle.std.specs.FinMap.Entries as rows
 use Rattle.poll_book.specs.declared.rows.PointRow.{PointRow}
+use Rattle.poll_book.specs.declared.rows.Reading.{Reading}
 use Rattle.poll_book.specs.declared.rows.SettingRow.{SettingRow}
 use Rattle.poll_book.specs.declared.requests.RequestRow.{RequestRow}
 use Rattle.poll_book.specs.declared.rows.OrderState.{OrderState}
@@ -18,13 +20,22 @@ use Rattle.office_core.specs.Cover.{given_at, reply_cells}
 use Rattle.office_core.specs.Orders.{state_after, settle}
 use Rattle.read_planner.specs.declared.Read.{Read}
 use Rattle.office_core.specs.declared.cover.Asking.{Asking}
-use Rattle.poll_book.specs.Tables.{AreByKey, Tables, Readings, new_rows, with_rows}
-use Rattle.poll_book.specs.Totals.{totals_of}
+use Rattle.poll_book.specs.Tables.{AreByKey, Key, key_cmp, Tables, Readings, marked, new_rows, with_rows}
+use Rattle.poll_book.specs.Totals.{is_counted, totals_of}
 
--- points are numbered, readings lie by key and are of points, and what is stored of each counter is its total
+-- a reading is of a point that is there, and counts for it where it is marked so
+pub record IsOfPoint (points : List PointRow) (row : Key × Reading) : Type 0 where
+  pub point : PointRow
+  pub there : Contains points point
+  pub number : point.number ≡ row.0.0
+  pub counts : row.1.counted ≡ true → is_counted point.point row.1.words ≡ true
+
+-- points are numbered, readings and voids lie by key, readings are of points, and what is stored of each counter is its total
 pub record IsCounted (kept : Tables) : Type 0 where
   pub points : AreNumbered 0 kept.points
   pub by_key : AreByKey kept.readings
+  pub void_keys : T (rows.is_sorted key_cmp kept.voids)
+  pub of_points : All (IsOfPoint kept.points) kept.readings
   pub known : All (λ row. row.0.0 ≤ length kept.points) kept.readings
   pub totals : kept.totals ≡ totals_of kept.points kept.readings
 
@@ -44,19 +55,19 @@ pub record AreCovered (points : List PointRow) (slot : ℕ) (covered : List (Poi
 
 -- a change of nothing
 abbrev pub no_change : Change
-no_change = record { points = []; readings = []; totals = []; setting = None; request = None; connections = None }
+no_change = record { points = []; readings = []; totals = []; void = None; setting = None; request = None; connections = None }
 
 -- a change that keeps a request, with points or a setting
 abbrev pub asked_change : List PointRow → Option SettingRow → RequestRow → Change
-asked_change points setting request = record { points = points; readings = []; totals = []; setting = setting; request = Some request; connections = None }
+asked_change points setting request = record { points = points; readings = []; totals = []; void = None; setting = setting; request = Some request; connections = None }
 
 -- the tables with these readings, and the totals of all
 abbrev pub with_readings : Readings → Tables → Tables
 with_readings table kept = record kept { readings = table; totals = totals_of kept.points table }
 
--- the tables with these readings, where there were none
+-- the tables with these readings, where there were none; in slots that are voided they don't count
 abbrev pub with_given : Readings → Tables → Tables
-with_given rows kept = with_readings (with_rows (new_rows kept.readings rows) kept.readings) kept
+with_given rows kept = with_readings (with_rows (new_rows kept.readings (marked kept.voids rows)) kept.readings) kept
 
 -- the tables with an order settled so, where it waits
 abbrev pub with_state : ℕ → Option OrderState → Tables → Tables

@@ -7,7 +7,7 @@ use Rattle.office_core.specs.Sites.{has_devices}
 use Rattle.poll_book.specs.Callers.{is_caller, is_key}
 use Rattle.poll_book.specs.Requests.{RequestKey}
 use Rattle.office_core.specs.Queries.{Query, unit_id_of, fits}
-use Rattle.office_core.specs.History.{Happening, Restart, Load, Order, Open, Ask, Send, Reply, Noise, History, points, open_line, asked}
+use Rattle.office_core.specs.History.{Happening, Restart, Load, Order, Void, Open, Ask, Send, Reply, Noise, History, points, open_line, asked}
 
 -- a frame answers a query: its unit identifier is the query's, and its unit spells a reply to the request
 abbrev pub frame_answers : Query → Frame → Bool
@@ -36,8 +36,9 @@ IsNumber (negsuc n) = n ≤ 170141183460469231731687303715884105727
 -- what may happen after that history. A site has the devices of the points that were accepted
 abbrev pub MayHappen : History → Happening → Type 0
 MayHappen before (Restart site) = IsSound site × (has_devices site (points before) ≡ true)
-MayHappen before (Load caller key list) = IsBytes list × AreWords (caller, key)
+MayHappen before (Load edition caller key list) = IsBytes list × AreWords (caller, key)
 MayHappen before (Order caller key point value) = IsBytes point × IsNumber value × AreWords (caller, key)
+MayHappen before (Void caller key point slot) = IsBytes point × (slot ≤ 4294967295) × AreWords (caller, key)
 MayHappen before (Open line) = IsBytes line
 MayHappen before (Ask c device slot read) = IsBytes device × (c ≤ 4294967295) × (slot ≤ 4294967295)
 MayHappen before (Send c number) = (c ≤ 4294967295) × (number ≤ 4294967295)

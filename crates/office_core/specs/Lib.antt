@@ -5,6 +5,7 @@ pub mod Queries
 pub mod Registers
 pub mod Loads
 pub mod Orders
+pub mod Voids
 pub mod Sending
 pub mod History
 pub mod Answers
@@ -12,6 +13,7 @@ pub mod Legal
 pub mod Standing
 pub mod Leavings
 pub mod Keeping
+pub mod Showing
 pub mod Offices
 pub mod FirstArrivals
 pub mod KeptRequests
@@ -19,6 +21,7 @@ pub mod SettledOrders
 pub mod SameArrivals
 pub mod AskedAgain
 pub mod Losses
+pub mod OldHistories
 pub mod Fitting
 pub mod Messages
 pub mod ByName

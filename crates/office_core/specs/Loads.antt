@@ -5,6 +5,8 @@ use Rattle.std.specs.Str.{bytes_eq}
 use Rattle.mb_pdu.specs.declared.table.Table.{Table}
 use Rattle.mb_pdu.specs.declared.table.Table.TheVariants.{Coil, Discrete, Holding, Input}
 use Rattle.sunspec.specs.PointType.{row}
+use Rattle.sunspec.specs.declared.word_order.WordOrder.{WordOrder}
+use Rattle.sunspec.specs.declared.word_order.WordOrder.TheVariants.{Big, Swapped}
 use Rattle.point_list.specs.declared.point.Point.{Point}
 use Rattle.point_list.specs.declared.point.Role.{Role}
 use Rattle.point_list.specs.declared.point.Role.TheVariants.{Gauge, Counter, Setting}
@@ -12,6 +14,7 @@ use Rattle.point_list.specs.declared.point.ListRow.{ListRow}
 use Rattle.point_list.specs.declared.error.ListError.{ListError}
 use Rattle.point_list.specs.declared.error.ListFault.TheVariants.{TooManyPoints}
 use Rattle.point_list.specs.declared.site.Site.{Site}
+use Rattle.point_list.specs.Edition.{Edition}
 use Rattle.point_list.specs.Lists.{records_of}
 use Rattle.point_list.specs.Resolving.{list_at}
 use Rattle.poll_book.specs.declared.rows.PointRow.{PointRow}
@@ -37,12 +40,22 @@ same_role Counter Counter = true
 same_role Setting Setting = true
 same_role _ _ = false
 
+abbrev pub same_order : WordOrder → WordOrder → Bool
+same_order Big Big = true
+same_order Swapped Swapped = true
+same_order _ _ = false
+
+-- the same numbers come of the same registers
+abbrev pub same_meaning : Point → Point → Bool
+same_meaning a b =
+    (row a.kind).code == (row b.kind).code && ((row a.kind).registers == (row b.kind).registers
+    && (int_eq a.scale b.scale && same_order a.order b.order))
+
 -- the same definition, field by field; types are the same where codes and numbers of registers are
 abbrev pub same_point : Point → Point → Bool
 same_point a b =
     bytes_eq a.name b.name && (bytes_eq a.device b.device && (same_table a.table b.table && (a.address == b.address
-    && ((row a.kind).code == (row b.kind).code && ((row a.kind).registers == (row b.kind).registers
-    && (int_eq a.scale b.scale && (same_role a.role b.role && a.roll == b.roll)))))))
+    && (same_meaning a b && (same_role a.role b.role && a.roll == b.roll)))))
 
 -- no point of that name is known, or it is this point
 abbrev pub agrees : Point → Option PointRow → Bool
@@ -88,9 +101,9 @@ abbrev pub loading_of : List PointRow → Result (List ListRow) ListError → Lo
 loading_of known (Err e) = Refused (list_reason e)
 loading_of known (Ok rows) = loading_rows known rows (differing known rows)
 
--- a list by the site in force and the points that are known
-abbrev pub loading : Site → List PointRow → List ℕ → Loading
-loading site known list = loading_of known (list_at site (records_of list))
+-- a list by an edition, the site in force and the points that are known
+abbrev pub loading : Edition → Site → List PointRow → List ℕ → Loading
+loading edition site known list = loading_of known (list_at edition site (records_of list))
 
 -- rows one after the other, of which the first has this number
 abbrev pub AreRowsFrom : ℕ → List ListRow → Type 0

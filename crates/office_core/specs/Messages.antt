@@ -2,11 +2,12 @@
 use Rattle.std.specs.Prelude.{ℕ, ◌≤◌, Option, Some, None, if◌then◌else◌, length, slice_get}
 use Rattle.mb_pdu.specs.Replies.{IsBytes}
 use Rattle.mb_mbap.specs.declared.frame.Frame.{Frame}
+use Rattle.point_list.specs.Edition.{Second}
 use Rattle.poll_match.specs.Window.{numbered}
 use Rattle.office_core.specs.declared.event.Event.{Event}
 use Rattle.office_core.specs.declared.event.Event.TheVariants as event
 use Rattle.office_core.specs.Queries.{Query}
-use Rattle.office_core.specs.History.{Happening, Restart, Load, Order, Open, Ask, Send, Reply, Noise, History, site_of, open_line, asked}
+use Rattle.office_core.specs.History.{Happening, Restart, Load, Order, Void, Open, Ask, Send, Reply, Noise, History, site_of, open_line, asked}
 use Rattle.office_core.specs.Legal.{AreWords, IsNumber, frame_answers}
 
 -- a frame that answers the query that it names is a reply to it, and any other is noise
@@ -28,8 +29,9 @@ arriving before conn frame = arriving_over before conn frame (open_line before c
 
 -- what happened where an office sees this
 abbrev pub happening_of : History → Event → Happening
-happening_of before (event.Load caller key list) = Load caller key list
+happening_of before (event.Load caller key list) = Load Second caller key list
 happening_of before (event.Order caller key point value) = Order caller key point value
+happening_of before (event.Void caller key point slot) = Void caller key point slot
 happening_of before (event.Open line) = Open line
 happening_of before (event.Ask conn device slot read) = Ask conn device slot read
 happening_of before (event.Send conn number) = Send conn number
@@ -40,6 +42,7 @@ happening_of before event.Restart = Restart (site_of before)
 abbrev pub IsMessage : Event → Type 0
 IsMessage (event.Load caller key list) = IsBytes list × AreWords (caller, key)
 IsMessage (event.Order caller key point value) = IsBytes point × IsNumber value × AreWords (caller, key)
+IsMessage (event.Void caller key point slot) = IsBytes point × (slot ≤ 4294967295) × AreWords (caller, key)
 IsMessage (event.Open line) = IsBytes line
 IsMessage (event.Ask conn device slot read) = IsBytes device × (conn ≤ 4294967295) × (slot ≤ 4294967295)
 IsMessage (event.Send conn number) = (conn ≤ 4294967295) × (number ≤ 4294967295)

@@ -1,16 +1,16 @@
 -- What an office stands for.
-use Rattle.std.specs.Prelude.{◌≡◌, ℕ, ⊤, List, Option, Some, None, option_map, if◌then◌else◌, Result, Ok, Err, Vec}
+use Rattle.std.specs.Prelude.{◌≡◌, ℕ, ⊤, List, map, Option, Some, None, option_map, if◌then◌else◌, Result, Ok, Err, Vec}
 use Rattle.std.specs.Global.{Global}
 use Rattle.mb_mbap.specs.declared.frame.Frame.{Frame}
 use Rattle.poll_match.specs.Window.{held}
 use Rattle.point_list.specs.declared.site.Site.{Site}
 use Rattle.poll_book.specs.declared.rows.PointRow.{PointRow}
-use Rattle.poll_book.specs.declared.rows.ReadingRow.{ReadingRow}
-use Rattle.poll_book.specs.Changes.{as_rows}
 use Rattle.poll_book.specs.Totals.{is_counter}
-use Rattle.poll_book.specs.Tables.{Readings, Within, readings_between}
+use Rattle.poll_book.specs.Tables.{Within, readings_between}
 use Rattle.poll_book.specs.declared.keeper.Neighbours.{Ghosts}
 use Rattle.office_core.specs.declared.office.Office.{Office}
+use Rattle.office_core.specs.declared.showing.ShownReading.{ShownReading}
+use Rattle.office_core.specs.Showing.{Shown, as_shown, with_marks}
 use Rattle.office_core.specs.declared.error.OfficeError.{OfficeError}
 use Rattle.office_core.specs.declared.event.Arrival.{Arrival}
 use Rattle.office_core.specs.declared.event.Event.{Event}
@@ -25,7 +25,7 @@ use Rattle.poll_book.specs.Fault.{HasCause}
 use Rattle.office_core.specs.Errors.{IsCaused, IsCounted}
 use Rattle.office_core.specs.Loads.{known_named}
 use Rattle.poll_book.specs.Requests.{RequestKey, request_at}
-use Rattle.office_core.specs.History.{History, points, readings, settings, requests, total}
+use Rattle.office_core.specs.History.{History, points, kept_readings, settings, requests, total, voids}
 use Rattle.office_core.specs.Leavings.{Leaves, LeavesAll}
 use Rattle.office_core.specs.Standing.{StandsFor}
 
@@ -104,18 +104,18 @@ AnswerCaused cause _ = ⊤
 
 -- ---- queries by a point's name
 
-abbrev pub readings_at : History → Option PointRow → ℕ → ℕ → Option Readings
+abbrev pub readings_at : History → Option PointRow → ℕ → ℕ → Option (List Shown)
 readings_at before None from to = None
-readings_at before (Some known) from to = Some (readings_between known.number from to (readings before))
+readings_at before (Some known) from to = Some (with_marks (voids before) (readings_between known.number from to (kept_readings before)))
 
--- the readings of a known point in the slots from the one to the other
-abbrev pub readings_of : History → List ℕ → ℕ → ℕ → Option Readings
+-- the readings of a known point in the slots from the one to the other, with whether these are voided
+abbrev pub readings_of : History → List ℕ → ℕ → ℕ → Option (List Shown)
 readings_of before name from to = readings_at before (known_named (points before) name) from to
 
 -- rows that are these readings, or none
-abbrev pub Shows : Option Readings → Option (Vec ReadingRow Global) → Type 0
+abbrev pub Shows : Option (List Shown) → Option (Vec ShownReading Global) → Type 0
 Shows None None = ⊤
-Shows (Some table) (Some rows) = as_rows rows.items ≡ table
+Shows (Some table) (Some rows) = map as_shown rows.items ≡ table
 Shows table rows = ⊥
 
 abbrev pub total_at : History → Option PointRow → Option ℕ

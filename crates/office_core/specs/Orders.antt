@@ -19,7 +19,7 @@ use Rattle.office_core.specs.declared.error.OfficeError.{OfficeError}
 use Rattle.office_core.specs.declared.error.OfficeError.TheVariants as error
 use Rattle.office_core.specs.declared.site.Target.{Target}
 use Rattle.office_core.specs.Sites.{target}
-use Rattle.office_core.specs.Registers.{registers_of}
+use Rattle.office_core.specs.Registers.{registers_for}
 use Rattle.office_core.specs.Queries.{Writing, Query, Reads, Writes, fits, is_excepted, exception_code}
 
 -- ---- what becomes of an order
@@ -42,7 +42,7 @@ ordering_words orders point (Some words) = if nat_le 1000000 orders then Refused
 abbrev pub ordering_of : ℕ → Option PointRow → ℤ → Ordering
 ordering_of orders None value = Refused fault.UnknownPoint
 ordering_of orders (Some known) value =
-    if is_setting known.point.role then ordering_words orders known.number (registers_of known.point.kind value)
+    if is_setting known.point.role then ordering_words orders known.number (registers_for known.point value)
     else Refused fault.NotASetting
 
 -- an accepted order takes the next number

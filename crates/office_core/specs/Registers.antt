@@ -1,9 +1,11 @@
 -- The registers that mean a number (SunSpec Device Information Model, point types).
-use Rattle.std.specs.Prelude.{ℕ, zero, suc, ◌-◌, ◌/◌, ◌%◌, ◌^◌, ℤ, pos, negsuc, nat_lt, List, [], ◌∷◌, Option, Some, None, if◌then◌else◌}
+use Rattle.std.specs.Prelude.{ℕ, zero, suc, ◌-◌, ◌/◌, ◌%◌, ◌^◌, ℤ, pos, negsuc, nat_lt, List, [], ◌∷◌, Option, Some, None, option_map, if◌then◌else◌}
 use Rattle.sunspec.specs.PointType.{row, bits_of, is_unimplemented}
 use Rattle.sunspec.specs.declared.point_type.PointType.{PointType}
 use Rattle.sunspec.specs.declared.point_type.Content.{Content}
 use Rattle.sunspec.specs.declared.point_type.Content.TheVariants.{Signed, Unsigned, Address, Bit, Text}
+use Rattle.sunspec.specs.WordOrder.{arranged}
+use Rattle.point_list.specs.declared.point.Point.{Point}
 
 -- the sum of registers that means the number in so many bits, two's complement where they have a sign
 abbrev pub unsigned_sum : ℕ → ℤ → Option ℕ
@@ -34,3 +36,7 @@ registers_meaning kind (Some sum) = if is_unimplemented (row kind).unimplemented
 -- the registers of a type whose value is the number, if there are any
 abbrev pub registers_of : PointType → ℤ → Option (List ℕ)
 registers_of kind number = registers_meaning kind (sum_of (row kind).content (bits_of kind) number)
+
+-- those of a point, in the order in which they are sent
+abbrev pub registers_for : Point → ℤ → Option (List ℕ)
+registers_for point number = option_map (arranged point.order) (registers_of point.kind number)

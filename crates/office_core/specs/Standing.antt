@@ -1,5 +1,6 @@
 -- How an office stands for a history, and what it sees of one.
 use Rattle.std.specs.Prelude.{◌≡◌, ℕ, ◌+◌, Bool, true, false, not, if◌then◌else◌, List, [], ◌∷◌, length, Option, Some, None, option_map, slice_get, ⊤}
+use Rattle.point_list.specs.Edition.{Second}
 use Rattle.point_list.specs.declared.site.Site.{Site}
 use Rattle.poll_match.specs.declared.asked.Matched.{Matched}
 use Rattle.poll_match.specs.Window.{Open as OpenOne, Changes, IsLeastOf, closed, held, last_of, line_of}
@@ -12,7 +13,7 @@ use Rattle.office_core.specs.declared.event.EventAnswer.{EventAnswer}
 use Rattle.office_core.specs.declared.event.EventAnswer.TheVariants as answer
 use Rattle.office_core.specs.declared.event.RequestAnswer.TheVariants.{Kept, KeyReused}
 use Rattle.office_core.specs.Queries.{Query, asked_of}
-use Rattle.office_core.specs.History.{Happening, Restart, Load, Order, Open, Ask, Send, Reply, Noise, History, after, tables, site_of, points, open_line, asked, is_answered}
+use Rattle.office_core.specs.History.{Happening, Restart, Load, Order, Void, Open, Ask, Send, Reply, Noise, History, after, tables, site_of, points, open_line, asked, is_answered}
 use Rattle.office_core.specs.Answers.{answer_of, answers_of, reply_frame}
 use Rattle.office_core.specs.Legal.{MayHappen, Legal}
 
@@ -45,12 +46,13 @@ pub record StandsFor (holds : Tables → Type 0) (now : Site) (known : List Poin
   pub points : known ≡ points before
   pub connections : (conn : ℕ) → held conn all ≡ open_of before conn
 
--- ---- what the office sees of what happens
+-- ---- what the office sees of what happens, in which lists are of the second edition
 
 abbrev pub Sees : History → Happening → Event → Type 0
 Sees before (Restart site) event.Restart = site ≡ site_of before
-Sees before (Load caller key list) (event.Load c k seen) = (c ≡ caller) × (k ≡ key) × (seen ≡ list)
+Sees before (Load edition caller key list) (event.Load c k seen) = (c ≡ caller) × (k ≡ key) × (seen ≡ list) × (Second ≡ edition)
 Sees before (Order caller key point value) (event.Order c k p v) = (c ≡ caller) × (k ≡ key) × (p ≡ point) × (v ≡ value)
+Sees before (Void caller key point slot) (event.Void c k p s) = (c ≡ caller) × (k ≡ key) × (p ≡ point) × (s ≡ slot)
 Sees before (Open line) (event.Open seen) = seen ≡ line
 Sees before (Ask c device slot read) (event.Ask conn name s r) = (conn ≡ c) × (name ≡ device) × (s ≡ slot) × (r ≡ read)
 Sees before (Send c number) (event.Send conn n) = (conn ≡ c) × (n ≡ number)

@@ -37,7 +37,7 @@ fn bring_readings<K: Keeper>(
     ensures leaves { K.is_clean keeper.new → (kept : Tables) → K.holds keeper.old kept → IsCopy known.now kept
         → Within (K.may_leave keeper.new) (LeftAfter (K.may_leave keeper.old) kept (brought_read site.now known.now asking.now reply.now kept) (is_err result)) }
     ensures cause { Accounts K.may_refuse (K.refused keeper.old) (K.refused keeper.new) result }
-    ensures looks { IsRaisedAtMost (4 * length (covered_at site.now known.now asking.now)) (K.looked keeper.old) (K.looked keeper.new) }
+    ensures looks { IsRaisedAtMost (5 * length (covered_at site.now known.now asking.now)) (K.looked keeper.old) (K.looked keeper.new) }
     ensures err { OnErr result (Within (K.holds keeper.old) (K.holds keeper.new)) }
     ensures clean { K.is_clean keeper.new → K.is_clean keeper.old }
 {
@@ -99,7 +99,7 @@ pub(crate) fn bring<K: Keeper>(
     ensures leaves { K.is_clean keeper.new → (kept : Tables) → K.holds keeper.old kept → IsCopy known.now kept
         → Within (K.may_leave keeper.new) (LeftAfter (K.may_leave keeper.old) kept (brought site.now known.now asked.now reply.now kept) (is_err result)) }
     ensures cause { Accounts K.may_refuse (K.refused keeper.old) (K.refused keeper.new) result }
-    ensures looks { IsRaisedAtMost (4 * length (covered_by site.now known.now asked.now)) (K.looked keeper.old) (K.looked keeper.new) }
+    ensures looks { IsRaisedAtMost (5 * length (covered_by site.now known.now asked.now)) (K.looked keeper.old) (K.looked keeper.new) }
     ensures err { OnErr result (Within (K.holds keeper.old) (K.holds keeper.new)) }
     ensures clean { K.is_clean keeper.new → K.is_clean keeper.old }
 {

@@ -11,12 +11,8 @@ pub(crate) fn connection_change(alloc: Global, connections: u32) -> Change
     ensures { result ≡ record no_change { connections = Some connections } }
 {
     Change {
-        points: Items::from_vec(Vec::new(alloc)),
-        readings: Items::from_vec(Vec::new(alloc)),
-        totals: Items::from_vec(Vec::new(alloc)),
-        setting: None,
-        request: None,
         connections: Some(connections),
+        ..Change::none(alloc)
     }
 }
 
@@ -25,17 +21,13 @@ pub(crate) fn state_change(alloc: Global, order: u32, setting: Setting, state: O
     ensures { result ≡ record no_change { setting = Some (record { number = order; point = setting.point; words = setting.words; state = state }) } }
 {
     Change {
-        points: Items::from_vec(Vec::new(alloc)),
-        readings: Items::from_vec(Vec::new(alloc)),
-        totals: Items::from_vec(Vec::new(alloc)),
         setting: Some(SettingRow {
             number: order,
             point: setting.point,
             words: setting.words,
             state,
         }),
-        request: None,
-        connections: None,
+        ..Change::none(alloc)
     }
 }
 
@@ -50,10 +42,18 @@ pub(crate) fn request_change(
 {
     Change {
         points: Items::from_vec(points),
-        readings: Items::from_vec(Vec::new(alloc)),
-        totals: Items::from_vec(Vec::new(alloc)),
         setting,
         request: Some(request),
-        connections: None,
+        ..Change::none(alloc)
+    }
+}
+
+/// A change with the request that it keeps besides.
+pub(crate) fn with_request(change: Change, request: RequestRow) -> Change
+    ensures { result ≡ record change { request = Some request } }
+{
+    Change {
+        request: Some(request),
+        ..change
     }
 }

@@ -58,7 +58,7 @@ pub(crate) fn keep_readings<K: Keeper>(
     ensures leaves { K.is_clean keeper.new → (kept : Tables) → K.holds keeper.old kept → IsCounted kept → AreCovered kept.points slot covered.now
         → Within (K.may_leave keeper.new) (LeftAfter (K.may_leave keeper.old) kept (with_given (keyed slot covered.now) kept) (is_err result)) }
     ensures cause { Accounts K.may_refuse (K.refused keeper.old) (K.refused keeper.new) result }
-    ensures looks { IsRaisedAtMost (4 * length covered.now) (K.looked keeper.old) (K.looked keeper.new) }
+    ensures looks { IsRaisedAtMost (5 * length covered.now) (K.looked keeper.old) (K.looked keeper.new) }
     ensures err { OnErr result (Within (K.holds keeper.old) (K.holds keeper.new)) }
     ensures clean { K.is_clean keeper.new → K.is_clean keeper.old }
 {

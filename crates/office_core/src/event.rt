@@ -12,6 +12,8 @@ pub enum Event {
     Load(Caller, Key, Items<u8>),
     /// A value for a setting, by the point's name, from a caller under a key of its own.
     Order(Caller, Key, Text, i128),
+    /// A slot of a counter that doesn't count, by the point's name, from a caller under a key of its own.
+    Void(Caller, Key, Text, u32),
     /// A line by its name.
     Open(Text),
     /// A read of a device, by its name, for a slot.

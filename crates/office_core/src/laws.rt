@@ -1,6 +1,7 @@
 //! Laws of the definitions alone.
 
-ghost use Rattle.std.specs.Prelude.{◌≡◌, ◌⊎◌, ◌↔◌, ◌≤◌, ℕ, ◌+◌, ◌*◌, All, Contains, false, List, ◌++◌, length, Some, IsSome};
+ghost use Rattle.std.specs.Prelude.{[], ◌≡◌, ◌⊎◌, ◌↔◌, ◌≤◌, ℕ, ◌+◌, ◌*◌, All, Contains, false, List, ◌++◌, length, Some, IsSome};
+ghost use Rattle.sunspec.specs.declared.word_order.WordOrder.TheVariants as WordOrder;
 ghost use Rattle.read_planner.specs.Place.{CanBeRead};
 ghost use Rattle.poll_book.specs.declared.requests.Request.{Request};
 ghost use Rattle.poll_book.specs.declared.rows.OrderState.{OrderState};
@@ -14,7 +15,7 @@ ghost use Rattle.poll_book.specs.Tables.{Tables, reading_at};
 ghost use Rattle.office_core.specs.declared.event.Event.{Event};
 ghost use Rattle.office_core.specs.declared.event.EventAnswer.{EventAnswer};
 ghost use Rattle.office_core.specs.Fitting.{IsFitting};
-ghost use Rattle.office_core.specs.History.{Happening, History, after, points, readings, settings, requests, tables, total};
+ghost use Rattle.office_core.specs.History.{Happening, History, after, points, readings, settings, requests, tables, total, voids};
 ghost use Rattle.office_core.specs.Leavings.{IsOfRefused, LeftBy, happened};
 ghost use Rattle.office_core.specs.Legal.{Legal, MayHappen};
 ghost use Rattle.office_core.specs.Messages.{IsMessage, happening_of};
@@ -22,6 +23,7 @@ ghost use Rattle.office_core.specs.Queries.{Writing};
 ghost use Rattle.office_core.specs.Standing.{Sees};
 ghost use Rattle.office_core.specs.FirstArrivals.{IsReadingOf, AreBySlot, sum_of_steps, numbers_of};
 ghost use Rattle.office_core.specs.Losses.{HasReadingsOf, first_slot, last_slot};
+ghost use Rattle.office_core.specs.OldHistories.{IsOld};
 ghost use Rattle.office_core.specs.SameArrivals.{HaveSameArrivals, HasEqualCopies};
 ghost use Rattle.office_core.specs.AskedAgain.{AgreeOnWords, HaveSameSlots};
 ghost use Rattle.office_core.specs.KeptRequests.{IsFirstRequest, OrderedUnder};
@@ -29,7 +31,7 @@ ghost use Rattle.office_core.specs.SettledOrders.{IsSend, IsOldest, IsSettledBy}
 
 /// The reading of a point in a slot is what the earliest unit gave to it that was the first reply to
 /// a query of that slot; and a total is the sum of the steps from slot to slot, over the slots whose
-/// readings count, whatever the order in which they came.
+/// readings count and that aren't voided, whatever the order in which they came.
 pub fn first_arrivals()
     ensures some { (before : History) (point slot : ℕ) (reading : Reading) → Legal before
         → (reading_at (readings before) (point, slot) ≡ Some reading) ↔ IsReadingOf before point slot reading }
@@ -51,27 +53,35 @@ pub fn order_free()
 {}
 
 /// Asking again changes nothing: two histories with the same points, in which the same slots of a point
-/// have readings, leave the same readings and totals, however often reads were asked and whatever was lost
-/// on the way, where any two replies that give words to one slot of a point give it the same.
+/// have readings, leave the same readings, and the same totals where the same slots are voided, however often
+/// reads were asked and whatever was lost on the way, where any two replies that give words to one slot of a
+/// point give it the same.
 pub fn asked_again()
     ensures readings { (one other : History) → Legal one → Legal other → points one ≡ points other → HaveSameSlots one other → AgreeOnWords one other
         → readings one ≡ readings other }
-    ensures totals { (one other : History) → Legal one → Legal other → points one ≡ points other → HaveSameSlots one other → AgreeOnWords one other
+    ensures totals { (one other : History) → Legal one → Legal other → points one ≡ points other → voids one ≡ voids other → HaveSameSlots one other → AgreeOnWords one other
         → (known : PointRow) → total one known ≡ total other known }
 {}
 
-/// Readings that are lost never raise a total. Take two histories with the same points, of which the one
+/// Readings that are lost never raise a total. Take two histories with the same points and voids, of which the one
 /// has each reading of a counter that the other has: its total is no smaller; and where the least and the
 /// greatest slot that count are the same, it is greater by whole rounds of the counter, at most one for
 /// each reading more that counts.
 pub fn losses()
-    ensures lost { (less more : History) (known : PointRow) → Legal less → Legal more → points less ≡ points more
+    ensures lost { (less more : History) (known : PointRow) → Legal less → Legal more → points less ≡ points more → voids less ≡ voids more
         → Contains (points less) known → HasReadingsOf more less known → total less known ≤ total more known }
-    ensures rounds { (less more : History) (known : PointRow) → Legal less → Legal more → points less ≡ points more
+    ensures rounds { (less more : History) (known : PointRow) → Legal less → Legal more → points less ≡ points more → voids less ≡ voids more
         → Contains (points less) known → HasReadingsOf more less known
         → (xs ys : List (ℕ × ℕ)) → AreBySlot less known xs → AreBySlot more known ys
         → first_slot xs ≡ first_slot ys → last_slot xs ≡ last_slot ys
         → (k : ℕ) × (total less known + k * (known.point.roll + 1) ≡ total more known) × (k + length xs ≤ length ys) }
+{}
+
+/// In a history as there were before lists could say an order of words and slots could be voided, no point has
+/// its registers swapped and no slot is voided.
+pub fn old_histories()
+    ensures plain { (before : History) → IsOld before → All (λ (known : PointRow). known.point.order ≡ WordOrder.Big) (points before) }
+    ensures unvoided { (before : History) → IsOld before → voids before ≡ [] }
 {}
 
 /// What is kept under a caller's key is the first request under it, with what became of it where it

@@ -17,8 +17,11 @@ mod names;
 mod office;
 mod orders;
 mod requests;
+mod showing;
 mod site;
+mod voids;
 
 pub use error::OfficeError;
 pub use event::{Arrival, Event, EventAnswer, RequestAnswer};
 pub use office::Office;
+pub use showing::ShownReading;

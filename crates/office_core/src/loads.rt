@@ -2,6 +2,7 @@
 ghost use Rattle.std.specs.Prelude.{◌≡◌, ◌≢◌, ◌≤◌, ◌+◌, ◌⊎◌, [], List, false, is_none, length, not, option_map, IfOk, IfErr, OnOk, Ok, Err};
 ghost use Rattle.std.specs.List.{position};
 ghost use Rattle.std.specs.Str.{bytes_eq};
+ghost use Rattle.point_list.specs.Edition.{Second};
 ghost use Rattle.point_list.specs.Lists.{IsMemory, records_of};
 ghost use Rattle.point_list.specs.Resolving.{list_at};
 ghost use Rattle.point_list.specs.Sites.{IsSound};
@@ -50,6 +51,15 @@ pub(crate) fn known_named(known: &[PointRow], name: &[u8]) -> Option<PointRow>
     }
 }
 
+fn is_same_meaning(a: &Point, b: &Point) -> bool
+    ensures { result ≡ loads.same_meaning a.now b.now }
+{
+    a.kind.code() == b.kind.code()
+        && a.kind.registers() == b.kind.registers()
+        && a.scale == b.scale
+        && a.order == b.order
+}
+
 fn is_same_point(a: &Point, b: &Point) -> bool
     ensures { result ≡ loads.same_point a.now b.now }
 {
@@ -57,9 +67,7 @@ fn is_same_point(a: &Point, b: &Point) -> bool
         && a.device == b.device
         && a.table == b.table
         && a.address == b.address
-        && a.kind.code() == b.kind.code()
-        && a.kind.registers() == b.kind.registers()
-        && a.scale == b.scale
+        && is_same_meaning(a, b)
         && a.role == b.role
         && a.roll == b.roll
 }
@@ -205,9 +213,9 @@ fn judge_fault(alloc: Global, error: ListError) -> Result<(Outcome, Vec<PointRow
 /// places by model.
 fn points_in(alloc: Global, site: &Site, list: &[u8]) -> Result<Vec<Point>, ListError>
     requires { IsSound site.now }
-    ensures points { IfOk result (λ v. (rows : List ListRow) × (list_at site.now (records_of list.now) ≡ Ok rows) × ArePointsOf rows v.items) }
+    ensures points { IfOk result (λ v. (rows : List ListRow) × (list_at Second site.now (records_of list.now) ≡ Ok rows) × ArePointsOf rows v.items) }
     ensures few { IfOk result (λ v. length v.items ≤ 10000) }
-    ensures fault { IfErr result (λ e. IsMemory e ⊎ (list_at site.now (records_of list.now) ≡ Err e)) }
+    ensures fault { IfErr result (λ e. IsMemory e ⊎ (list_at Second site.now (records_of list.now) ≡ Err e)) }
 {
     match read_list(alloc, list, site) {
         Ok(rows) => resolve(alloc, rows, site),
@@ -225,8 +233,8 @@ pub(crate) fn judge(
 ) -> Result<(Outcome, Vec<PointRow>), StoreFault>
     requires sound { IsSound site.now }
     requires many { length known.now ≤ 10000 }
-    ensures outcome { IfOk result (λ x. x.0 ≡ loads.outcome (loads.loading site.now known.now list.now)) }
-    ensures added { IfOk result (λ x. x.1.items ≡ loads.added (length known.now) (loads.loading site.now known.now list.now)) }
+    ensures outcome { IfOk result (λ x. x.0 ≡ loads.outcome (loads.loading Second site.now known.now list.now)) }
+    ensures added { IfOk result (λ x. x.1.items ≡ loads.added (length known.now) (loads.loading Second site.now known.now list.now)) }
     ensures few { IfOk result (λ x. length known.now + length x.1.items ≤ 10000) }
     ensures memory { IfErr result (λ e. e ≡ StoreFault.Memory) }
 {

@@ -13,7 +13,7 @@ ghost use Rattle.office_core.specs.Loads as loads;
 ghost use Rattle.office_core.specs.Standing.{Closes, Goes, Runs, is_refusal};
 
 use crate::arrival::bring;
-use crate::changes::{connection_change, request_change};
+use crate::changes::{connection_change, request_change, with_request};
 use crate::commit::{commit, write};
 use crate::cover::is_readable;
 use crate::error::OfficeError;
@@ -21,13 +21,13 @@ use crate::event::{Arrival, Event, EventAnswer, RequestAnswer};
 use crate::lacking::some_lacks;
 use crate::loads::{judge, known_named};
 use crate::orders::{judge_order, judge_send};
-use crate::requests::{list_again, list_row, order_again, order_row};
+use crate::requests::{list_again, list_row, order_again, order_row, void_again, void_row};
+use crate::showing::{ShownReading, shown};
 use crate::site::{Target, find_target, has_devices, line_place};
+use crate::voids::judge_void;
 use mb_mbap::Frame;
 use point_list::{Role, Site};
-use poll_book::{
-    Caller, Keeper, Key, OrderState, PointRow, ReadingRow, Request, SettingRow, StoreFault,
-};
+use poll_book::{Caller, Keeper, Key, OrderState, PointRow, Request, SettingRow, StoreFault};
 use poll_match::{Asked, Conn, Matcher};
 use read_planner::Read;
 use std::alloc::{AllocError, Global};
@@ -99,6 +99,7 @@ fn former<K: Keeper>(
     ensures value { K.is_clean keeper.new → (kept : Tables) → K.holds keeper.old kept
         → IfOk result (λ found. found ≡ request_at kept.requests (caller.now, key.now)) }
     ensures cause { Accounts K.may_refuse (K.refused keeper.old) (K.refused keeper.new) result }
+    ensures looked { K.looked keeper.new ≡ K.looked keeper.old }
     ensures same { Within (K.holds keeper.old) (K.holds keeper.new) }
     ensures leaves { K.is_clean keeper.new → Within (K.may_leave keeper.new) (K.may_leave keeper.old) }
     ensures clean { K.is_clean keeper.new → K.is_clean keeper.old }
@@ -282,6 +283,64 @@ impl<K: Keeper> Office<K> {
         })
     }
 
+    /// Takes a slot of the counter of a name out of its total for good, whether its reading came before or
+    /// comes after, and keeps what became of that under the caller's key. The reading stays. Refusals, in this
+    /// order: no point of this name is known; its role isn't counter; 1,000,000 slots are voided and this isn't
+    /// one of them. A slot that was voided before is accepted again without effect. The same void under the key
+    /// again is told what became of the first, and another request gets `KeyReused`. The error is `Store` alone:
+    /// then nothing is kept.
+    pub fn void(
+        &mut self,
+        caller: &Caller,
+        key: &Key,
+        point: &str,
+        slot: u32,
+    ) -> Result<RequestAnswer, OfficeError>
+        ensures goes { K.is_clean (keeper_of self.new) → Goes (Stands self.old) (Stands self.new) (Event.Void caller.now key.now point.now slot) (told_so result) }
+        ensures leaves { K.is_clean (keeper_of self.new) → LeavesSo self.old self.new (Event.Void caller.now key.now point.now slot) (told_so result) }
+        ensures cause { IfErr result (λ e. IsOfStore (CauseFrom self.old self.new) e) }
+        ensures counted { K.refused (keeper_of self.old) ≤ K.refused (keeper_of self.new) }
+        ensures looks { IsRaisedAtMost 6 (K.looked (keeper_of self.old)) (K.looked (keeper_of self.new)) }
+        ensures same { is_refusal (told_so result) ≡ true → IsAlike self.old self.new }
+        ensures clean { K.is_clean (keeper_of self.new) → K.is_clean (keeper_of self.old) }
+    {
+        if let Some(first) = former(self.alloc, &mut self.keeper, caller, key)? {
+            return Ok(void_again(&first, point, slot));
+        }
+        self.void_new(caller, key, point, slot)
+    }
+
+    // A void under a key that wasn't used.
+    fn void_new(
+        &mut self,
+        caller: &Caller,
+        key: &Key,
+        point: &str,
+        slot: u32,
+    ) -> Result<RequestAnswer, OfficeError>
+        ensures goes { K.is_clean (keeper_of self.new) → Goes (StandsUnused self.old (caller.now, key.now)) (Stands self.new) (Event.Void caller.now key.now point.now slot) (told_so result) }
+        ensures leaves { K.is_clean (keeper_of self.new) → LeavesUnused (caller.now, key.now) self.old self.new (Event.Void caller.now key.now point.now slot) (told_so result) }
+        ensures cause { IfErr result (λ e. IsOfStore (CauseFrom self.old self.new) e) }
+        ensures counted { K.refused (keeper_of self.old) ≤ K.refused (keeper_of self.new) }
+        ensures looks { IsRaisedAtMost 6 (K.looked (keeper_of self.old)) (K.looked (keeper_of self.new)) }
+        ensures same { is_refusal (told_so result) ≡ true → IsAlike self.old self.new }
+        ensures clean { K.is_clean (keeper_of self.new) → K.is_clean (keeper_of self.old) }
+    {
+        let (outcome, change) = judge_void(
+            self.alloc,
+            &mut self.keeper,
+            &self.points,
+            point,
+            slot,
+        )?;
+        let request = void_row(self.alloc, caller, key, point, slot, outcome)?;
+        write(&mut self.keeper, with_request(change, request))?;
+        Ok(RequestAnswer::Kept {
+            first: true,
+            outcome,
+        })
+    }
+
     /// Opens a line, and closes its former connection. The new one takes the number after the
     /// keeper's last. `WrongLine` for a line that isn't in the site, `Exhausted` where no number is
     /// left, and `Store`: then the former connection stays open, and the number isn't used.
@@ -369,7 +428,7 @@ impl<K: Keeper> Office<K> {
         ensures leaves { K.is_clean (keeper_of self.new) → LeavesSo self.old self.new (Event.Arrive conn frame.now) (arrived result) }
         ensures cause { IfErr result (λ e. IsCaused (CauseFrom self.old self.new) e) }
         ensures counted { K.refused (keeper_of self.old) ≤ K.refused (keeper_of self.new) }
-        ensures looks { IsRaisedAtMost (4 * length (covered_of self.old conn frame.now)) (K.looked (keeper_of self.old)) (K.looked (keeper_of self.new)) }
+        ensures looks { IsRaisedAtMost (5 * length (covered_of self.old conn frame.now)) (K.looked (keeper_of self.old)) (K.looked (keeper_of self.new)) }
         ensures same { OnErr result (IsAlike self.old self.new) }
         ensures clean { K.is_clean (keeper_of self.new) → K.is_clean (keeper_of self.old) }
     {
@@ -411,6 +470,9 @@ impl<K: Keeper> Office<K> {
             Event::Order(caller, key, point, value) => {
                 EventAnswer::from(self.order(caller, key, point.as_str(), *value))
             }
+            Event::Void(caller, key, point, slot) => {
+                EventAnswer::from(self.void(caller, key, point.as_str(), *slot))
+            }
             Event::Open(line) => EventAnswer::from(self.open_line(line.as_str())),
             Event::Ask(conn, device, slot, read) => {
                 EventAnswer::from(self.ask(*conn, device.as_str(), *slot, *read))
@@ -442,13 +504,14 @@ impl<K: Keeper> Office<K> {
         Ok(told)
     }
 
-    /// The readings of a point in the slots `from` to `to`, by slot; `None` for an unknown point.
+    /// The readings of a point in the slots `from` to `to`, by slot, each with whether its slot is voided;
+    /// `None` for an unknown point.
     pub fn readings(
         &mut self,
         point: &str,
         from: u32,
         to: u32,
-    ) -> Result<Option<Vec<ReadingRow>>, OfficeError>
+    ) -> Result<Option<Vec<ShownReading>>, OfficeError>
         ensures value { K.is_clean (keeper_of self.new) → (before : History) → Stands self.old before
             → IfOk result (λ rows. Shows (readings_of before point.now from to) rows) }
         ensures cause { IfErr result (λ e. IsOfStore (CauseFrom self.old self.new) e) }
@@ -461,7 +524,7 @@ impl<K: Keeper> Office<K> {
             return Ok(None);
         };
         let rows = self.keeper.readings(self.alloc, &row, from, to)?;
-        Ok(Some(rows))
+        Ok(Some(shown(self.alloc, &mut self.keeper, &row, rows)?))
     }
 
     /// Whether some known point of a device that a read covers has no reading in the slot.

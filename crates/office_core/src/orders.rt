@@ -15,14 +15,14 @@ use crate::error::OfficeError;
 use crate::loads::known_named;
 use crate::site::{Target, find_target};
 use mb_pdu::Registers;
-use point_list::{Role, Site};
+use point_list::{Point, Role, Site};
 use poll_book::{
     Keeper, OrderState, Outcome, PointRow, Reason, RequestFault, Setting, SettingRow, StoreFault,
     Words,
 };
 use poll_match::{Asked, Payload};
 use std::alloc::{AllocError, Global};
-use sunspec::{PointType, to_registers};
+use sunspec::to_ordered;
 
 /// At most so many orders exist.
 const MOST: u32 = 1_000_000;
@@ -39,11 +39,11 @@ fn refused(fault: RequestFault) -> (Outcome, Option<SettingRow>)
     (Outcome::RefusedFor(reason), None)
 }
 
-/// The registers of a type whose value is the number, if there are any.
-fn registers_of(kind: &PointType, number: i128) -> Option<Registers>
-    ensures { result ≡ registers.registers_of kind.now number }
+/// The registers of a point whose value is the number, as they are sent, if there are any.
+fn registers_for(point: &Point, number: i128) -> Option<Registers>
+    ensures { result ≡ registers.registers_for point.now number }
 {
-    match to_registers(kind, number) {
+    match to_ordered(&point.kind, point.order, number) {
         Ok(words) => Some(words),
         Err(_) => None,
     }
@@ -66,7 +66,7 @@ fn place_order(
     let Role::Setting = known.point.role else {
         return Ok(refused(RequestFault::NotASetting));
     };
-    let Some(registers) = registers_of(&known.point.kind, value) else {
+    let Some(registers) = registers_for(&known.point, value) else {
         return Ok(refused(RequestFault::OutOfRange));
     };
     if orders >= MOST {

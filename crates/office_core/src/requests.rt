@@ -16,6 +16,7 @@ fn is_list(asked: &Body, list: &[u8]) -> bool
     match asked {
         Body::List(bytes) => bytes.as_slice() == list,
         Body::Order { .. } => false,
+        Body::Void { .. } => false,
     }
 }
 
@@ -29,6 +30,21 @@ fn is_order(asked: &Body, point: &str, value: i128) -> bool
             point: name,
             value: number,
         } => name.as_str() == point && *number == value,
+        Body::Void { .. } => false,
+    }
+}
+
+/// Whether a caller voided this slot of this point.
+fn is_void(asked: &Body, point: &str, slot: u32) -> bool
+    ensures { result ≡ answers.same_body asked.now (body.Void point.now slot) }
+{
+    match asked {
+        Body::List(_) => false,
+        Body::Order { .. } => false,
+        Body::Void {
+            point: name,
+            slot: number,
+        } => name.as_str() == point && *number == slot,
     }
 }
 
@@ -58,6 +74,13 @@ pub(crate) fn order_again(first: &Request, point: &str, value: i128) -> RequestA
     ensures { (outcome : AnOutcome) → result ≡ answers.answer_again (Some first.now) (body.Order point.now value) outcome }
 {
     told_again(first, is_order(&first.body, point, value))
+}
+
+/// The answer to a void whose key was used before.
+pub(crate) fn void_again(first: &Request, point: &str, slot: u32) -> RequestAnswer
+    ensures { (outcome : AnOutcome) → result ≡ answers.answer_again (Some first.now) (body.Void point.now slot) outcome }
+{
+    told_again(first, is_void(&first.body, point, slot))
 }
 
 /// What is kept of a list.
@@ -94,6 +117,26 @@ pub(crate) fn order_row(
         caller: *caller,
         key: *key,
         body: Body::Order { point, value },
+        outcome,
+    })
+}
+
+/// What is kept of a void.
+pub(crate) fn void_row(
+    alloc: Global,
+    caller: &Caller,
+    key: &Key,
+    point: &str,
+    slot: u32,
+    outcome: Outcome,
+) -> Result<RequestRow, AllocError>
+    ensures { IfOk result (λ row. row ≡ record { caller = caller.now; key = key.now; body = body.Void point.now slot; outcome = outcome }) }
+{
+    let point = Text::from_string(String::from_str(alloc, point)?);
+    Ok(RequestRow {
+        caller: *caller,
+        key: *key,
+        body: Body::Void { point, slot },
         outcome,
     })
 }

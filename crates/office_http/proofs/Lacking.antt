@@ -6,12 +6,13 @@ use Rattle.sunspec.specs.Digits.{number_of}
 use Rattle.office_http.specs.declared.fields.Length.{Length}
 use Rattle.office_http.specs.declared.fields.Length.TheVariants.{Missing, Bad, TooLarge, Of}
 use Rattle.office_http.specs.Fields.{FieldText, count_in, is_named, length_of, length_in, length_within, named_count}
-use Rattle.office_http.specs.Places.{Place, orders, lists, readings, total}
+use Rattle.office_http.specs.Places.{Place, orders, lists, voids, readings, total}
 use Rattle.office_http.specs.declared.heard.Methods.TheVariants.{Get, Put, GetPut}
 use Rattle.office_http.specs.declared.heard.Refusal.TheVariants.{BadRequest, NotAllowed}
 use Rattle.office_http.specs.Numbers.{range_of, slot_of}
 use Rattle.office_http.specs.Orders.{order_of}
-use Rattle.office_http.specs.Meanings.{Meaning, are_words, asked_of, in_range, is_get, is_put, load, order_under, ordered, refused, total_of, with_body}
+use Rattle.office_http.specs.Voids.{void_of}
+use Rattle.office_http.specs.Meanings.{Meaning, are_words, asked_of, in_range, is_get, is_put, load, order_under, ordered, refused, total_of, voided, with_body}
 
 -- ---- the length of a body is at most its limit
 
@@ -103,6 +104,15 @@ lacks_until (Some (lists caller key)) method fields rest e =
     let other = refused (NotAllowed Put) in
     let put_none = then_none (is_put method) (put rest) other e in
     let few = few_of (load caller key) rest (length_of fields) (then_none (are_words caller key) (body rest) bad put_none) in
+    (few.0, λ later less. then_too (is_put method) (put rest) (put later) other e (then_too (are_words caller key) (body rest) (body later) bad put_none (few.1 later less)))
+lacks_until (Some (voids caller key)) method fields rest e =
+    let bad = refused BadRequest in
+    let make : List ℕ → Meaning = λ body. voided caller key (void_of body) in
+    let body : List ℕ → Option Meaning = λ later. with_body make later (length_of fields) in
+    let put : List ℕ → Option Meaning = λ later. if are_words caller key then body later else Some bad in
+    let other = refused (NotAllowed Put) in
+    let put_none = then_none (is_put method) (put rest) other e in
+    let few = few_of make rest (length_of fields) (then_none (are_words caller key) (body rest) bad put_none) in
     (few.0, λ later less. then_too (is_put method) (put rest) (put later) other e (then_too (are_words caller key) (body rest) (body later) bad put_none (few.1 later less)))
 lacks_until (Some (readings point from to)) method fields rest e =
     let asked = in_range point (range_of (slot_of from) (slot_of to)) in

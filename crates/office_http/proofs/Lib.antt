@@ -3,6 +3,7 @@ mod Finding
 mod More
 mod OnePlace
 mod Lacking
+mod Worded
 mod Reading
 mod Judged
 mod OneMeaning

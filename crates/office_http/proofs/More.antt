@@ -8,8 +8,9 @@ use Rattle.office_http.specs.declared.fields.Length.TheVariants.{Missing, Bad, T
 use Rattle.office_http.specs.declared.heard.Refusal.TheVariants.{BadRequest}
 use Rattle.office_http.specs.Fields.{FieldText, length_of}
 use Rattle.office_http.specs.Orders.{order_of}
-use Rattle.office_http.specs.Places.{Place, orders, lists, readings, total}
-use Rattle.office_http.specs.Meanings.{Meaning, refused, load, ordered, with_body, are_words, is_get, is_put, asked_of}
+use Rattle.office_http.specs.Voids.{void_of}
+use Rattle.office_http.specs.Places.{Place, orders, lists, voids, readings, total}
+use Rattle.office_http.specs.Meanings.{Meaning, refused, load, ordered, voided, with_body, are_words, is_get, is_put, asked_of}
 
 is_within : (n k : ℕ) → n ≤ k → nat_le n k ≡ true
 is_within n k le = le-leb n k le
@@ -52,6 +53,11 @@ asked_more (Some (orders caller key)) method fields rest more m e =
 asked_more (Some (lists caller key)) method fields rest more m e =
     let bad : Option Meaning = Some (refused BadRequest) in
     let words = if_same (are_words caller key) (with_body (load caller key) rest (length_of fields)) (with_body (load caller key) (rest ++ more) (length_of fields)) bad m (body_more (load caller key) rest more (length_of fields) m) in
+    if_same (is_put method) _ _ _ m words e
+asked_more (Some (voids caller key)) method fields rest more m e =
+    let make : List ℕ → Meaning = λ body. voided caller key (void_of body) in
+    let bad : Option Meaning = Some (refused BadRequest) in
+    let words = if_same (are_words caller key) (with_body make rest (length_of fields)) (with_body make (rest ++ more) (length_of fields)) bad m (body_more make rest more (length_of fields) m) in
     if_same (is_put method) _ _ _ m words e
 asked_more (Some (readings point from to)) method fields rest more m e = e
 asked_more (Some (total point)) method fields rest more m e = e

@@ -2,9 +2,9 @@
 use Rattle.std.proofs.Common.{◌≡◌, ℕ, List, ◌++◌, refl, sym, ap, ◌∙◌, arith, Option, Some, None, codes}
 use Rattle.std.proofs.lemmas.List.{append_cancel_left, append_cancel_right}
 use Rattle.office_http.specs.declared.routes.Route.{Route}
-use Rattle.office_http.specs.declared.routes.Route.TheVariants.{Orders, Lists, Readings, Total}
+use Rattle.office_http.specs.declared.routes.Route.TheVariants.{Orders, Lists, Voids, Readings, Total}
 use Rattle.office_http.specs.Routes.{route_of}
-use Rattle.office_http.specs.Places.{Place, orders, lists, readings, total, IsPlain, IsPlace, Names, spell}
+use Rattle.office_http.specs.Places.{Place, orders, lists, voids, readings, total, IsPlain, IsPlace, Names, spell}
 use Rattle.office_http.proofs.Slashes.{same_parts}
 
 -- a route as a number
@@ -14,6 +14,7 @@ number (Some Orders) = 1
 number (Some Lists) = 2
 number (Some Readings) = 3
 number (Some Total) = 4
+number (Some Voids) = 5
 
 -- a front before a part, a slash and a second front
 after : (front second a b c d t : List ℕ) → t ≡ front ++ spell a (second ++ b) → t ≡ front ++ spell c (second ++ d) → IsPlain a → IsPlain c → (a ≡ c) × (b ≡ d)
@@ -29,6 +30,9 @@ place_once t (orders a b) (orders c d) x y =
 place_once t (lists a b) (lists c d) x y =
     let both = after (codes "/callers/") (codes "lists/") a b c d t x.1 y.1 x.2 y.2 in
     ap (λ u. lists u b) both.0 ∙ ap (lists c) both.1
+place_once t (voids a b) (voids c d) x y =
+    let both = after (codes "/callers/") (codes "voids/") a b c d t x.1 y.1 x.2 y.2 in
+    ap (λ u. voids u b) both.0 ∙ ap (voids c) both.1
 place_once t (readings a b c) (readings d e f) x y =
     let both = after (codes "/points/") (codes "readings/") a (spell b c) d (spell e f) t x.1 y.1 x.2 y.2 in
     let slots = same_parts b c e f both.1 x.3 y.3 in
@@ -47,6 +51,14 @@ place_once t (readings a b c) (total d) x y = let e : 3 ≡ 4 = ap number (sym x
 place_once t (total a) (orders c d) x y = let e : 4 ≡ 1 = ap number (sym x.0 ∙ y.0) in absurd (omega (arith, e))
 place_once t (total a) (lists c d) x y = let e : 4 ≡ 2 = ap number (sym x.0 ∙ y.0) in absurd (omega (arith, e))
 place_once t (total a) (readings c d e) x y = let e : 4 ≡ 3 = ap number (sym x.0 ∙ y.0) in absurd (omega (arith, e))
+place_once t (orders a b) (voids c d) x y = let e : 1 ≡ 5 = ap number (sym x.0 ∙ y.0) in absurd (omega (arith, e))
+place_once t (lists a b) (voids c d) x y = let e : 2 ≡ 5 = ap number (sym x.0 ∙ y.0) in absurd (omega (arith, e))
+place_once t (readings a b c) (voids d e) x y = let e : 3 ≡ 5 = ap number (sym x.0 ∙ y.0) in absurd (omega (arith, e))
+place_once t (total a) (voids c d) x y = let e : 4 ≡ 5 = ap number (sym x.0 ∙ y.0) in absurd (omega (arith, e))
+place_once t (voids a b) (orders c d) x y = let e : 5 ≡ 1 = ap number (sym x.0 ∙ y.0) in absurd (omega (arith, e))
+place_once t (voids a b) (lists c d) x y = let e : 5 ≡ 2 = ap number (sym x.0 ∙ y.0) in absurd (omega (arith, e))
+place_once t (voids a b) (readings c d e) x y = let e : 5 ≡ 3 = ap number (sym x.0 ∙ y.0) in absurd (omega (arith, e))
+place_once t (voids a b) (total c) x y = let e : 5 ≡ 4 = ap number (sym x.0 ∙ y.0) in absurd (omega (arith, e))
 
 -- what a target names is told in one way
 pub names_once : (t : List ℕ) (p q : Option Place) → Names t p → Names t q → p ≡ q
@@ -75,6 +87,7 @@ pub no_slots : (t point slots : List ℕ) → route_of t ≡ Some Readings → t
     → ((a b : List ℕ) → slots ≡ spell a b → ⊥) → (place : Place) → IsPlace t place → ⊥
 no_slots t point slots route e plain none (orders a b) is = let e : 3 ≡ 1 = ap number (sym route ∙ is.0) in omega (arith, e)
 no_slots t point slots route e plain none (lists a b) is = let e : 3 ≡ 2 = ap number (sym route ∙ is.0) in omega (arith, e)
+no_slots t point slots route e plain none (voids a b) is = let e : 3 ≡ 5 = ap number (sym route ∙ is.0) in omega (arith, e)
 no_slots t point slots route e plain none (readings p from to) is =
     none from to (after (codes "/points/") (codes "readings/") point slots p (spell from to) t e is.1 plain is.2).1
 no_slots t point slots route e plain none (total a) is = let e : 3 ≡ 4 = ap number (sym route ∙ is.0) in omega (arith, e)

@@ -66,6 +66,10 @@ order_text order (state.Refused code) = refused_order_text order code
 abbrev pub total_text : List ℕ → List ℕ → List ℕ
 total_text point total = compact_text (object (member (codes "point") (string point) (member (codes "total") (string total) no_members)))
 
+-- a void that was accepted
+abbrev pub void_text : List ℕ → ℕ → List ℕ
+void_text point slot = compact_text (object (member (codes "point") (string point) (member (codes "slot") (number (unsigned slot)) no_members)))
+
 -- a value as text; null where the device has none
 abbrev pub value_data : Option (List ℕ) → Data
 value_data (Some text) = string text

@@ -1,12 +1,13 @@
 -- What a `Place` stands for.
 use Rattle.std.specs.Prelude.{Option, Some, None}
 use Rattle.office_http.specs.declared.place.Place.{Place as Found}
-use Rattle.office_http.specs.declared.place.Place.TheVariants.{Orders, Lists, Readings, Total}
-use Rattle.office_http.specs.Places.{Place, orders, lists, readings, total}
+use Rattle.office_http.specs.declared.place.Place.TheVariants.{Orders, Lists, Voids, Readings, Total}
+use Rattle.office_http.specs.Places.{Place, orders, lists, voids, readings, total}
 
 abbrev pub place_in : Found → Place
 place_in (Orders caller key) = orders caller.now key.now
 place_in (Lists caller key) = lists caller.now key.now
+place_in (Voids caller key) = voids caller.now key.now
 place_in (Readings point from to) = readings point.now from.now to.now
 place_in (Total point) = total point.now
 

@@ -7,7 +7,9 @@ pub mod Routes
 pub mod Places
 pub mod Found
 pub mod Numbers
+pub mod Documents
 pub mod Orders
+pub mod Voids
 pub mod Meanings
 pub mod Bodies
 pub mod Heads

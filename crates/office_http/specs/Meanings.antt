@@ -10,7 +10,8 @@ use Rattle.office_http.specs.declared.heard.Refusal.TheVariants.{BadRequest, Not
 use Rattle.office_http.specs.Fields.{FieldText, length_of}
 use Rattle.office_http.specs.Numbers.{slot_of, range_of}
 use Rattle.office_http.specs.Orders.{order_of}
-use Rattle.office_http.specs.Places.{Place, orders, lists, readings, total}
+use Rattle.office_http.specs.Places.{Place, orders, lists, voids, readings, total}
+use Rattle.office_http.specs.Voids.{void_of}
 
 pub data Meaning : Type 0 where
   -- no byte came
@@ -18,6 +19,7 @@ pub data Meaning : Type 0 where
   refused : Refusal → Meaning
   load : (caller key list : List ℕ) → Meaning
   order : (caller key point : List ℕ) (value : ℤ) → Meaning
+  void : (caller key point : List ℕ) (slot : ℕ) → Meaning
   order_under : (caller key : List ℕ) → Meaning
   readings_of : (point : List ℕ) (from to : ℕ) → Meaning
   total_of : (point : List ℕ) → Meaning
@@ -43,6 +45,11 @@ abbrev pub ordered : List ℕ → List ℕ → Option (List ℕ × ℤ) → Mean
 ordered caller key (Some it) = order caller key it.0 it.1
 ordered caller key None = refused BadRequest
 
+-- the void that a body names
+abbrev pub voided : List ℕ → List ℕ → Option (List ℕ × ℕ) → Meaning
+voided caller key (Some it) = void caller key it.0 it.1
+voided caller key None = refused BadRequest
+
 abbrev pub in_range : List ℕ → Option (ℕ × ℕ) → Meaning
 in_range point (Some range) = readings_of point range.0 range.1
 in_range point None = refused BadRequest
@@ -59,6 +66,9 @@ asked_at (orders caller key) method fields rest =
     else Some (refused (NotAllowed GetPut))
 asked_at (lists caller key) method fields rest =
     if is_put method then (if are_words caller key then with_body (load caller key) rest (length_of fields) else Some (refused BadRequest))
+    else Some (refused (NotAllowed Put))
+asked_at (voids caller key) method fields rest =
+    if is_put method then (if are_words caller key then with_body (λ body. voided caller key (void_of body)) rest (length_of fields) else Some (refused BadRequest))
     else Some (refused (NotAllowed Put))
 asked_at (readings point from to) method fields rest =
     if is_get method then Some (in_range point (range_of (slot_of from) (slot_of to))) else Some (refused (NotAllowed Get))

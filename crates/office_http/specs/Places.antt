@@ -1,12 +1,13 @@
 -- What a target names.
 use Rattle.std.specs.Prelude.{◌≡◌, ℕ, ◌==◌, not, true, List, ◌∷◌, ◌++◌, codes, Option, Some, None}
 use Rattle.std.specs.List.{list_all}
-use Rattle.office_http.specs.declared.routes.Route.TheVariants.{Orders, Lists, Readings, Total}
+use Rattle.office_http.specs.declared.routes.Route.TheVariants.{Orders, Lists, Voids, Readings, Total}
 use Rattle.office_http.specs.Routes.{route_of}
 
 pub data Place : Type 0 where
   orders : (caller key : List ℕ) → Place
   lists : (caller key : List ℕ) → Place
+  voids : (caller key : List ℕ) → Place
   readings : (point from to : List ℕ) → Place
   total : (point : List ℕ) → Place
 
@@ -22,6 +23,7 @@ spell part more = part ++ 47 ∷ more
 abbrev pub IsPlace : List ℕ → Place → Type 0
 IsPlace target (orders caller key) = (route_of target ≡ Some Orders) × (target ≡ codes "/callers/" ++ spell caller (codes "orders/" ++ key)) × IsPlain caller
 IsPlace target (lists caller key) = (route_of target ≡ Some Lists) × (target ≡ codes "/callers/" ++ spell caller (codes "lists/" ++ key)) × IsPlain caller
+IsPlace target (voids caller key) = (route_of target ≡ Some Voids) × (target ≡ codes "/callers/" ++ spell caller (codes "voids/" ++ key)) × IsPlain caller
 IsPlace target (readings point from to) =
     (route_of target ≡ Some Readings) × (target ≡ codes "/points/" ++ spell point (codes "readings/" ++ spell from to)) × IsPlain point × IsPlain from
 IsPlace target (total point) = (route_of target ≡ Some Total) × (target ≡ codes "/points/" ++ (point ++ codes "/total"))

@@ -7,7 +7,7 @@ use Rattle.matchit.specs.Router.{RouteOf, route_from}
 use Rattle.matchit.specs.Seek.{first}
 use Rattle.matchit.specs.declared.error.InsertError.{InsertError}
 use Rattle.office_http.specs.declared.routes.Route.{Route}
-use Rattle.office_http.specs.declared.routes.Route.TheVariants.{Orders, Lists, Readings, Total}
+use Rattle.office_http.specs.declared.routes.Route.TheVariants.{Orders, Lists, Voids, Readings, Total}
 
 abbrev pub with_scan : Result Scan InsertError → Route → RowsOf (RouteOf Route) → RowsOf (RouteOf Route)
 with_scan (Ok s) route rows = placed (s.pattern, route_from s route) rows
@@ -18,7 +18,9 @@ abbrev pub with_route : List ℕ → Route → RowsOf (RouteOf Route) → RowsOf
 with_route text route rows = with_scan (parse_route text) route rows
 
 abbrev pub caller_routes : RowsOf (RouteOf Route)
-caller_routes = with_route (codes "/callers/{caller}/lists/{key}") Lists (with_route (codes "/callers/{caller}/orders/{key}") Orders [])
+caller_routes =
+    with_route (codes "/callers/{caller}/voids/{key}") Voids
+    (with_route (codes "/callers/{caller}/lists/{key}") Lists (with_route (codes "/callers/{caller}/orders/{key}") Orders []))
 
 -- the routes of an office
 abbrev pub the_routes : RowsOf (RouteOf Route)

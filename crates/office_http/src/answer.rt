@@ -1,12 +1,12 @@
 //! The bytes of an answer.
 ghost use Rattle.std.specs.Prelude.{◌≡◌, [], IfOk, codes, map, string_bytes};
-ghost use Rattle.office_http.specs.Answers.{answer_of_parts, answer_text, error_text, first_status, list_refused_text, methods_text, one_text, order_text, points_text, readings_text, refusal_text, total_text, unavailable_text};
+ghost use Rattle.office_http.specs.Answers.{answer_of_parts, answer_text, error_text, first_status, list_refused_text, methods_text, one_text, order_text, points_text, readings_text, refusal_text, total_text, unavailable_text, void_text};
 ghost use Rattle.office_http.specs.declared.status.Status.TheVariants.{Conflict, Done, Unprocessable};
 ghost use Rattle.office_http.specs.Shown.{shown};
 ghost use Rattle.poll_book.specs.declared.rows.OrderState.TheVariants.{Waiting};
 
 use crate::bodies::{
-    error_body, list_refused_body, order_body, points_body, refused_body, total_body,
+    error_body, list_refused_body, order_body, points_body, refused_body, total_body, void_body,
 };
 use crate::heard::{Methods, Refusal};
 use crate::reading_body::{Shown, readings_body};
@@ -115,12 +115,20 @@ pub fn ordered(alloc: Global, is_first: bool, number: u32) -> Result<String, All
     answer(alloc, first(is_first), "", body.as_str())
 }
 
-/// To an order that was refused.
-pub fn order_refused(alloc: Global, text: &str) -> Result<String, AllocError>
+/// To an order or a void that was refused.
+pub fn request_refused(alloc: Global, text: &str) -> Result<String, AllocError>
     ensures { IfOk result (λ answer. string_bytes answer ≡ answer_text Unprocessable [] (one_text (codes "refused") text.now)) }
 {
     let body = refused_body(alloc, text)?;
     answer(alloc, Status::Unprocessable, "", body.as_str())
+}
+
+/// To a void that was accepted.
+pub fn voided(alloc: Global, is_first: bool, point: &str, slot: u32) -> Result<String, AllocError>
+    ensures { IfOk result (λ answer. string_bytes answer ≡ answer_text (first_status is_first) [] (void_text point.now slot)) }
+{
+    let body = void_body(alloc, point, slot)?;
+    answer(alloc, first(is_first), "", body.as_str())
 }
 
 /// How an order stands.

@@ -2,7 +2,7 @@
 ghost use Rattle.std.specs.Prelude.{◌≡◌, IfOk, codes, string_bytes};
 ghost use Rattle.serde_json.specs.Data.{string};
 ghost use Rattle.serde_json.specs.Written.{compact_text};
-ghost use Rattle.office_http.specs.Answers.{error_text, list_refused_text, one_text, order_text, points_text, refused_order_text, state_text, total_text};
+ghost use Rattle.office_http.specs.Answers.{error_text, list_refused_text, one_text, order_text, points_text, refused_order_text, state_text, total_text, void_text};
 
 use poll_book::OrderState;
 use serde_json::json;
@@ -75,6 +75,12 @@ pub(crate) fn order_body(alloc: Global, order: u32, state: OrderState) -> Result
         OrderState::Done => state_body(alloc, order, "done"),
         OrderState::Refused(code) => refused_order_body(alloc, order, code),
     }
+}
+
+pub(crate) fn void_body(alloc: Global, point: &str, slot: u32) -> Result<String, AllocError>
+    ensures { IfOk result (λ body. string_bytes body ≡ void_text point.now slot) }
+{
+    json!(in alloc; {"point": point, "slot": slot})?.to_string(alloc)
 }
 
 pub(crate) fn total_body(alloc: Global, point: &str, total: &str) -> Result<String, AllocError>

@@ -43,6 +43,13 @@ pub enum Heard {
         point: String,
         value: i128,
     },
+    /// A caller's void of a slot, under a key.
+    Void {
+        caller: Caller,
+        key: Key,
+        point: String,
+        slot: u32,
+    },
     /// What became of the order under a caller's key.
     OrderUnder {
         caller: Caller,

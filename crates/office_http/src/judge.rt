@@ -2,19 +2,22 @@
 ghost use Rattle.std.specs.Prelude.{◌≡◌, ◌&&◌, ℕ, List, All, Some, None, IfOk, length, map, option_map, if◌then◌else◌};
 ghost use Rattle.httparse.specs.Spans.{header_bytes, IsHeaderWithin};
 ghost use Rattle.poll_book.specs.Callers.{is_caller, is_key};
+ghost use Rattle.office_http.specs.Bodies.{made_of};
 ghost use Rattle.office_http.specs.Heard.{meaning_in, meaning_of};
 ghost use Rattle.office_http.specs.Found.{place_of};
 ghost use Rattle.office_http.specs.declared.heard.Refusal.TheVariants.{BadRequest};
-ghost use Rattle.office_http.specs.Meanings.{are_words, asked_at, asked_of, in_range, is_get, is_put, load, order_under, ordered, refused, total_of, with_body};
+ghost use Rattle.office_http.specs.Meanings.{are_words, asked_at, asked_of, in_range, is_get, is_put, load, order_under, ordered, refused, total_of, voided, with_body};
 ghost use Rattle.office_http.specs.Numbers.{range_of, slot_of};
 ghost use Rattle.office_http.specs.Orders.{order_of};
 ghost use Rattle.office_http.specs.Places as place;
+ghost use Rattle.office_http.specs.Voids.{void_of};
 
 use crate::body::{Body, body_of};
 use crate::fields::{Length, body_length};
 use crate::heard::{Heard, Methods, Refusal};
 use crate::order::order_of;
 use crate::place::Place;
+use crate::void::void_of;
 use httparse::spans::HeaderSpan;
 use poll_book::{Caller, Key};
 use std::alloc::{AllocError, Global};
@@ -99,6 +102,21 @@ fn ordered(alloc: Global, caller: Caller, key: Key, body: &[u8]) -> Result<Heard
     })
 }
 
+/// The void of a body.
+fn voided(alloc: Global, caller: Caller, key: Key, body: &[u8]) -> Result<Heard, AllocError>
+    ensures { IfOk result (λ asked. meaning_of asked ≡ voided caller key (void_of body.now)) }
+{
+    Ok(match void_of(alloc, body)? {
+        Some((point, slot)) => Heard::Void {
+            caller,
+            key,
+            point,
+            slot,
+        },
+        None => Heard::Refused(Refusal::BadRequest),
+    })
+}
+
 fn put_list(
     alloc: Global,
     caller: &str,
@@ -136,6 +154,38 @@ fn put_order(
         Body::Refused(refusal) => Ok(Some(Heard::Refused(refusal))),
         Body::Lacking => Ok(None),
         Body::Whole(body) => Ok(Some(ordered(alloc, caller, key, body)?)),
+    }
+}
+
+/// The void of a body, as far as that came.
+fn voided_by(
+    alloc: Global,
+    caller: Caller,
+    key: Key,
+    body: Body<'_>,
+) -> Result<Option<Heard>, AllocError>
+    ensures { IfOk result (λ asked. meaning_in asked ≡ made_of (λ body. voided caller key (void_of body)) body.entry) }
+{
+    match body {
+        Body::Refused(refusal) => Ok(Some(Heard::Refused(refusal))),
+        Body::Lacking => Ok(None),
+        Body::Whole(body) => Ok(Some(voided(alloc, caller, key, body)?)),
+    }
+}
+
+fn put_void(
+    alloc: Global,
+    caller: &str,
+    key: &str,
+    length: Length,
+    rest: &[u8],
+) -> Result<Option<Heard>, AllocError>
+    ensures { IfOk result (λ asked. meaning_in asked
+        ≡ (if are_words caller.now key.now then with_body (λ body. voided caller.now key.now (void_of body)) rest.now length else Some (refused BadRequest))) }
+{
+    match words(caller, key) {
+        Some((caller, key)) => voided_by(alloc, caller, key, body_of(length, rest)),
+        None => Ok(Some(Heard::Refused(Refusal::BadRequest))),
     }
 }
 
@@ -208,6 +258,25 @@ fn at_list(
     put_list(alloc, caller, key, length, rest)
 }
 
+/// What a head asks for at a void.
+fn at_void(
+    alloc: Global,
+    caller: &str,
+    key: &str,
+    head: Head<'_>,
+    rest: &[u8],
+) -> Result<Option<Heard>, AllocError>
+    requires { All (IsHeaderWithin (length head.bytes.now)) head.fields.now }
+    ensures { IfOk result (λ asked. meaning_in asked
+        ≡ asked_at (place.voids caller.now key.now) head.entry.method.now (map (header_bytes head.entry.bytes.now) head.entry.fields.now) rest.now) }
+{
+    if !is_put(head.method) {
+        return Ok(Some(Heard::Refused(Refusal::NotAllowed(Methods::Put))));
+    }
+    let length = body_length(head.bytes, head.fields);
+    put_void(alloc, caller, key, length, rest)
+}
+
 /// What a head asks for at a place; `None` while bytes of its body lack.
 pub(crate) fn asked_at(
     alloc: Global,
@@ -225,6 +294,7 @@ pub(crate) fn asked_at(
     match place {
         Place::Orders { caller, key } => at_order(alloc, caller, key, head, rest),
         Place::Lists { caller, key } => at_list(alloc, caller, key, head, rest),
+        Place::Voids { caller, key } => at_void(alloc, caller, key, head, rest),
         _ if !is_get(head.method) => { Ok(Some(Heard::Refused(Refusal::NotAllowed(Methods::Get)))) }
         Place::Readings { point, from, to } => Ok(Some(get_readings(alloc, point, from, to)?)),
         Place::Total { point } => Ok(Some(get_total(alloc, point)?)),

@@ -7,6 +7,7 @@
 pub mod answer;
 mod bodies;
 mod body;
+mod document;
 mod exchange;
 mod fields;
 mod head;
@@ -19,6 +20,7 @@ mod reading_body;
 mod routes;
 mod status;
 mod verdict;
+mod void;
 
 pub use exchange::Exchange;
 pub use heard::{Heard, Methods, Refusal};

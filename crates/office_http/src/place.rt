@@ -18,6 +18,10 @@ pub(crate) enum Place<'t> {
         caller: &'t str,
         key: &'t str,
     },
+    Voids {
+        caller: &'t str,
+        key: &'t str,
+    },
     Readings {
         point: &'t str,
         from: &'t str,
@@ -92,6 +96,10 @@ pub(crate) fn place_of<'t>(router: &Router<Route>, target: &'t str) -> Option<Pl
         Route::Lists => {
             let (caller, key) = parts(target, "/callers/", "lists/")?;
             Some(Place::Lists { caller, key })
+        }
+        Route::Voids => {
+            let (caller, key) = parts(target, "/callers/", "voids/")?;
+            Some(Place::Voids { caller, key })
         }
         Route::Readings => {
             let (point, slots) = parts(target, "/points/", "readings/")?;

@@ -11,6 +11,7 @@ use std::alloc::{AllocError, Global};
 pub(crate) enum Route {
     Orders,
     Lists,
+    Voids,
     Readings,
     Total,
 }
@@ -27,6 +28,12 @@ fn caller_routes(alloc: Global) -> Result<Router<Route>, AllocError>
     }
     if router
         .insert("/callers/{caller}/lists/{key}", Route::Lists)
+        .is_err()
+    {
+        return Err(AllocError);
+    }
+    if router
+        .insert("/callers/{caller}/voids/{key}", Route::Voids)
         .is_err()
     {
         return Err(AllocError);

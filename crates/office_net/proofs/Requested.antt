@@ -88,11 +88,11 @@ module _ (stood stands : History → Type 0) (might may : Tables → Type 0) (me
   }
 
   -- it happened, and its answer is told
-  pub answers : (refusal : Reason → List ℕ) → ((now : History) → reply_text now meaning ≡ event_reply refusal (answer_of now h)) → (answer : RequestAnswer)
-      → Happens stood stands might may (λ _. h) (told.Request answer) → (text : List ℕ) → text ≡ request_reply refusal answer → Answers stood stands might may meaning text
-  answers refusal replies answer it text so = record {
+  pub answers : (refusal : Reason → List ℕ) (point : List ℕ) → ((now : History) → reply_text now meaning ≡ event_reply refusal point (answer_of now h)) → (answer : RequestAnswer)
+      → Happens stood stands might may (λ _. h) (told.Request answer) → (text : List ℕ) → text ≡ request_reply refusal point answer → Answers stood stands might may meaning text
+  answers refusal point replies answer it text so = record {
     acts = acts (told.Request answer) it;
-    answered = λ now s. so ∙ ap (event_reply refusal) (it.answered now s) ∙ sym (replies now);
+    answered = λ now s. so ∙ ap (event_reply refusal point) (it.answered now s) ∙ sym (replies now);
   }
 
 module _ (stood stands : History → Type 0) (might may : Tables → Type 0) (meaning : Meaning) (is : event_of meaning ≡ None) where

@@ -10,8 +10,8 @@ ghost use Rattle.office_net.specs.Following.{Follows, MayLeave, Stays};
 ghost use Rattle.office_net.specs.Replies.{order_reply, readings_reply, state_reply, total_reply, under_reply};
 ghost use Rattle.office_net.specs.Serving.{Answers, Unanswered};
 
-use crate::replies::{list_reply, not_found, order_refused, order_reply, readings_reply};
-use crate::requests::{fault_of, load, order, order_state, readings, request_of, total};
+use crate::replies::{list_reply, not_found, order_refused, point_reply, readings_reply};
+use crate::requests::{fault_of, load, order, order_state, readings, request_of, total, void};
 use office_core::Office;
 use office_core::laws::fitting_tables;
 use office_http::{Heard, answer};
@@ -60,7 +60,30 @@ fn put_order<K: Keeper>(
         Ok(told) => told,
         Err(error) => return Err(fault_of(error)),
     };
-    let text = order_reply(alloc, &told)?;
+    let text = point_reply(alloc, point, &told)?;
+    Ok(text)
+}
+
+fn put_void<K: Keeper>(
+    alloc: Global,
+    office: &mut Office<K>,
+    caller: &Caller,
+    key: &Key,
+    point: &str,
+    slot: u32,
+) -> Result<String, StoreFault>
+    ensures goes { K.is_clean (keeper_of office.new) → MatchResult result
+        (λ text. Answers (Follows office.old) (Follows office.new) (MayLeave office.old) (MayLeave office.new) (meanings.void caller.now key.now point.now slot) (string_bytes text))
+        (λ _. Unanswered (Follows office.old) (Follows office.new) (MayLeave office.old) (MayLeave office.new) (meanings.void caller.now key.now point.now slot)) }
+    ensures cause { IfErr result (CauseFrom office.old office.new) }
+    ensures counted { K.refused (keeper_of office.old) ≤ K.refused (keeper_of office.new) }
+    ensures clean { K.is_clean (keeper_of office.new) → K.is_clean (keeper_of office.old) }
+{
+    let told = match void(office, caller, key, point, slot) {
+        Ok(told) => told,
+        Err(error) => return Err(fault_of(error)),
+    };
+    let text = point_reply(alloc, point, &told)?;
     Ok(text)
 }
 
@@ -104,7 +127,7 @@ fn get_outcome<K: Keeper>(
     ensures clean { K.is_clean (keeper_of office.new) → K.is_clean (keeper_of office.old) }
 {
     match outcome {
-        Outcome::Loaded(_) => Ok(not_found(alloc)?),
+        Outcome::Loaded(_) | Outcome::Voided(_) => Ok(not_found(alloc)?),
         Outcome::Ordered(number) => get_state(alloc, office, *number),
         Outcome::RefusedFor(reason) => Ok(order_refused(alloc, reason)?),
     }
@@ -132,7 +155,7 @@ fn get_order<K: Keeper>(
         return Ok(not_found(alloc)?);
     };
     match &request.body {
-        Body::List(_) => Ok(not_found(alloc)?),
+        Body::List(_) | Body::Void { .. } => Ok(not_found(alloc)?),
         Body::Order { .. } => get_outcome(alloc, office, &request.outcome),
     }
 }
@@ -221,6 +244,12 @@ pub fn respond<K: Keeper>(
             point,
             value,
         } => put_order(alloc, office, caller, key, point.as_str(), *value),
+        Heard::Void {
+            caller,
+            key,
+            point,
+            slot,
+        } => put_void(alloc, office, caller, key, point.as_str(), *slot),
         Heard::OrderUnder { caller, key } => get_order(alloc, office, caller, key),
         Heard::Readings { point, from, to } => get_readings(
             alloc,

@@ -1,12 +1,14 @@
 //! The answers to requests, of what the office told.
-ghost use Rattle.std.specs.Prelude.{◌≡◌, IfOk, map, string_bytes};
+ghost use Rattle.std.specs.Prelude.{◌≡◌, [], IfOk, map, string_bytes};
 ghost use Rattle.sunspec.specs.Value.{AreRegistersOf};
-ghost use Rattle.poll_book.specs.Changes.{as_row, as_rows};
+ghost use Rattle.poll_book.specs.Changes.{as_row};
 ghost use Rattle.office_core.specs.Fitting.{AreOf, HasForm};
+ghost use Rattle.office_core.specs.Showing.{as_shown};
 ghost use Rattle.office_http.specs.Shown as entries;
+ghost use Rattle.office_report.specs.Reports.{rows_of};
 ghost use Rattle.office_net.specs.Replies.{list_refusal, not_found, order_refusal, request_reply, rows_reply, shown_row};
 
-use office_core::RequestAnswer;
+use office_core::{RequestAnswer, ShownReading};
 use office_http::{Refusal, Shown, answer};
 use office_report::reading_text;
 use point_list::Point;
@@ -31,32 +33,38 @@ pub(crate) fn order_refused(alloc: Global, reason: &Reason) -> Result<String, Al
     ensures { IfOk result (λ text. string_bytes text ≡ order_refusal reason.now) }
 {
     let fault = reason.fault.to_string(alloc)?;
-    answer::order_refused(alloc, fault.as_str())
+    answer::request_refused(alloc, fault.as_str())
 }
 
 /// To a list.
 pub(crate) fn list_reply(alloc: Global, told: &RequestAnswer) -> Result<String, AllocError>
-    ensures { IfOk result (λ text. string_bytes text ≡ request_reply list_refusal told.now) }
+    ensures { IfOk result (λ text. string_bytes text ≡ request_reply list_refusal [] told.now) }
 {
     match told {
         RequestAnswer::KeyReused => answer::key_reused(alloc),
         RequestAnswer::Kept { first, outcome } => match outcome {
             Outcome::Loaded(count) => answer::loaded(alloc, *first, *count),
             Outcome::Ordered(order) => answer::ordered(alloc, *first, *order),
+            Outcome::Voided(slot) => answer::voided(alloc, *first, "", *slot),
             Outcome::RefusedFor(reason) => list_refused(alloc, reason),
         },
     }
 }
 
-/// To an order.
-pub(crate) fn order_reply(alloc: Global, told: &RequestAnswer) -> Result<String, AllocError>
-    ensures { IfOk result (λ text. string_bytes text ≡ request_reply order_refusal told.now) }
+/// To an order or a void of a point.
+pub(crate) fn point_reply(
+    alloc: Global,
+    point: &str,
+    told: &RequestAnswer,
+) -> Result<String, AllocError>
+    ensures { IfOk result (λ text. string_bytes text ≡ request_reply order_refusal point.now told.now) }
 {
     match told {
         RequestAnswer::KeyReused => answer::key_reused(alloc),
         RequestAnswer::Kept { first, outcome } => match outcome {
             Outcome::Loaded(count) => answer::loaded(alloc, *first, *count),
             Outcome::Ordered(number) => answer::ordered(alloc, *first, *number),
+            Outcome::Voided(slot) => answer::voided(alloc, *first, point, *slot),
             Outcome::RefusedFor(reason) => order_refused(alloc, reason),
         },
     }
@@ -74,13 +82,17 @@ fn shown_of(alloc: Global, point: &Point, row: &ReadingRow) -> Result<Shown, All
     })
 }
 
-fn shown_rows(alloc: Global, point: &Point, rows: &[ReadingRow]) -> Result<Vec<Shown>, AllocError>
-    ensures { HasForm point.now → AreOf point.now (as_rows rows.now)
-        → IfOk result (λ shown. map entries.shown shown.items ≡ map (shown_row point.now) (as_rows rows.now)) }
+fn shown_rows(
+    alloc: Global,
+    point: &Point,
+    rows: &[ShownReading],
+) -> Result<Vec<Shown>, AllocError>
+    ensures { HasForm point.now → AreOf point.now (rows_of (map as_shown rows.now))
+        → IfOk result (λ shown. map entries.shown shown.items ≡ map (shown_row point.now) (rows_of (map as_shown rows.now))) }
 {
     let mut shown = Vec::with_capacity(alloc, rows.len())?;
     for row in rows {
-        shown.push(shown_of(alloc, point, row)?)?;
+        shown.push(shown_of(alloc, point, &row.reading)?)?;
     }
     Ok(shown)
 }
@@ -90,10 +102,10 @@ pub(crate) fn readings_reply(
     alloc: Global,
     name: &str,
     point: &Point,
-    rows: &[ReadingRow],
+    rows: &[ShownReading],
 ) -> Result<String, AllocError>
-    ensures { HasForm point.now → AreOf point.now (as_rows rows.now)
-        → IfOk result (λ text. string_bytes text ≡ rows_reply name.now point.now (as_rows rows.now)) }
+    ensures { HasForm point.now → AreOf point.now (rows_of (map as_shown rows.now))
+        → IfOk result (λ text. string_bytes text ≡ rows_reply name.now point.now (rows_of (map as_shown rows.now))) }
 {
     let shown = shown_rows(alloc, point, rows)?;
     answer::readings(alloc, name, &shown)

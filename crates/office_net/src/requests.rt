@@ -1,7 +1,8 @@
 //! The office's requests and queries, each told as what happened.
 ghost use Rattle.std.specs.Prelude.{◌≡◌, ◌≤◌, IfErr, IfOk, MatchResult, true};
+ghost use Rattle.point_list.specs.Edition.{Second};
 ghost use Rattle.poll_book.specs.Requests.{request_at};
-ghost use Rattle.office_core.specs.History.{History, Load, Order, requests};
+ghost use Rattle.office_core.specs.History.{History, Load, Order, Void, requests};
 ghost use Rattle.office_core.specs.Legal.{AreWords};
 ghost use Rattle.office_core.specs.Offices as offices;
 ghost use Rattle.office_core.specs.Offices.{CauseFrom, Shows, keeper_of, order_state_of, total_of};
@@ -11,8 +12,8 @@ ghost use Rattle.office_net.specs.Following.{Fails, Follows, Happens, MayLeave, 
 
 use crate::calls::are_bytes;
 use office_core::laws::any_message;
-use office_core::{Office, OfficeError, RequestAnswer};
-use poll_book::{Caller, Keeper, Key, OrderState, ReadingRow, Request, StoreFault};
+use office_core::{Office, OfficeError, RequestAnswer, ShownReading};
+use poll_book::{Caller, Keeper, Key, OrderState, Request, StoreFault};
 
 /// What a caller and a key are.
 fn are_words(caller: &Caller, key: &Key)
@@ -30,8 +31,8 @@ pub(crate) fn load<K: Keeper>(
     list: &[u8],
 ) -> Result<RequestAnswer, OfficeError>
     ensures went { K.is_clean (keeper_of office.new) → MatchResult result
-        (λ answer. Happens (Follows office.old) (Follows office.new) (MayLeave office.old) (MayLeave office.new) (λ _. Load caller.now key.now list.now) (told.Request answer))
-        (λ e. Fails (Follows office.old) (Follows office.new) (MayLeave office.old) (MayLeave office.new) (λ _. Load caller.now key.now list.now) (told.Refused e)) }
+        (λ answer. Happens (Follows office.old) (Follows office.new) (MayLeave office.old) (MayLeave office.new) (λ _. Load Second caller.now key.now list.now) (told.Request answer))
+        (λ e. Fails (Follows office.old) (Follows office.new) (MayLeave office.old) (MayLeave office.new) (λ _. Load Second caller.now key.now list.now) (told.Refused e)) }
     ensures cause { IfErr result (λ e. IsOfStore (CauseFrom office.old office.new) e) }
     ensures counted { K.refused (keeper_of office.old) ≤ K.refused (keeper_of office.new) }
     ensures clean { K.is_clean (keeper_of office.new) → K.is_clean (keeper_of office.old) }
@@ -61,6 +62,27 @@ pub(crate) fn order<K: Keeper>(
     are_bytes(point.as_bytes());
     are_words(caller, key);
     office.order(caller, key, point, value)
+}
+
+/// A void comes.
+pub(crate) fn void<K: Keeper>(
+    office: &mut Office<K>,
+    caller: &Caller,
+    key: &Key,
+    point: &str,
+    slot: u32,
+) -> Result<RequestAnswer, OfficeError>
+    ensures went { K.is_clean (keeper_of office.new) → MatchResult result
+        (λ answer. Happens (Follows office.old) (Follows office.new) (MayLeave office.old) (MayLeave office.new) (λ _. Void caller.now key.now point.now slot) (told.Request answer))
+        (λ e. Fails (Follows office.old) (Follows office.new) (MayLeave office.old) (MayLeave office.new) (λ _. Void caller.now key.now point.now slot) (told.Refused e)) }
+    ensures cause { IfErr result (λ e. IsOfStore (CauseFrom office.old office.new) e) }
+    ensures counted { K.refused (keeper_of office.old) ≤ K.refused (keeper_of office.new) }
+    ensures clean { K.is_clean (keeper_of office.new) → K.is_clean (keeper_of office.old) }
+{
+    any_message();
+    are_bytes(point.as_bytes());
+    are_words(caller, key);
+    office.void(caller, key, point, slot)
 }
 
 /// The first request of a caller under a key.
@@ -96,13 +118,13 @@ pub(crate) fn order_state<K: Keeper>(
     office.order_state(number)
 }
 
-/// The readings of a point in the slots from the one to the other.
+/// The readings of a point in the slots from the one to the other, with whether these are voided.
 pub(crate) fn readings<K: Keeper>(
     office: &mut Office<K>,
     point: &str,
     from: u32,
     to: u32,
-) -> Result<Option<Vec<ReadingRow>>, OfficeError>
+) -> Result<Option<Vec<ShownReading>>, OfficeError>
     ensures value { K.is_clean (keeper_of office.new) → (now : History) → Follows office.old now
         → IfOk result (λ rows. Shows (offices.readings_of now point.now from to) rows) }
     ensures stays { K.is_clean (keeper_of office.new)

@@ -16,6 +16,9 @@ pub const MEMORY: OfficeError = OfficeError::Store(StoreFault::Memory);
 
 pub const HEADER: &str = "name,device,table,address,type,length,scale,role,roll\n";
 
+/// The header of a list that says the order of registers.
+pub const WORDS_HEADER: &str = "name,device,table,address,type,length,scale,role,roll,words\n";
+
 /// Two lines, each with a device of its own, of which the first has a chain of models.
 pub const TWO: &str =
     "[[line]]\nname = \"roof\"\naddress = \"127.0.0.1:502\"\n[[line]]\nname = \"cellar\"\naddress = \"127.0.0.1:503\"\n[[device]]\nname = \"m1\"\nline = \"roof\"\nunit = 17\ngap = 8\nmodels = [[1, 40002, 66], [103, 40070, 50]]\n[[device]]\nname = \"m2\"\nline = \"cellar\"\nunit = 17\n";
@@ -81,8 +84,18 @@ pub fn named(key: &str) -> Result<(Caller, Key), OfficeError> {
 
 /// A list of these records, under a key.
 pub fn list(alloc: Global, key: &str, records: &str) -> Result<Event, OfficeError> {
+    list_under(alloc, key, HEADER, records)
+}
+
+/// The same below a header.
+pub fn list_under(
+    alloc: Global,
+    key: &str,
+    header: &str,
+    records: &str,
+) -> Result<Event, OfficeError> {
     let (caller, key) = named(key)?;
-    let mut bytes = Vec::from_slice(alloc, HEADER.as_bytes())?;
+    let mut bytes = Vec::from_slice(alloc, header.as_bytes())?;
     bytes.extend_from_slice(records.as_bytes())?;
     Ok(Event::Load(caller, key, Items::from_vec(bytes)))
 }
@@ -91,6 +104,12 @@ pub fn list(alloc: Global, key: &str, records: &str) -> Result<Event, OfficeErro
 pub fn order(alloc: Global, key: &str, point: &str, value: i128) -> Result<Event, OfficeError> {
     let (caller, key) = named(key)?;
     Ok(Event::Order(caller, key, text(alloc, point)?, value))
+}
+
+/// A slot of a counter that doesn't count, under a key.
+pub fn void(alloc: Global, key: &str, point: &str, slot: u32) -> Result<Event, OfficeError> {
+    let (caller, key) = named(key)?;
+    Ok(Event::Void(caller, key, text(alloc, point)?, slot))
 }
 
 pub fn text(alloc: Global, name: &str) -> Result<Text, OfficeError> {
@@ -109,7 +128,9 @@ pub fn frame(transaction: u16, unit_id: u8, bytes: &[u8]) -> Result<Frame, Offic
 pub fn event_of(alloc: Global, happens: &Happens) -> Result<Event, OfficeError> {
     match *happens {
         Happens::Load(key, records) => list(alloc, key, records),
+        Happens::LoadOrdered(key, records) => list_under(alloc, key, WORDS_HEADER, records),
         Happens::Order(key, point, value) => order(alloc, key, point, value),
+        Happens::Void(key, point, slot) => void(alloc, key, point, slot),
         Happens::Send(conn, number) => Ok(Event::Send(Conn::new(conn), number)),
         Happens::Open(line) => Ok(Event::Open(text(alloc, line)?)),
         Happens::Ask(conn, device, slot, (function, start, quantity)) => {

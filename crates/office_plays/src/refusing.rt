@@ -106,6 +106,13 @@ impl Neighbours for Refusing {
         counted(&mut self.refusals, answer)
     }
 
+    fn voided(&mut self, point: &PointRow, slot: u32) -> Result<bool, StoreFault> {
+        count_look(&mut self.lookups);
+        self.count()?;
+        let answer = self.kept.voided(point, slot);
+        counted(&mut self.refusals, answer)
+    }
+
     fn before(&mut self, point: &PointRow, slot: u32) -> Result<Option<u64>, StoreFault> {
         count_look(&mut self.lookups);
         self.count()?;
@@ -182,6 +189,12 @@ impl Keeper for Refusing {
     fn orders(&mut self) -> Result<u32, StoreFault> {
         self.count()?;
         let answer = self.kept.orders();
+        counted(&mut self.refusals, answer)
+    }
+
+    fn voids(&mut self) -> Result<u64, StoreFault> {
+        self.count()?;
+        let answer = self.kept.voids();
         counted(&mut self.refusals, answer)
     }
 

@@ -1,7 +1,7 @@
 //! What happens to an office, as a constant can say it, and the office's calls.
 use crate::builders::{MEMORY, event_of};
-use office_core::{Event, EventAnswer, Office, OfficeError};
-use poll_book::{Keeper, OrderState, ReadingRow, StoreFault};
+use office_core::{Event, EventAnswer, Office, OfficeError, ShownReading};
+use poll_book::{Keeper, OrderState, StoreFault};
 use std::alloc::Global;
 
 /// What happens to an office, as a constant can say it.
@@ -9,8 +9,12 @@ use std::alloc::Global;
 pub enum Happens {
     /// Records of a list, below its header, and before them its key.
     Load(&'static str, &'static str),
+    /// The same of a list that says the order of registers.
+    LoadOrdered(&'static str, &'static str),
     /// A value for a point, under a key.
     Order(&'static str, &'static str, i128),
+    /// A slot of a counter that doesn't count, under a key.
+    Void(&'static str, &'static str, u32),
     /// Over a connection, the order of this number.
     Send(u32, u32),
     Open(&'static str),
@@ -44,7 +48,7 @@ pub fn rows<K: Keeper>(
     point: &str,
     from: u32,
     to: u32,
-) -> Result<Option<Vec<ReadingRow>>, OfficeError> {
+) -> Result<Option<Vec<ShownReading>>, OfficeError> {
     office.readings(point, from, to)
 }
 
@@ -100,7 +104,7 @@ pub fn has_words<K: Keeper>(
     };
     Ok(match rows.as_slice() {
         [] => words.is_empty(),
-        [row] => row.slot == slot && row.words.as_slice() == words,
+        [row] => row.reading.slot == slot && row.reading.words.as_slice() == words,
         _ => false,
     })
 }

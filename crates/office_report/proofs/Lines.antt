@@ -4,12 +4,11 @@ use Rattle.std.specs.Prelude.{codes, decimal, encode_utf8, unwrap_or}
 use Rattle.std.specs.Fmt.{char_count, format_spec, padded_integral, styled_decimal}
 use Rattle.std.specs.List.{repeat}
 use Rattle.std.proofs.lemmas.Str.{encode_ascii}
-use Rattle.sunspec.specs.Text.{shown}
 use Rattle.sunspec.specs.Value.{AreRegistersOf}
 use Rattle.point_list.specs.declared.point.Point.{Point}
-use Rattle.poll_book.specs.declared.rows.Reading.{Reading}
-use Rattle.poll_book.specs.Tables.{Key}
-use Rattle.office_report.specs.Reports.{line_end, slot_text, reading_line}
+use Rattle.office_core.specs.Fitting.{point_text}
+use Rattle.office_core.specs.Showing.{Shown}
+use Rattle.office_report.specs.Reports.{line_end, mark_text, slot_text, reading_line}
 
 repeat_spaces : (n : ℕ) → repeat n (encode_utf8 32) ≡ replicate n 32
 repeat_spaces zero = refl
@@ -23,16 +22,20 @@ slot_in_ten slot =
     let none : (10 - length (decimal slot)) - (10 - length (decimal slot)) ≡ 0 = omega arith in
     rw (some, none, repeat_spaces (10 - length (decimal slot))) (simp append-nil)
 
-part_by_part : (slot text : List ℕ) → slot ++ 32 ∷ 32 ∷ (text ++ line_end) ≡ slot ++ codes "  " ++ text ++ line_end
-part_by_part slot text = sym (append_assoc (slot ++ codes "  ") text line_end ∙ append_assoc slot (codes "  ") (text ++ line_end))
+part_by_part : (slot text mark : List ℕ) → slot ++ 32 ∷ 32 ∷ (text ++ (mark ++ line_end)) ≡ slot ++ codes "  " ++ text ++ mark ++ line_end
+part_by_part slot text mark =
+    sym (append_assoc (slot ++ codes "  " ++ text) mark line_end
+    ∙ append_assoc (slot ++ codes "  ") text (mark ++ line_end)
+    ∙ append_assoc slot (codes "  ") (text ++ (mark ++ line_end)))
 
--- a slot, and what the registers show or a dash
-pub line_of : (point : Point) (row : Key × Reading) (slot : List ℕ) (words : List ℕ) (text : Option (List ℕ)) (said : List ℕ) → slot ≡ slot_text row.0.1
-    → words ≡ row.1.words → (AreRegistersOf point.kind words → text ≡ shown point.kind point.scale words) → AreRegistersOf point.kind row.1.words
-    → unwrap_or text (45 ∷ []) ≡ said → slot ++ 32 ∷ 32 ∷ (said ++ line_end) ≡ reading_line point row
-line_of point row slot words text said so same shows are dash =
-    let is : text ≡ shown point.kind point.scale row.1.words =
-    shows (subst (AreRegistersOf point.kind) (sym same) are) ∙ ap (shown point.kind point.scale) same in
-    ap (λ s. s ++ 32 ∷ 32 ∷ (said ++ line_end)) so
-    ∙ part_by_part (slot_text row.0.1) said
-    ∙ ap (λ t. slot_text row.0.1 ++ codes "  " ++ t ++ line_end) (sym dash ∙ ap (λ o. unwrap_or o (45 ∷ [])) is)
+-- a slot, what the registers show or a dash, and the mark of a voided one
+pub line_of : (point : Point) (row : Shown) (slot : List ℕ) (words : List ℕ) (text : Option (List ℕ)) (said mark : List ℕ) → slot ≡ slot_text row.0.0.1
+    → words ≡ row.0.1.words → (AreRegistersOf point.kind words → text ≡ point_text point words) → AreRegistersOf point.kind row.0.1.words
+    → unwrap_or text (45 ∷ []) ≡ said → mark ≡ mark_text row.1 → slot ++ 32 ∷ 32 ∷ (said ++ (mark ++ line_end)) ≡ reading_line point row
+line_of point row slot words text said mark so same shows are dash marked =
+    let is : text ≡ point_text point row.0.1.words =
+    shows (subst (AreRegistersOf point.kind) (sym same) are) ∙ ap (point_text point) same in
+    ap (λ s. s ++ 32 ∷ 32 ∷ (said ++ (mark ++ line_end))) so
+    ∙ part_by_part (slot_text row.0.0.1) said mark
+    ∙ ap (λ t. slot_text row.0.0.1 ++ codes "  " ++ t ++ mark ++ line_end) (sym dash ∙ ap (λ o. unwrap_or o (45 ∷ [])) is)
+    ∙ ap (λ m. slot_text row.0.0.1 ++ codes "  " ++ unwrap_or (point_text point row.0.1.words) (45 ∷ []) ++ m ++ line_end) marked

@@ -13,12 +13,13 @@ fn outcome_text(alloc: Global, outcome: &Outcome) -> Result<String, AllocError>
     match outcome {
         Outcome::Loaded(count) => format!(in alloc; "loaded {count}"),
         Outcome::Ordered(number) => format!(in alloc; "order {number}"),
+        Outcome::Voided(slot) => format!(in alloc; "voided {slot}"),
         Outcome::RefusedFor(reason) => format!(in alloc; "refused {}", reason.fault),
     }
 }
 
-/// What a request is answered: what became of the first one under its key, as `loaded N`, `order N` or
-/// `refused TEXT`, or `key reused` where that was another.
+/// What a request is answered: what became of the first one under its key, as `loaded N`, `order N`,
+/// `voided SLOT` or `refused TEXT`, or `key reused` where that was another.
 pub fn request_text(alloc: Global, told: &RequestAnswer) -> Result<String, AllocError>
     ensures { IfOk result (λ text. string_bytes text ≡ request_text told.now) }
 {

@@ -1,29 +1,37 @@
 //! The text of a report.
-ghost use Rattle.std.specs.Prelude.{◌≡◌, ◌++◌, IfOk, OnOk, flat_map, string_bytes};
+ghost use Rattle.std.specs.Prelude.{◌≡◌, ◌++◌, IfOk, OnOk, flat_map, map, string_bytes};
 ghost use Rattle.sunspec.specs.Value.{AreRegistersOf};
-ghost use Rattle.poll_book.specs.Changes.{as_row, as_rows};
 ghost use Rattle.office_core.specs.Fitting.{AreOf, HasForm};
-ghost use Rattle.office_report.specs.Reports.{reading_line, report_lines, total_line};
+ghost use Rattle.office_core.specs.Showing.{as_shown};
+ghost use Rattle.office_report.specs.Reports.{mark_text, reading_line, report_lines, rows_of, total_line};
 
 use crate::texts::{reading_text, total_text};
+use office_core::ShownReading;
 use point_list::Point;
-use poll_book::ReadingRow;
 use std::alloc::{AllocError, Global};
 
-/// Adds the line of a reading: its slot, and what its registers show.
+/// What follows the reading of a voided slot.
+fn mark(voided: bool) -> &'static str
+    ensures { result.now ≡ mark_text voided }
+{
+    if voided { "  void" } else { "" }
+}
+
+/// Adds the line of a reading: its slot, what its registers show, and whether it is voided.
 fn push_reading(
     alloc: Global,
     report: &mut String,
     point: &Point,
-    row: &ReadingRow,
+    shown: &ShownReading,
 ) -> Result<(), AllocError>
-    ensures { HasForm point.now → AreRegistersOf point.now.kind row.now.words
-        → OnOk result (string_bytes report.new ≡ string_bytes report.old ++ reading_line point.now (as_row row.now)) }
+    ensures { HasForm point.now → AreRegistersOf point.now.kind shown.now.reading.words
+        → OnOk result (string_bytes report.new ≡ string_bytes report.old ++ reading_line point.now (as_shown shown.now)) }
 {
-    let slot = row.slot;
-    match reading_text(alloc, point, row.words.as_slice())? {
-        Some(text) => writeln!(report, "{slot:>10}  {text}"),
-        None => writeln!(report, "{slot:>10}  -"),
+    let slot = shown.reading.slot;
+    let mark = mark(shown.voided);
+    match reading_text(alloc, point, shown.reading.words.as_slice())? {
+        Some(text) => writeln!(report, "{slot:>10}  {text}{mark}"),
+        None => writeln!(report, "{slot:>10}  -{mark}"),
     }
 }
 
@@ -32,10 +40,10 @@ fn push_readings(
     alloc: Global,
     report: &mut String,
     point: &Point,
-    rows: &[ReadingRow],
+    rows: &[ShownReading],
 ) -> Result<(), AllocError>
-    ensures { HasForm point.now → AreOf point.now (as_rows rows.now)
-        → OnOk result (string_bytes report.new ≡ string_bytes report.old ++ flat_map (reading_line point.now) (as_rows rows.now)) }
+    ensures { HasForm point.now → AreOf point.now (rows_of (map as_shown rows.now))
+        → OnOk result (string_bytes report.new ≡ string_bytes report.old ++ flat_map (reading_line point.now) (map as_shown rows.now)) }
 {
     for row in rows {
         push_reading(alloc, report, point, row)?;
@@ -63,11 +71,11 @@ fn push_total(
 pub(crate) fn report_text(
     alloc: Global,
     point: &Point,
-    rows: &[ReadingRow],
+    rows: &[ShownReading],
     total: Option<u128>,
 ) -> Result<String, AllocError>
-    ensures { HasForm point.now → AreOf point.now (as_rows rows.now)
-        → IfOk result (λ text. string_bytes text ≡ report_lines point.now (as_rows rows.now) total) }
+    ensures { HasForm point.now → AreOf point.now (rows_of (map as_shown rows.now))
+        → IfOk result (λ text. string_bytes text ≡ report_lines point.now (map as_shown rows.now) total) }
 {
     let name = point.name;
     let mut report = format!(in alloc; "point {name}\n")?;

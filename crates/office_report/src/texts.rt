@@ -1,12 +1,12 @@
 //! Readings and totals as texts.
 ghost use Rattle.std.specs.Prelude.{◌≡◌, IfOk, option_map, pos, string_bytes};
-ghost use Rattle.sunspec.specs.Text.{scaled, shown};
+ghost use Rattle.sunspec.specs.Text.{scaled};
 ghost use Rattle.sunspec.specs.Value.{AreRegistersOf};
-ghost use Rattle.office_core.specs.Fitting.{HasForm};
+ghost use Rattle.office_core.specs.Fitting.{HasForm, point_text};
 
 use point_list::Point;
 use std::alloc::{AllocError, Global};
-use sunspec::{scaled_text, shown_text};
+use sunspec::{scaled_text, shown_ordered};
 
 /// What registers of a point show; `None` where the point isn't implemented, and where the registers
 /// don't have the form of its type, as none have that an office recorded.
@@ -16,12 +16,13 @@ pub fn reading_text(
     words: &[u16],
 ) -> Result<Option<String>, AllocError>
     ensures { HasForm point.now → AreRegistersOf point.now.kind words.now
-        → IfOk result (λ text. option_map string_bytes text ≡ shown point.now.kind point.now.scale words.now) }
+        → IfOk result (λ text. option_map string_bytes text ≡ point_text point.now words.now) }
 {
     if !point.kind.is_sized() || !point.kind.has_registers(words) {
         return Ok(None);
     }
-    shown_text(alloc, &point.kind, words, i32::from(point.scale)).map_err(|_| AllocError)
+    shown_ordered(alloc, &point.kind, point.order, words, i32::from(point.scale))
+        .map_err(|_| AllocError)
 }
 
 /// How far a counter went, with its scale.

@@ -13,7 +13,7 @@ use Rattle.mb_mbap.specs.Whole.{fields_in, is_whole}
 use Rattle.sunspec.specs.Digits.{number_within}
 use Rattle.read_planner.specs.declared.Read.{Read}
 use Rattle.office_core.specs.declared.event.Event.{Event}
-use Rattle.office_core.specs.declared.event.Event.TheVariants.{Load, Order, Open, Ask, Send, Arrive, Restart}
+use Rattle.office_core.specs.declared.event.Event.TheVariants.{Load, Order, Void, Open, Ask, Send, Arrive, Restart}
 use Rattle.poll_book.specs.Callers.{is_key}
 use Rattle.office_core.specs.Legal.{IsNumber}
 use Rattle.office_script.specs.Words.{words_of, word_at, is_text, key_of, value_of, joined, byte_of, onto_bytes, bytes_of}
@@ -21,7 +21,7 @@ use Rattle.office_script.specs.declared.command.Verb.{Verb}
 use Rattle.office_script.specs.declared.command.Verb.TheVariants as verb
 use Rattle.office_script.proofs.Keys.{is_name, is_line_key}
 use Rattle.office_script.proofs.Values.{same, within_limit, value_number}
-use Rattle.office_script.specs.Commands.{Comes, caller_name, line_key, verb_of, event_by, number_limit, byte_limit, word_limit, list_header, list_with, point_of, ordering, order_of, open_of, read_of, asking, ask_of, sending, send_of, frame_in, arriving, reply_of, restart_of, event_of_words, record_in, event_with, event_of}
+use Rattle.office_script.specs.Commands.{Comes, caller_name, line_key, verb_of, event_by, number_limit, byte_limit, word_limit, list_header, list_with, point_of, ordering, order_of, voiding, void_of, open_of, read_of, asking, ask_of, sending, send_of, frame_in, arriving, reply_of, restart_of, event_of_words, record_in, event_with, event_of}
 use Rattle.point_list.proofs.Labels.{all_ascii}
 
 -- ---- texts
@@ -86,13 +86,13 @@ point_message number said e small is = by (list_all is_ascii said) refl is
     by false h is = absurd (cc)
     by true h is = subst Comes (same e listed is) (ascii_bytes (list_with said) (list_all-append is_ascii list_header said ∙ h), (is_name, is_line_key number small))
 
+keyed : (word key : List ℕ) (b : Bool) → is_key word ≡ b → Some key ≡ cond b (Some word) None → is_key key ≡ true
+keyed word key false h e = absurd (cc)
+keyed word key true h e = subst (λ k. is_key k ≡ true) (same key word e) h
+
 order_message : (words : List (List ℕ)) (e : Event) → Some e ≡ order_of words → Comes e
 order_message words e is = by (length words == 3) is
   where
-    keyed : (word key : List ℕ) (b : Bool) → is_key word ≡ b → Some key ≡ cond b (Some word) None → is_key key ≡ true
-    keyed word key false h e = absurd (cc)
-    keyed word key true h e = subst (λ k. is_key k ≡ true) (same key word e) h
-
     ordered : (o : Option (List ℕ)) (point : List ℕ) (p : Option ℤ) → ((key : List ℕ) → Some key ≡ o → is_key key ≡ true) → ((z : ℤ) → Some z ≡ p → IsNumber z)
         → Some e ≡ ordering o point p → Comes e
     ordered None point p ho hp is = absurd (cc)
@@ -108,6 +108,25 @@ order_message words e is = by (length words == 3) is
     by true is =
         ordered (key_of (word_at words 0)) (word_at words 1) (value_of (word_at words 2))
         (λ key h. keyed (word_at words 0) key (is_key (word_at words 0)) refl h) (λ z h. value_number (word_at words 2) z h) is
+
+void_message : (words : List (List ℕ)) (e : Event) → Some e ≡ void_of words → Comes e
+void_message words e is = by (length words == 3) is
+  where
+    voided : (o : Option (List ℕ)) (point : List ℕ) (p : Option ℕ) → ((key : List ℕ) → Some key ≡ o → is_key key ≡ true) → ((n : ℕ) → Some n ≡ p → n ≤ number_limit)
+        → Some e ≡ voiding o point p → Comes e
+    voided None point p ho hp is = absurd (cc)
+    voided (Some key) point None ho hp is = absurd (cc)
+    voided (Some key) point (Some slot) ho hp is = named (is_text point) refl is
+      where
+        named : (b : Bool) → is_text point ≡ b → Some e ≡ cond b (Some (Void caller_name key point slot)) None → Comes e
+        named false h is = absurd (cc)
+        named true h is = subst Comes (same e (Void caller_name key point slot) is) (text_bytes point h, hp slot refl, (is_name, ho key refl))
+
+    by : (b : Bool) → Some e ≡ cond b (voiding (key_of (word_at words 0)) (word_at words 1) (number_within number_limit (word_at words 2))) None → Comes e
+    by false is = absurd (cc)
+    by true is =
+        voided (key_of (word_at words 0)) (word_at words 1) (number_within number_limit (word_at words 2))
+        (λ key h. keyed (word_at words 0) key (is_key (word_at words 0)) refl h) (λ n h. within_limit number_limit n (word_at words 2) h) is
 
 send_message : (words : List (List ℕ)) (e : Event) → Some e ≡ send_of words → Comes e
 send_message words e is = by (length words == 2) is
@@ -188,6 +207,7 @@ words_message (name ∷ rest) e is = by (verb_of name) is
     by (Some verb.Ask) is = ask_message rest e is
     by (Some verb.Reply) is = reply_message rest e is
     by (Some verb.Order) is = order_message rest e is
+    by (Some verb.Void) is = void_message rest e is
     by (Some verb.Send) is = send_message rest e is
     by (Some verb.Restart) is = restart_message rest e is
 

@@ -18,7 +18,9 @@ use Rattle.point_list.specs.declared.error.ListFault.TheVariants.{BadCsv, TooMan
 use Rattle.point_list.specs.Columns.{Record, field, is_device, ◌then◌}
 use Rattle.point_list.specs.Header.{is_header}
 use Rattle.point_list.specs.Name.{is_name}
-use Rattle.point_list.specs.Lists.{check, first_failed, meaning_checks, whole_checks, table_in, address_in, type_in, scale_in, role_in, roll_in, fault_below, model_in, records_of}
+use Rattle.sunspec.specs.declared.word_order.WordOrder.{WordOrder}
+use Rattle.point_list.specs.Edition.{Edition, Second}
+use Rattle.point_list.specs.Lists.{check, first_failed, meaning_checks, whole_checks, table_in, address_in, type_in, scale_in, role_in, roll_in, order_in, fault_below, model_in, records_of}
 use Rattle.point_list.specs.ListMeaning.{point_in, row_before, rows_said, fault_or_later, first_fault, missing_header, rows_unless, body_meaning, list_meaning}
 use Rattle.point_list.specs.Resolving.{first_misplaced, list_at, placed, resolved_list}
 use Rattle.poll_book.specs.declared.rows.PointRow.{PointRow}
@@ -47,31 +49,32 @@ fourth true false c d w x y z rest e = absurd (cc)
 fourth false b c d w x y z rest e = absurd (cc)
 
 -- a record with no fault says a known device
-device_known : (known : List ℕ → Bool) (names : List (List ℕ)) (r : Record) → fault_below known names r ≡ None → known (field r 1) ≡ true
+device_known : (columns : ℕ) (known : List ℕ → Bool) (names : List (List ℕ)) (r : Record) → fault_below columns known names r ≡ None → known (field r 1) ≡ true
 unfolding fault_below
-device_known known names r e =
-    fourth (length r == 9) (nat_lt (length names) 10000) (is_name (field r 0)) (known (field r 1)) (BadCsv, 0) (TooManyPoints, 0) (BadName, 1) (UnknownDevice, 2)
+device_known columns known names r e =
+    fourth (length r == columns) (nat_lt (length names) 10000) (is_name (field r 0)) (known (field r 1)) (BadCsv, 0) (TooManyPoints, 0) (BadName, 1) (UnknownDevice, 2)
     (first_failed (check (is_some (table_in r)) BadTable 3 ∷ check (is_some (address_in r)) BadAddress 4 ∷ (meaning_checks r ++ whole_checks names r))) e
 
 -- the device of a point is the one that its record says
 device_said : (r : Record) (point : Point) → point_in r ≡ Some point → point.device ≡ field r 1
-device_said r point e = by (table_in r) (address_in r) (type_in r) (scale_in r) (role_in r) (roll_in r) e
+device_said r point e = by (table_in r) (address_in r) (type_in r) (scale_in r) (role_in r) (roll_in r) (order_in r) e
   where
-    said : Table → ℕ → PointType → ℤ → Role → ℕ → Point
-    said table address kind scale role roll =
-        record { name = field r 0; device = field r 1; table = table; address = address; kind = kind; scale = scale; role = role; roll = roll }
+    said : Table → ℕ → PointType → ℤ → Role → ℕ → WordOrder → Point
+    said table address kind scale role roll order =
+        record { name = field r 0; device = field r 1; table = table; address = address; kind = kind; scale = scale; role = role; roll = roll; order = order }
 
-    by : (t : Option Table) (a : Option ℕ) (k : Option PointType) (s : Option ℤ) (o : Option Role) (l : Option ℕ)
-        → (t then (λ table. a then (λ address. k then (λ kind. s then (λ scale. o then (λ role. l then (λ roll. Some (said table address kind scale role roll)))))))
+    by : (t : Option Table) (a : Option ℕ) (k : Option PointType) (s : Option ℤ) (o : Option Role) (l : Option ℕ) (w : Option WordOrder)
+        → (t then (λ table. a then (λ address. k then (λ kind. s then (λ scale. o then (λ role. l then (λ roll. w then (λ order. Some (said table address kind scale role roll order))))))))
         ≡ Some point) → point.device ≡ field r 1
-    by (Some table) (Some address) (Some kind) (Some scale) (Some role) (Some roll) f =
-        ap (λ (p : Point). p.device) (sym (same_Some (said table address kind scale role roll) point f))
-    by None a k s o l f = absurd (none-some point f)
-    by (Some table) None k s o l f = absurd (none-some point f)
-    by (Some table) (Some address) None s o l f = absurd (none-some point f)
-    by (Some table) (Some address) (Some kind) None o l f = absurd (none-some point f)
-    by (Some table) (Some address) (Some kind) (Some scale) None l f = absurd (none-some point f)
-    by (Some table) (Some address) (Some kind) (Some scale) (Some role) None f = absurd (none-some point f)
+    by (Some table) (Some address) (Some kind) (Some scale) (Some role) (Some roll) (Some order) f =
+        ap (λ (p : Point). p.device) (sym (same_Some (said table address kind scale role roll order) point f))
+    by (Some table) (Some address) (Some kind) (Some scale) (Some role) (Some roll) None f = absurd (none-some point f)
+    by None a k s o l w f = absurd (none-some point f)
+    by (Some table) None k s o l w f = absurd (none-some point f)
+    by (Some table) (Some address) None s o l w f = absurd (none-some point f)
+    by (Some table) (Some address) (Some kind) None o l w f = absurd (none-some point f)
+    by (Some table) (Some address) (Some kind) (Some scale) None l w f = absurd (none-some point f)
+    by (Some table) (Some address) (Some kind) (Some scale) (Some role) None w f = absurd (none-some point f)
 
 module _ (known : List ℕ → Bool) where
   -- the devices of these rows are known
@@ -79,31 +82,31 @@ module _ (known : List ℕ → Bool) where
   AreKnown rows = list_all (λ (said : ListRow). known said.point.device) rows ≡ true
 
   -- those of faultless records are
-  rows_known : (names : List (List ℕ)) (number : ℕ) (rs : List Record) → first_fault known names number rs ≡ None → AreKnown (rows_said number rs)
-  rows_known names number [] e = refl
-  rows_known names number (r ∷ rs) e = by (fault_below known names r) refl (λ h. rows_known (names ++ field r 0 ∷ []) (number + 1) rs h) e
+  rows_known : (columns : ℕ) (names : List (List ℕ)) (number : ℕ) (rs : List Record) → first_fault columns known names number rs ≡ None → AreKnown (rows_said number rs)
+  rows_known columns names number [] e = refl
+  rows_known columns names number (r ∷ rs) e = by (fault_below columns known names r) refl (λ h. rows_known columns (names ++ field r 0 ∷ []) (number + 1) rs h) e
     where
       put : (o : Option Point) → point_in r ≡ o → known (field r 1) ≡ true → AreKnown (rows_said (number + 1) rs) → AreKnown (row_before number (model_in r) o (rows_said (number + 1) rs))
       put None is here rest = rest
       put (Some point) is here rest = and_from (known point.device) _ (ap known (device_said r point is) ∙ here) rest
 
-      by : (o : Option (ListFault × ℕ)) → fault_below known names r ≡ o
-          → (first_fault known (names ++ field r 0 ∷ []) (number + 1) rs ≡ None → AreKnown (rows_said (number + 1) rs))
-          → fault_or_later number o (first_fault known (names ++ field r 0 ∷ []) (number + 1) rs) ≡ None → AreKnown (rows_said number (r ∷ rs))
-      by None is later e = put (point_in r) refl (device_known known names r is) (later e)
+      by : (o : Option (ListFault × ℕ)) → fault_below columns known names r ≡ o
+          → (first_fault columns known (names ++ field r 0 ∷ []) (number + 1) rs ≡ None → AreKnown (rows_said (number + 1) rs))
+          → fault_or_later number o (first_fault columns known (names ++ field r 0 ∷ []) (number + 1) rs) ≡ None → AreKnown (rows_said number (r ∷ rs))
+      by None is later e = put (point_in r) refl (device_known columns known names r is) (later e)
       by (Some fault) is later e = absurd (cc)
 
   -- and those of the rows that a list means
-  meaning_known : (list : List Record) → IfOk (list_meaning known list) AreKnown
-  meaning_known [] = tt
-  meaning_known (first ∷ body) = by (is_header first)
+  meaning_known : (edition : Edition) (list : List Record) → IfOk (list_meaning edition known list) AreKnown
+  meaning_known edition [] = tt
+  meaning_known edition (first ∷ body) = by (is_header edition first)
     where
-      by_fault : (o : Option ListError) → first_fault known [] 2 body ≡ o → IfOk (rows_unless o (rows_said 2 body)) AreKnown
-      by_fault None none = rows_known [] 2 body none
+      by_fault : (o : Option ListError) → first_fault (length first) known [] 2 body ≡ o → IfOk (rows_unless o (rows_said 2 body)) AreKnown
+      by_fault None none = rows_known (length first) [] 2 body none
       by_fault (Some e) is = tt
 
-      by : (b : Bool) → IfOk (cond b (body_meaning known body) (Err missing_header)) AreKnown
-      by true = by_fault (first_fault known [] 2 body) refl
+      by : (b : Bool) → IfOk (cond b (body_meaning (length first) known body) (Err missing_header)) AreKnown
+      by true = by_fault (first_fault (length first) known [] 2 body) refl
       by false = tt
 
   -- they are the same with the points placed
@@ -175,17 +178,18 @@ may_restart_on before (event.Load caller key list) may = (may.0, by (is_used bef
     site = site_of before
 
     more : List PointRow
-    more = added (length (points before)) (loading site (points before) list)
+    more = added (length (points before)) (loading Second site (points before) list)
 
     new : has_devices site more ≡ true
-    new = added_known (is_device site) (length (points before)) (loading site (points before) list)
-        (taken_known (is_device site) (points before) (list_at site (records_of list))
-        (resolved_known (is_device site) site (list_meaning (is_device site) (records_of list)) (meaning_known (is_device site) (records_of list))))
+    new = added_known (is_device site) (length (points before)) (loading Second site (points before) list)
+        (taken_known (is_device site) (points before) (list_at Second site (records_of list))
+        (resolved_known (is_device site) site (list_meaning Second (is_device site) (records_of list)) (meaning_known (is_device site) Second (records_of list))))
 
     by : (b : Bool) → has_devices site (cond b (points before) (points before ++ more)) ≡ true
     by true = may.1
     by false = list_all-append (λ (row : PointRow). is_device site row.point.device) (points before) more ∙ and_from _ _ may.1 new
 may_restart_on before (event.Order caller key point value) may = may
+may_restart_on before (event.Void caller key point slot) may = may
 may_restart_on before (event.Open line) may = may
 may_restart_on before (event.Ask conn device slot read) may = may
 may_restart_on before (event.Send conn number) may = may
@@ -212,6 +216,7 @@ may_restart_on before (event.Arrive conn frame) may = over (open_line before con
 pub may_come : (before : History) (seen : Event) → Comes seen → MayRestart before → MayHappen before (happening_of before seen)
 may_come before (event.Load caller key list) comes may = may_happen before (event.Load caller key list) comes
 may_come before (event.Order caller key point value) comes may = may_happen before (event.Order caller key point value) comes
+may_come before (event.Void caller key point slot) comes may = may_happen before (event.Void caller key point slot) comes
 may_come before (event.Open line) comes may = may_happen before (event.Open line) comes
 may_come before (event.Ask conn device slot read) comes may = may_happen before (event.Ask conn device slot read) comes
 may_come before (event.Send conn number) comes may = may_happen before (event.Send conn number) comes
@@ -222,6 +227,7 @@ may_come before event.Restart comes may = may
 pub seen_come : (before : History) (seen : Event) → Comes seen → Sees before (happening_of before seen) seen
 seen_come before (event.Load caller key list) comes = seen_so before (event.Load caller key list) comes
 seen_come before (event.Order caller key point value) comes = seen_so before (event.Order caller key point value) comes
+seen_come before (event.Void caller key point slot) comes = seen_so before (event.Void caller key point slot) comes
 seen_come before (event.Open line) comes = seen_so before (event.Open line) comes
 seen_come before (event.Ask conn device slot read) comes = seen_so before (event.Ask conn device slot read) comes
 seen_come before (event.Send conn number) comes = seen_so before (event.Send conn number) comes

@@ -7,7 +7,7 @@ use Rattle.mb_mbap.specs.declared.frame.Frame.{Frame}
 use Rattle.sunspec.specs.Digits.{number_within}
 use Rattle.read_planner.specs.declared.Read.{Read}
 use Rattle.office_core.specs.declared.event.Event.{Event}
-use Rattle.office_core.specs.declared.event.Event.TheVariants.{Load, Order, Open, Ask, Send, Arrive, Restart}
+use Rattle.office_core.specs.declared.event.Event.TheVariants.{Load, Order, Void, Open, Ask, Send, Arrive, Restart}
 use Rattle.office_script.specs.declared.command.Verb.{Verb}
 use Rattle.office_script.specs.declared.command.Verb.TheVariants as verb
 use Rattle.office_core.specs.Messages.{IsMessage}
@@ -51,6 +51,15 @@ ordering _ point _ = None
 -- `order KEY POINT VALUE`
 abbrev pub order_of : List (List ℕ) → Option Event
 order_of words = if length words == 3 then ordering (key_of (word_at words 0)) (word_at words 1) (value_of (word_at words 2)) else None
+
+-- a void of a slot of a point by any word
+abbrev pub voiding : Option (List ℕ) → List ℕ → Option ℕ → Option Event
+voiding (Some key) point (Some slot) = if is_text point then Some (Void caller_name key point slot) else None
+voiding _ point _ = None
+
+-- `void KEY POINT SLOT`
+abbrev pub void_of : List (List ℕ) → Option Event
+void_of words = if length words == 3 then voiding (key_of (word_at words 0)) (word_at words 1) (number_within number_limit (word_at words 2)) else None
 
 -- `open LINE`
 abbrev pub open_of : List (List ℕ) → Option Event
@@ -106,6 +115,7 @@ verb_of name =
     if bytes_eq name (codes "ask") then Some verb.Ask else
     if bytes_eq name (codes "reply") then Some verb.Reply else
     if bytes_eq name (codes "order") then Some verb.Order else
+    if bytes_eq name (codes "void") then Some verb.Void else
     if bytes_eq name (codes "send") then Some verb.Send else
     if bytes_eq name (codes "restart") then Some verb.Restart else None
 
@@ -114,6 +124,7 @@ event_for verb.Open words = open_of words
 event_for verb.Ask words = ask_of words
 event_for verb.Reply words = reply_of words
 event_for verb.Order words = order_of words
+event_for verb.Void words = void_of words
 event_for verb.Send words = send_of words
 event_for verb.Restart words = restart_of words
 

@@ -1,7 +1,7 @@
 -- What is printed of answers, and of an office's tables at the end.
 use Rattle.std.specs.Prelude.{ℕ, zero, suc, List, [], ◌∷◌, ◌++◌, Option, Some, None, if◌then◌else◌, flat_map, codes, decimal, pos, unwrap_or}
 use Rattle.hex.specs.Hex.{encode_upper}
-use Rattle.sunspec.specs.Text.{shown, scaled}
+use Rattle.sunspec.specs.Text.{scaled}
 use Rattle.point_list.specs.declared.point.Point.{Point}
 use Rattle.mb_mbap.specs.Stream.{spelled}
 use Rattle.poll_book.specs.declared.rows.PointRow.{PointRow}
@@ -13,6 +13,7 @@ use Rattle.poll_book.specs.declared.rows.OrderState.TheVariants.{Waiting, Done, 
 use Rattle.poll_book.specs.declared.rows.Setting.{Setting}
 use Rattle.poll_book.specs.Orders.{Settings, last_order, setting_at}
 use Rattle.office_report.specs.Outcomes.{request_text}
+use Rattle.office_core.specs.Fitting.{point_text}
 use Rattle.office_core.specs.declared.error.OfficeError.{OfficeError}
 use Rattle.office_core.specs.declared.error.OfficeError.TheVariants as error
 use Rattle.office_core.specs.declared.event.RequestAnswer.{RequestAnswer}
@@ -81,7 +82,7 @@ fault_line number = numbered_line (codes "fault line ") number
 
 -- the text of a reading, a dash where the point is not implemented
 abbrev pub reading_text : Point → Reading → List ℕ
-reading_text point reading = unwrap_or (shown point.kind point.scale reading.words) (45 ∷ [])
+reading_text point reading = unwrap_or (point_text point reading.words) (45 ∷ [])
 
 abbrev pub reading_line : PointRow → Key × Reading → List ℕ
 reading_line known row =

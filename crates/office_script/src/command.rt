@@ -3,7 +3,7 @@ ghost use Rattle.std.specs.Prelude.{◌≡◌, IfOk, option_map};
 ghost use Rattle.sunspec.specs.Digits.{number_within};
 ghost use Rattle.office_script.specs.Words.{bytes_of, texts};
 ghost use Rattle.office_script.specs.Commands as commands;
-ghost use Rattle.office_script.specs.Commands.{ask_of, byte_limit, caller_name, event_for, event_of, event_of_words, frame_in, line_key, list_with, open_of, order_of, point_of, read_of, reply_of, restart_of, send_of, verb_of, word_limit};
+ghost use Rattle.office_script.specs.Commands.{ask_of, byte_limit, caller_name, event_for, event_of, event_of_words, frame_in, line_key, list_with, open_of, order_of, point_of, read_of, reply_of, restart_of, send_of, verb_of, void_of, word_limit};
 
 use crate::cutting::words;
 use crate::hexadecimal::bytes;
@@ -92,6 +92,38 @@ fn order(alloc: Global, words: &[&[u8]]) -> Result<Option<Event>, AllocError>
         return Ok(None);
     }
     ordering(alloc, key(words[0]), words[1], value(words[2]))
+}
+
+/// The event that voids a slot, where each part could be read.
+fn voiding(
+    alloc: Global,
+    key: Option<Key>,
+    point: &[u8],
+    slot: Option<u32>,
+) -> Result<Option<Event>, AllocError>
+    ensures { IfOk result (λ event. event ≡ commands.voiding key point.now slot) }
+{
+    let Some(key) = key else {
+        return Ok(None);
+    };
+    let Some(slot) = slot else {
+        return Ok(None);
+    };
+    if !is_text(point) {
+        return Ok(None);
+    }
+    let point = text(alloc, point)?;
+    Ok(Some(Event::Void(caller(), key, point, slot)))
+}
+
+/// `void KEY POINT SLOT`.
+fn void(alloc: Global, words: &[&[u8]]) -> Result<Option<Event>, AllocError>
+    ensures { IfOk result (λ event. event ≡ void_of (texts words.now)) }
+{
+    if words.len() != 3 {
+        return Ok(None);
+    }
+    voiding(alloc, key(words[0]), words[1], number(words[2], u32::MAX))
 }
 
 /// `open LINE`.
@@ -215,6 +247,7 @@ enum Verb {
     Ask,
     Reply,
     Order,
+    Void,
     Send,
     Restart,
 }
@@ -230,6 +263,8 @@ fn verb_named(name: &[u8]) -> Option<Verb>
         Some(Verb::Reply)
     } else if name == b"order".as_slice() {
         Some(Verb::Order)
+    } else if name == b"void".as_slice() {
+        Some(Verb::Void)
     } else if name == b"send".as_slice() {
         Some(Verb::Send)
     } else if name == b"restart".as_slice() {
@@ -248,6 +283,7 @@ fn event_for(alloc: Global, verb: Verb, words: &[&[u8]]) -> Result<Option<Event>
         Verb::Ask => ask(alloc, words),
         Verb::Reply => reply(alloc, words),
         Verb::Order => order(alloc, words),
+        Verb::Void => void(alloc, words),
         Verb::Send => Ok(send(words)),
         Verb::Restart => Ok(restart(words)),
     }

@@ -1,11 +1,11 @@
 //! The report at a script's end: all readings, the totals of counters, and the orders.
 ghost use Rattle.std.specs.Prelude.{All, ◌≡◌, ◌++◌, ◌∷◌, [], OnOk, codes, flat_map, pos, unwrap_or};
 ghost use Rattle.sunspec.specs.Value.{AreRegistersOf};
-ghost use Rattle.sunspec.specs.Text.{scaled, shown};
+ghost use Rattle.sunspec.specs.Text.{scaled};
 ghost use Rattle.poll_book.specs.Orders.{setting_at};
 ghost use Rattle.poll_book.specs.Tables.{readings_between};
 ghost use Rattle.poll_book.specs.Changes.{as_row, as_rows};
-ghost use Rattle.office_core.specs.Fitting.{AreOf, HasForm, IsFitting};
+ghost use Rattle.office_core.specs.Fitting.{AreOf, HasForm, IsFitting, point_text};
 ghost use Rattle.office_script.specs.Printing.{line_end, order_line, order_line_of, order_lines, reading_line, reading_lines, report_of, state_text, total_line};
 
 use crate::printing::push_number;
@@ -23,7 +23,7 @@ fn push_text(
 ) -> Result<(), AllocError>
     requires form { HasForm point.now }
     requires registers { AreRegistersOf point.now.kind words.now }
-    ensures { OnOk result (out.new.items ≡ out.old.items ++ unwrap_or (shown point.now.kind point.now.scale words.now) (45 ∷ [])) }
+    ensures { OnOk result (out.new.items ≡ out.old.items ++ unwrap_or (point_text point.now words.now) (45 ∷ [])) }
 {
     match reading_text(alloc, point, words)? {
         Some(text) => out.extend_from_slice(text.as_bytes()),

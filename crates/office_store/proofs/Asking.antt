@@ -1,5 +1,5 @@
 -- A query changes nothing.
-use Rattle.std.proofs.Common.{◌≡◌, ◌⊎◌, inl, inr, ℕ, List, Ok, Err, Result, IfOk, IfErr, IsTrue, sym, ap, subst, ◌∙◌, arith}
+use Rattle.std.proofs.Common.{◌≡◌, ◌⊎◌, inl, inr, ℕ, List, Ok, Err, Result, IfOk, IfErr, OnOk, IsTrue, sym, ap, subst, ◌∙◌, arith}
 use Rattle.sqlite_value.specs.Order.{Row}
 use Rattle.sqlite_trees.specs.Tree.{Trees}
 use Rattle.sqlite.specs.declared.error.Error.{Error}
@@ -40,9 +40,13 @@ module _ (sql : List ℕ) (params : Row) (old new : State) (query : IsQuery sql)
         stands = subst (λ (d : Database). StandFor d.trees kept) (sym now) it.stands;
       }
 
-  ending : {X : Type 0} (items : X → List Row) (r : Result X Error) → IfOk r (λ x. Shown sql params old new (items x)) → IfErr r (FailsToQuery sql params old new) → IsUnchanged old new ⊎ IsRolledBack old new
+  pub ending : {X : Type 0} (items : X → List Row) (r : Result X Error) → IfOk r (λ x. Shown sql params old new (items x)) → IfErr r (FailsToQuery sql params old new) → IsUnchanged old new ⊎ IsRolledBack old new
   ending items (Ok x) ok err = inl (after_ok (items x) ok)
   ending items (Err e) ok err = after_err e err
+
+  pub same_if_ok : {X : Type 0} (items : X → List Row) (r : Result X Error) → IfOk r (λ x. Shown sql params old new (items x)) → OnOk r (IsUnchanged old new)
+  same_if_ok items (Ok x) ok = after_ok (items x) ok
+  same_if_ok items (Err e) ok = tt
 
   pub keeps : {X : Type 0} (items : X → List Row) (r : Result X Error) → (HasCleanDisk new → IfOk r (λ x. Shown sql params old new (items x))) → (HasCleanDisk new → IfErr r (FailsToQuery sql params old new))
       → Survives old new (CommitsShowing sql params old) → Keeps old new

@@ -22,6 +22,7 @@ use Rattle.sqlite.specs.State.{State, Shown}
 use Rattle.sqlite.proofs.Callers.{IsPlain, command_of, reads_as}
 use Rattle.mb_pdu.specs.declared.table.Table.TheVariants.{Coil}
 use Rattle.sunspec.specs.declared.point_type.PointType.TheVariants.{Bit}
+use Rattle.sunspec.specs.declared.word_order.WordOrder.TheVariants.{Big}
 use Rattle.point_list.specs.Name.{is_name}
 use Rattle.point_list.specs.Label.{is_label}
 use Rattle.point_list.specs.declared.point.Role.TheVariants.{Gauge}
@@ -34,7 +35,9 @@ use Rattle.poll_book.specs.Orders.{setting_at, point_at}
 use Rattle.office_store.specs.Schema.{office_schema, setting_tree, point_tree}
 use Rattle.office_store.specs.Texts.{setting_text, points_text, point_text}
 use Rattle.office_store.specs.Rows.{stored_setting, shown_setting, stored_point, shown_point, number_of, words_of, state_of, text_that, described}
+use Rattle.office_store.specs.Swaps.{plain}
 use Rattle.office_store.specs.Kept.{IsHeld}
+use Rattle.office_store.proofs.PlainPoints.{plain_found, plain_sorted}
 use Rattle.office_store.proofs.Comparing.{compares, equals, rising, sorts, number_is, and_then_some, map_some}
 use Rattle.office_store.proofs.Showing.{picked, answers, same_list, same_some}
 use Rattle.office_store.proofs.Sorted.{flips, finds_none, finds_first}
@@ -199,27 +202,28 @@ points_agree : (r : Row) (e : ℕ × Point) → stored_entry r ≡ Some e → (t
 points_agree r e h = (refl, h, ap (λ v. v ∷ []) (entry_key r e h))
 
 abbrev blank : ℕ × Point
-blank = (0, record { name = []; device = []; table = Coil; address = 0; kind = Bit; scale = pos 0; role = Gauge; roll = 0 })
+blank = (0, record { name = []; device = []; table = Coil; address = 0; kind = Bit; scale = pos 0; role = Gauge; roll = 0; order = Big })
 
 module _ (old new : State) (kept : Tables) (held : IsHeld old kept) (rows : List Row) (shown : Shown points_text [] old new rows) where
-  entries_shown : map shown_entry rows ≡ map Some (map numbered kept.points)
+  entries_shown : map shown_entry rows ≡ map Some (map numbered (map plain kept.points))
   entries_shown =
       let read = held.stands.points in
-      let table = map numbered kept.points in
+      let table = map numbered (map plain kept.points) in
       let keep : ℕ × Point → Bool = λ e. true in
       let a = (reads_as points_text [] old new office_schema held.schema (Select (record { lets = []; body = points_query }) points_names) points_are.0 points_are.2 points_are.1 rows shown).answer Null in
-      let staged = picked stored_entry shown_entry keep sort blank (λ r. true) (λ r. [] ∷ r ∷ []) (output points_query) points_agree (old.now.trees point_tree) table (as_entries stored_point (old.now.trees point_tree) kept.points read.stored) in
+      let staged = picked stored_entry shown_entry keep sort blank (λ r. true) (λ r. [] ∷ r ∷ []) (output points_query) points_agree (old.now.trees point_tree) table (as_entries stored_point (old.now.trees point_tree) (map plain kept.points) read.stored) in
       let is : a.kept ≡ _ = a.distinct ∙ ap (map (output points_query)) a.grouped in
-      let done = answers stored_entry shown_entry keep sort blank nat_cmp nat_cmp_total exact_unsigned points_query (natural_sorts keep) table table _ a.ordered read.sorted (IsPermutation-refl table) staged (subst (λ k. IsPermutation k a.ordered) is a.same) a.sorted in
+      let sorted = plain_sorted kept.points read.sorted in
+      let done = answers stored_entry shown_entry keep sort blank nat_cmp nat_cmp_total exact_unsigned points_query (natural_sorts keep) table table _ a.ordered sorted (IsPermutation-refl table) staged (subst (λ k. IsPermutation k a.ordered) is a.same) a.sorted in
       ap (map shown_entry) a.shown ∙ done ∙ ap (map Some) (all_kept table)
 
-  points_shown : map shown_point rows ≡ map Some kept.points
-  points_shown = as_points shown_point rows kept.points entries_shown
+  points_shown : map shown_point rows ≡ map Some (map plain kept.points)
+  points_shown = as_points shown_point rows (map plain kept.points) entries_shown
 
   -- and so do the points that are made of the rows
-  pub all_points : {E : Type 0} (made : Result (Vec PointRow Global) E) → IfOk made (λ points. map shown_point rows ≡ map Some (map (λ point. point) points.items)) → IfOk made (λ points. points.items ≡ kept.points)
-  all_points (Ok points) is = same_list points.items kept.points (sym (ap (map Some) (map-id points.items)) ∙ sym is ∙ points_shown)
-  all_points (Err e) is = tt
+  pub plain_points : {E : Type 0} (made : Result (Vec PointRow Global) E) → IfOk made (λ points. map shown_point rows ≡ map Some (map (λ point. point) points.items)) → IfOk made (λ points. points.items ≡ map plain kept.points)
+  plain_points (Ok points) is = same_list points.items (map plain kept.points) (sym (ap (map Some) (map-id points.items)) ∙ sym is ∙ points_shown)
+  plain_points (Err e) is = tt
 
 -- ---- a point by its number
 
@@ -260,27 +264,28 @@ module _ (number : ℕ) where
       step false h more = more h
 
   module _ (old new : State) (kept : Tables) (held : IsHeld old kept) where
-    shows_point : (rows : List Row) → Shown point_text (given number) old new rows → map shown_entry rows ≡ map Some (filter has_number (map numbered kept.points))
+    shows_point : (rows : List Row) → Shown point_text (given number) old new rows → map shown_entry rows ≡ map Some (filter has_number (map numbered (map plain kept.points)))
     shows_point rows shown =
         let read = held.stands.points in
-        let table = map numbered kept.points in
+        let table = map numbered (map plain kept.points) in
         let a = (reads_as point_text (given number) old new office_schema held.schema (Select (record { lets = []; body = point_query }) points_names) point_is.0 point_is.2 point_is.1 rows shown).answer Null in
-        let staged = picked stored_entry shown_entry has_number sort blank (λ r. list_all (holds (given number ∷ r ∷ [])) point_query.filter) (λ r. given number ∷ r ∷ []) (output point_query) point_agrees (old.now.trees point_tree) table (as_entries stored_point (old.now.trees point_tree) kept.points read.stored) in
+        let staged = picked stored_entry shown_entry has_number sort blank (λ r. list_all (holds (given number ∷ r ∷ [])) point_query.filter) (λ r. given number ∷ r ∷ []) (output point_query) point_agrees (old.now.trees point_tree) table (as_entries stored_point (old.now.trees point_tree) (map plain kept.points) read.stored) in
+        let sorted = plain_sorted kept.points read.sorted in
         let is : a.kept ≡ _ = a.distinct ∙ ap (map (output point_query)) a.grouped in
-        let done = answers stored_entry shown_entry has_number sort blank nat_cmp nat_cmp_total exact_unsigned point_query (natural_sorts has_number) table table _ a.ordered read.sorted (IsPermutation-refl table) staged (subst (λ k. IsPermutation k a.ordered) is a.same) a.sorted in
+        let done = answers stored_entry shown_entry has_number sort blank nat_cmp nat_cmp_total exact_unsigned point_query (natural_sorts has_number) table table _ a.ordered sorted (IsPermutation-refl table) staged (subst (λ k. IsPermutation k a.ordered) is a.same) a.sorted in
         ap (map shown_entry) a.shown ∙ done
 
-    pub no_point : Shown point_text (given number) old new [] → None ≡ point_at kept.points number
-    no_point shown = sym (finds_no_point kept.points (empty (filter has_number (map numbered kept.points)) (shows_point [] shown)))
+    pub no_point : Shown point_text (given number) old new [] → None ≡ option_map plain (point_at kept.points number)
+    no_point shown = sym (finds_no_point (map plain kept.points) (empty (filter has_number (map numbered (map plain kept.points))) (shows_point [] shown))) ∙ plain_found kept.points number
       where
         empty : (xs : List (ℕ × Point)) → ◌≡◌ {A = List (Option (ℕ × Point))} [] (map Some xs) → xs ≡ []
         empty [] h = refl
         empty (x ∷ xs) h = absurd (cc)
 
-    pub one_point : (row : Row) → Shown point_text (given number) old new (row ∷ []) → (found : PointRow) → shown_point row ≡ Some found → Some found ≡ point_at kept.points number
+    pub one_point : (row : Row) → Shown point_text (given number) old new (row ∷ []) → (found : PointRow) → shown_point row ≡ Some found → Some found ≡ option_map plain (point_at kept.points number)
     one_point row shown found is =
-        let it = first (filter has_number (map numbered kept.points)) (shows_point (row ∷ []) shown) in
-        sym (finds_point kept.points found it.0 it.1)
+        let it = first (filter has_number (map numbered (map plain kept.points))) (shows_point (row ∷ []) shown) in
+        sym (finds_point (map plain kept.points) found it.0 it.1) ∙ plain_found kept.points number
       where
         first : (xs : List (ℕ × Point)) → map shown_entry (row ∷ []) ≡ map Some xs → (rest : List (ℕ × Point)) × (xs ≡ numbered found ∷ rest)
         first [] h = absurd (cc)

@@ -56,7 +56,7 @@ second_alone x y false false h k = absurd (cc)
 module _ (old new : State) (kept : Tables) (held : IsHeld old kept) where
   pub shows_connections : (rows : List Row) → Shown connections_text [] old new rows → rows ≡ (Int (pos kept.connections) ∷ []) ∷ []
   shows_connections rows shown =
-      let r : Row = Int (pos 1) ∷ Text (codes "version") ∷ Int (pos 1) ∷ [] in
+      let r : Row = Int (pos 1) ∷ Text (codes "version") ∷ Int (pos 2) ∷ [] in
       let s : Row = Int (pos 2) ∷ Text (codes "connections") ∷ Int (pos kept.connections) ∷ [] in
       let a = (reads_as connections_text [] old new office_schema held.schema (Select (record { lets = []; body = connections_query }) (codes "value" ∷ [])) connections_are.0 connections_are.2 connections_are.1 rows shown).answer Null in
       let fails = ap (λ b. b && true) passes_not in

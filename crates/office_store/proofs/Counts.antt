@@ -28,7 +28,7 @@ use Rattle.office_store.proofs.Sorted.{finds_none, finds_first}
 abbrev HasSlot : Key × Reading → Type 0
 HasSlot e = e.0.1 < 2 ^ 32
 
-below_limit : (limit : ℕ) (v : Value) (n : ℕ) → number_below limit v ≡ Some n → n < limit
+pub below_limit : (limit : ℕ) (v : Value) (n : ℕ) → number_below limit v ≡ Some n → n < limit
 below_limit limit (Int (pos m)) n h = go (nat_lt m limit) refl h
   where
     go : (b : Bool) → nat_lt m limit ≡ b → (if b then Some m else None) ≡ Some n → n < limit

@@ -1,5 +1,6 @@
 -- Whether tables are an office's can be decided.
-use Rattle.std.proofs.Common.{◌≡◌, ◌⊎◌, inl, inr, ℕ, pos, List, [], ◌∷◌, map, Bool, true, false, None, Some, Option, IsTrue, refl, sym, ap, ap₂, subst, ◌∙◌, T, ◌==◌, arith}
+use Rattle.std.proofs.Common.{◌≡◌, ◌⊎◌, inl, inr, ℕ, pos, List, [], ◌∷◌, map, Bool, true, false, None, Some, Option, IsTrue, refl, sym, ap, ap₂, subst, ◌∙◌, T, ◌==◌, arith, option_and_then}
+use Rattle.std.specs.Prelude.{⊤}
 use Rattle.std.specs.List.{AllByRecursion, IsDistinct}
 use Rattle.std.specs.List.Sorted.{IsPermutation}
 use Rattle.std.specs.FinMap.Entries as rows
@@ -27,18 +28,26 @@ use Rattle.sqlite_schema.specs.declared.schema.Schema.{Schema}
 use Rattle.sqlite_schema.specs.contracts.schema.Schema as schema
 use Rattle.sqlite_catalog.specs.Listing.{Lists}
 use Rattle.sqlite_catalog.proofs.ReadLemmas.{lists_once}
-use Rattle.poll_book.specs.Tables.{Tables, Readings, Sums, key_cmp}
+use Rattle.poll_book.specs.Tables.{Tables, Readings, Sums, Voids, key_cmp}
 use Rattle.poll_book.specs.Requests.{Requests, request_cmp}
 use Rattle.poll_book.specs.Orders.{Settings}
+use Rattle.sunspec.specs.declared.word_order.WordOrder.TheVariants.{Big}
+use Rattle.point_list.specs.Name.{is_name}
+use Rattle.point_list.specs.Label.{is_label}
+use Rattle.point_list.specs.declared.point.Point.{Point}
 use Rattle.poll_book.specs.declared.rows.PointRow.{PointRow}
-use Rattle.office_store.specs.Schema.{office_schema, meta_tree, point_tree, reading_tree, setting_tree, request_tree, total_tree}
-use Rattle.office_store.specs.Rows.{stored_point, stored_reading, stored_setting, stored_request, stored_sum}
-use Rattle.office_store.specs.Kept.{AreReadings, AreRequests, ArePoints, AreSettings, AreTotals, AreNumbers, IsOffice, StandFor, number_rows}
+use Rattle.office_store.specs.Schema.{office_schema, meta_tree, point_tree, reading_tree, setting_tree, request_tree, total_tree, void_tree, swapped_tree}
+use Rattle.office_store.specs.Rows.{described, kind_of, long_of, number_below, number_of, role_coded, small_of, stored_point, stored_reading, stored_setting, stored_request, stored_sum, stored_swap, stored_void, table_coded, text_that}
+use Rattle.office_store.specs.Swaps.{Swaps, plain, swaps_of}
+use Rattle.office_store.specs.Kept.{AreReadings, AreRequests, ArePoints, AreSettings, AreSwaps, AreTotals, AreVoids, AreNumbers, IsOffice, StandFor, number_rows}
 use Rattle.office_store.proofs.ByKey.{requests_total}
 use Rattle.office_store.proofs.Putting.{put_same}
+use Rattle.office_store.proofs.Comparing.{and_then_some, map_some}
+use Rattle.office_store.proofs.PlainPoints.{plain_sorted}
 use Rattle.office_store.proofs.Showing.{same_list}
 use Rattle.office_store.proofs.Slots.{keys_total}
 use Rattle.office_store.proofs.Sorted.{T_true, distinct_again, keys_sorted}
+use Rattle.office_store.proofs.Swapping.{given, given_back, given_sorted, plain_given}
 
 -- it is so, or it isn't
 abbrev pub Decided : Type 0 → Type 0
@@ -204,10 +213,62 @@ requests_decided db = elim (all_some stored_request (db request_tree)) [
   ]
 ]
 
-points_decided : (db : Trees) → Decided ((kept : List PointRow) × ArePoints db kept)
+-- a point's row tells no order
+row_is_plain : (r : Row) (p : PointRow) → stored_point r ≡ Some p → plain p ≡ p
+row_is_plain r p h =
+    let n = and_then_some _ (number_of (column r 0)) _ h in
+    let name = and_then_some _ (text_that is_name (column r 2)) _ n.2 in
+    let device = and_then_some _ (text_that is_label (column r 3)) _ name.2 in
+    let rest = map_some _ (described name.0 device.0 (column r 4) (column r 5) (column r 6) (column r 7) (column r 8) (column r 9) (column r 10)) _ device.2 in
+    let table = and_then_some _ (option_and_then table_coded (number_below 256 (column r 4))) _ rest.1 in
+    let address = and_then_some _ (number_below 65536 (column r 5)) _ table.2 in
+    let kind = and_then_some _ (kind_of (column r 6) (column r 7)) _ address.2 in
+    let scale = and_then_some _ (small_of (column r 8)) _ kind.2 in
+    let role = and_then_some _ (option_and_then role_coded (number_below 256 (column r 9))) _ scale.2 in
+    let roll = map_some _ (long_of (column r 10)) _ role.2 in
+    let big : rest.0.order ≡ Big = ap (λ (x : Point). x.order) (sym roll.2) in
+    let order : p.point.order ≡ Big = ap (λ (x : PointRow). x.point.order) (sym rest.2) ∙ big in
+    ap (λ o. record { number = p.number; point = record p.point { order = o } }) (sym order)
+
+rows_are_plain : (all : List Row) (points : List PointRow) → map stored_point all ≡ map Some points → map plain points ≡ points
+rows_are_plain [] [] h = refl
+rows_are_plain [] (p ∷ points) h = absurd (cc)
+rows_are_plain (r ∷ all) [] h = absurd (cc)
+rows_are_plain (r ∷ all) (p ∷ points) h =
+    let head : stored_point r ≡ Some p = cc in
+    let tail : map stored_point all ≡ map Some points = cc in
+    ap₂ (λ (x : PointRow) (xs : List PointRow). x ∷ xs) (row_is_plain r p head) (rows_are_plain all points tail)
+
+same_swaps : (a b : Swaps) → Decided (a ≡ b)
+same_swaps [] [] = inl refl
+same_swaps [] (y ∷ b) = inr (λ e. absurd (cc))
+same_swaps (x ∷ a) [] = inr (λ e. absurd (cc))
+same_swaps (x ∷ a) (y ∷ b) = both (same_number x.0 y.0) (same_swaps a b)
+  where
+    both : Decided (x.0 ≡ y.0) → Decided (a ≡ b) → Decided (x ∷ a ≡ y ∷ b)
+    both (inl p) (inl q) = inl (ap₂ (λ (n : ℕ) (xs : Swaps). (n, tt) ∷ xs) p q)
+    both (inl p) (inr not) = inr (λ e. not (cc))
+    both (inr not) q = inr (λ e. let first : x ≡ y = cc in not (ap (λ (z : ℕ × ⊤). z.0) first))
+
+-- the points of the rows, in the orders of the other table's
+points_decided : (db : Trees) → Decided ((kept : List PointRow) × ArePoints db kept × AreSwaps db kept)
 points_decided db = elim (in_order stored_point (λ ps. rows.is_sorted nat_cmp (map (λ (p : PointRow). (p.number, p.point)) ps)) (db point_tree)) [
-  | inl it ↦ inl (it.0, record { stored = it.1; sorted = it.2 })
-  | inr not ↦ inr (λ it. not (it.0, it.1.stored, it.1.sorted))
+  | inr not ↦ inr (λ it. not (map plain it.0, it.1.stored, plain_sorted it.0 it.1.sorted))
+  | inl points ↦ elim (all_some stored_swap (db swapped_tree)) [
+    | inr not ↦ inr (λ it. not (swaps_of it.0, it.2.stored))
+    | inl swaps ↦ elim (same_swaps (swaps_of (map (given swaps.0) points.0)) swaps.0) [
+      | inl same ↦ inl (
+        map (given swaps.0) points.0,
+        record { stored = points.1 ∙ ap (map Some) (sym (plain_given swaps.0 points.0 ∙ rows_are_plain (db point_tree) points.0 points.1)); sorted = given_sorted swaps.0 points.0 points.2 },
+        record { stored = swaps.1 ∙ ap (map Some) (sym same) },
+      )
+      | inr not ↦ inr (λ it.
+          let plains : map plain it.0 ≡ points.0 = same_list (map plain it.0) points.0 (sym it.1.stored ∙ points.1) in
+          let told : swaps_of it.0 ≡ swaps.0 = same_list (swaps_of it.0) swaps.0 (sym it.2.stored ∙ swaps.1) in
+          let is : map (given swaps.0) points.0 ≡ it.0 = ap₂ (λ (s : Swaps) (ps : List PointRow). map (given s) ps) (sym told) (sym plains) ∙ given_back it.0 it.1.sorted in
+          not (ap swaps_of is ∙ told))
+    ]
+  ]
 ]
 
 settings_decided : (db : Trees) → Decided ((kept : Settings) × AreSettings db kept)
@@ -220,6 +281,15 @@ totals_decided : (db : Trees) → Decided ((kept : Sums) × AreTotals db kept)
 totals_decided db = elim (in_order stored_sum (λ es. rows.is_sorted nat_cmp es) (db total_tree)) [
   | inl it ↦ inl (it.0, record { stored = it.1; sorted = it.2 })
   | inr not ↦ inr (λ it. not (it.0, it.1.stored, it.1.sorted))
+]
+
+voids_decided : (db : Trees) → Decided ((kept : Voids) × AreVoids db kept)
+voids_decided db = elim (all_some stored_void (db void_tree)) [
+  | inr not ↦ inr (λ it. not (it.1.entries, it.1.stored))
+  | inl some ↦ elim (has_order key_cmp keys_total some.0) [
+    | inl it ↦ inl (it.0, record { entries = some.0; stored = some.1; same = it.1; sorted = it.2 })
+    | inr not ↦ inr (λ it. not (it.0, subst (λ es. IsPermutation es it.0) (same_list it.1.entries some.0 (sym it.1.stored ∙ some.1)) it.1.same, it.1.sorted))
+  ]
 ]
 
 number_in : Value → ℕ
@@ -239,7 +309,7 @@ numbers_decided db = elim (same_coded (coded_list row.the_row.coded) (db meta_tr
 
 stands_decided : (db : Trees) → Decided ((kept : Tables) × StandFor db kept)
 stands_decided db = elim (points_decided db) [
-  | inr not ↦ inr (λ it. not (it.0.points, it.1.points))
+  | inr not ↦ inr (λ it. not (it.0.points, it.1.points, it.1.swapped))
   | inl a ↦ elim (readings_decided db) [
     | inr not ↦ inr (λ it. not (it.0.readings, it.1.readings))
     | inl b ↦ elim (settings_decided db) [
@@ -250,7 +320,13 @@ stands_decided db = elim (points_decided db) [
           | inr not ↦ inr (λ it. not (it.0.connections, it.1.numbers))
           | inl e ↦ elim (totals_decided db) [
             | inr not ↦ inr (λ it. not (it.0.totals, it.1.totals))
-            | inl f ↦ inl (record { points = a.0; readings = b.0; totals = f.0; settings = c.0; requests = d.0; connections = e.0 }, record { points = a.1; readings = b.1; settings = c.1; requests = d.1; totals = f.1; numbers = e.1 })
+            | inl f ↦ elim (voids_decided db) [
+              | inr not ↦ inr (λ it. not (it.0.voids, it.1.voids))
+              | inl g ↦ inl (
+                record { points = a.0; readings = b.0; voids = g.0; totals = f.0; settings = c.0; requests = d.0; connections = e.0 },
+                record { points = a.1; readings = b.1; settings = c.1; requests = d.1; totals = f.1; voids = g.1; swapped = a.2; numbers = e.1 },
+              )
+            ]
           ]
         ]
       ]

@@ -29,7 +29,7 @@ use Rattle.sqlite.proofs.Callers.{runs_as, one_step, statement_of}
 use Rattle.poll_book.specs.Tables.{no_tables}
 use Rattle.office_store.specs.Schema.{meta, office_schema}
 use Rattle.office_store.specs.Blank.{AreBlank, IsEmptyOffice}
-use Rattle.office_store.specs.Rows.{stored_point, stored_reading, stored_setting, stored_request, stored_sum}
+use Rattle.office_store.specs.Rows.{stored_point, stored_reading, stored_setting, stored_request, stored_sum, stored_swap, stored_void}
 use Rattle.office_store.specs.Kept.{StandFor, number_rows}
 use Rattle.office_store.proofs.Texts.{numbers_text, numbers_terms, numbers_are}
 use Rattle.office_store.proofs.Tables.{went, same_value}
@@ -50,13 +50,13 @@ abbrev first_rows : List Row
 first_rows = number_rows 0
 
 abbrev source : List Row
-source = (Null ∷ Text (codes "version") ∷ Int (pos 1) ∷ []) ∷ (Null ∷ Text (codes "connections") ∷ Int (pos 0) ∷ []) ∷ []
+source = (Null ∷ Text (codes "version") ∷ Int (pos 2) ∷ []) ∷ (Null ∷ Text (codes "connections") ∷ Int (pos 0) ∷ []) ∷ []
 
 abbrev edit : Trees → List Row → Edit
 edit db rows = edit_of db meta [] Chosen 0 rows
 
 news : (edit (λ t. []) source).news ≡ first_rows
-news = rw (cast_null, cast_int (pos 1), cast_int (pos 0)) refl
+news = rw (cast_null, cast_int (pos 2), cast_int (pos 0)) refl
 
 both_put : put_all [] first_rows ≡ first_rows
 both_put = rw (value_cmp-Int (pos 1) (pos 2)) refl
@@ -85,7 +85,9 @@ puts_numbers old new (Ok count) blank h =
     let readings = at 4 ∙ rest.1.0 (λ e. absurd (omega (arith, e))) ∙ blank.reading in
     let settings = at 6 ∙ rest.1.1.0 (λ e. absurd (omega (arith, e))) ∙ blank.setting in
     let requests = at 7 ∙ rest.1.1.1.0 (λ e. absurd (omega (arith, e))) ∙ blank.request in
-    let totals = at 9 ∙ rest.1.1.1.1.0 (λ e. absurd (omega (arith, e))) ∙ blank.total in (
+    let totals = at 9 ∙ rest.1.1.1.1.0 (λ e. absurd (omega (arith, e))) ∙ blank.total in
+    let voids = at 10 ∙ rest.1.1.1.1.1.0 (λ e. absurd (omega (arith, e))) ∙ blank.void in
+    let swapped = at 12 ∙ rest.1.1.1.1.1.1.0 (λ e. absurd (omega (arith, e))) ∙ blank.swapped in (
       ap (λ (d : Database). d.schema) now,
       record {
         points = record { stored = ap (map stored_point) points; sorted = tt };
@@ -93,6 +95,8 @@ puts_numbers old new (Ok count) blank h =
         settings = record { stored = ap (map stored_setting) settings; sorted = tt };
         requests = record { entries = []; stored = ap (map stored_request) requests; same = IsPermutation-refl []; sorted = tt };
         totals = record { stored = ap (map stored_sum) totals; sorted = tt };
+        voids = record { entries = []; stored = ap (map stored_void) voids; same = IsPermutation-refl []; sorted = tt };
+        swapped = record { stored = ap (map stored_swap) swapped };
         numbers = at 0 ∙ made.rows ∙ filled db blank.meta;
       },
     )

@@ -11,6 +11,7 @@ mod Registers
 mod Comparing
 mod Slots
 mod Presence
+mod PlainPoints
 mod ByNumber
 mod Counts
 mod Connections
@@ -32,12 +33,18 @@ mod SettleOrder
 mod Backward
 mod LastOrder
 mod Nearest
+mod LastReading
+mod Behind
 mod Sixteen
 mod PutRequest
 mod Once
 mod Committing
 mod SettingStates
+mod Swapping
+mod Merging
+mod ShownSwaps
 mod PutPoint
+mod PutSwap
 mod NewPoints
 mod Deciding
 mod Keeping
@@ -48,4 +55,8 @@ mod PutTotal
 mod SetTotal
 mod FirstTotals
 mod ShownTotals
+mod VoidKeys
+mod VoidCount
+mod PutVoid
+mod Moving
 pub mod Versions

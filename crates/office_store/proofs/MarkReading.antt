@@ -46,6 +46,7 @@ use Rattle.office_store.specs.Schema.{office_schema}
 use Rattle.office_store.specs.Rows.{stored_point, stored_reading, stored_setting, stored_request, stored_sum, flag_of, number_of, words_of}
 use Rattle.office_store.specs.Writing.{Within}
 use Rattle.office_store.proofs.Texts.{mark_reading_text, mark_reading_query, mark_reading_is}
+use Rattle.office_store.proofs.StayingRows.{swaps_stay, voids_stay}
 use Rattle.office_store.proofs.Tables.{went, same_value}
 use Rattle.office_store.proofs.FirstRows.{cast_int}
 use Rattle.office_store.proofs.FreeKeys.{none_left}
@@ -294,6 +295,8 @@ module _ (p s : ℕ) (flag : Bool) where
       let settings = at 6 ∙ others.1.1.1.0 (λ e. absurd (omega (arith, e))) in
       let requests = at 7 ∙ others.1.1.1.1.0 (λ e. absurd (omega (arith, e))) in
       let totals = at 9 ∙ others.1.1.1.1.1.0 (λ e. absurd (omega (arith, e))) in
+      let voids = at 10 ∙ others.1.1.1.1.1.1.0 (λ e. absurd (omega (arith, e))) in
+      let swapped = at 12 ∙ others.1.1.1.1.1.1.1.0 (λ e. absurd (omega (arith, e))) in
       let at_four : new.now.trees 4 ≡ put_row (remarked it.id it.row) (without_rowid it.id (db 4)) = at 4 ∙ made.rows ∙ ap (put_all (without_rowid it.id (db 4))) (news db it.row it.id it.number it.hit first second) in
       let moved = subst (IsPermutation (map after was.readings.entries)) (sym one.1) (IsPermutation-map after was.readings.entries kept.readings was.readings.same) in
       record {
@@ -314,6 +317,8 @@ module _ (p s : ℕ) (flag : Bool) where
           settings = record { stored = ap (map stored_setting) settings ∙ was.settings.stored; sorted = was.settings.sorted };
           requests = record { entries = was.requests.entries; stored = ap (map stored_request) requests ∙ was.requests.stored; same = was.requests.same; sorted = was.requests.sorted };
           totals = record { stored = ap (map stored_sum) totals ∙ was.totals.stored; sorted = was.totals.sorted };
+          voids = voids_stay old.now.trees new.now.trees kept.voids voids was.voids;
+          swapped = swaps_stay old.now.trees new.now.trees kept.points swapped was.swapped;
           numbers = meta ∙ was.numbers;
         };
       }

@@ -51,7 +51,7 @@ key_is : (command_of (understood office_schema reading_key_text) ≡ Select (rec
 unfolding understood everything
 key_is = (refl, refl, (refl, refl))
 
-some_rows : (n : ℕ) → not (suc n == 0) ≡ true
+pub some_rows : (n : ℕ) → not (suc n == 0) ≡ true
 some_rows n = grind (arith, nat_tests)
 
 module _ (point slot : ℕ) where

@@ -30,6 +30,7 @@ use Rattle.office_store.specs.Schema.{office_schema}
 use Rattle.office_store.specs.Rows.{IsRowOf, shown_reading, stored_point, stored_reading, stored_setting, stored_request, stored_sum}
 use Rattle.office_store.specs.Writing.{Within}
 use Rattle.office_store.proofs.Texts.{put_five_text, put_five_terms, put_five_is}
+use Rattle.office_store.proofs.StayingRows.{swaps_stay, voids_stay}
 use Rattle.office_store.proofs.Tables.{went, same_value}
 use Rattle.office_store.proofs.FreeKeys.{not_foreign}
 use Rattle.office_store.proofs.PutReading.{reading_table}
@@ -98,6 +99,8 @@ module _ (a b c d e : ReadingRow) where
       let settings = at 6 ∙ others.1.1.1.0 (λ e. absurd (omega (arith, e))) in
       let requests = at 7 ∙ others.1.1.1.1.0 (λ e. absurd (omega (arith, e))) in
       let totals = at 9 ∙ others.1.1.1.1.1.0 (λ e. absurd (omega (arith, e))) in
+      let voids = at 10 ∙ others.1.1.1.1.1.1.0 (λ e. absurd (omega (arith, e))) in
+      let swapped = at 12 ∙ others.1.1.1.1.1.1.1.0 (λ e. absurd (omega (arith, e))) in
       let was = within.stands in
       let alone = subst (λ all. AllByRecursion (IsAlone all) all) put (made.fits.rules Unique not_foreign).1.1.0 in
       let stood : Stand (db 4) kept.readings = record { entries = was.readings.entries; stored = was.readings.stored; numbered = was.readings.numbered; same = was.readings.same; sorted = was.readings.sorted } in
@@ -120,6 +123,8 @@ module _ (a b c d e : ReadingRow) where
           settings = record { stored = ap (map stored_setting) settings ∙ was.settings.stored; sorted = was.settings.sorted };
           requests = record { entries = was.requests.entries; stored = ap (map stored_request) requests ∙ was.requests.stored; same = was.requests.same; sorted = was.requests.sorted };
           totals = record { stored = ap (map stored_sum) totals ∙ was.totals.stored; sorted = was.totals.sorted };
+          voids = voids_stay old.now.trees new.now.trees kept.voids voids was.voids;
+          swapped = swaps_stay old.now.trees new.now.trees kept.points swapped was.swapped;
           numbers = meta ∙ was.numbers;
         };
       }

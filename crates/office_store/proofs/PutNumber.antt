@@ -30,12 +30,12 @@ use Rattle.office_store.specs.Kept.{number_rows}
 use Rattle.office_store.specs.Writing.{Within}
 use Rattle.office_store.proofs.Texts.{put_connection_text, put_connection_query, put_connection_is}
 use Rattle.office_store.proofs.Tables.{went, same_value}
-use Rattle.office_store.proofs.StayingRows.{readings_stay}
+use Rattle.office_store.proofs.StayingRows.{readings_stay, swaps_stay, voids_stay}
 use Rattle.office_store.proofs.FirstRows.{cast_int}
 use Rattle.office_store.proofs.Connections.{passes_not, passes_itself, second_alone}
 
 abbrev version_row : Row
-version_row = Int (pos 1) ∷ Text (codes "version") ∷ Int (pos 1) ∷ []
+version_row = Int (pos 1) ∷ Text (codes "version") ∷ Int (pos 2) ∷ []
 
 abbrev number_row : ℕ → Row
 number_row n = Int (pos 2) ∷ Text (codes "connections") ∷ Int (pos n) ∷ []
@@ -98,6 +98,8 @@ module _ (number : ℕ) where
       let settings = at 6 ∙ rest.1.1.0 (λ e. absurd (omega (arith, e))) in
       let requests = at 7 ∙ rest.1.1.1.0 (λ e. absurd (omega (arith, e))) in
       let totals = at 9 ∙ rest.1.1.1.1.0 (λ e. absurd (omega (arith, e))) in
+      let voids = at 10 ∙ rest.1.1.1.1.1.0 (λ e. absurd (omega (arith, e))) in
+      let swapped = at 12 ∙ rest.1.1.1.1.1.1.0 (λ e. absurd (omega (arith, e))) in
       record {
         is_open = h.1.is_open;
         inside = h.1.mode;
@@ -110,6 +112,8 @@ module _ (number : ℕ) where
           settings = record { stored = ap (map stored_setting) settings ∙ was.settings.stored; sorted = was.settings.sorted };
           requests = record { entries = was.requests.entries; stored = ap (map stored_request) requests ∙ was.requests.stored; same = was.requests.same; sorted = was.requests.sorted };
           totals = record { stored = ap (map stored_sum) totals ∙ was.totals.stored; sorted = was.totals.sorted };
+          voids = voids_stay old.now.trees new.now.trees kept.voids voids was.voids;
+          swapped = swaps_stay old.now.trees new.now.trees kept.points swapped was.swapped;
           numbers = at 0 ∙ made.rows ∙ filled db kept.connections was.numbers;
         };
       }

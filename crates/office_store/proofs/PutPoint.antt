@@ -1,4 +1,4 @@
--- What the insert of a point after all others adds.
+-- What the insert of a point's row after all others adds.
 use Rattle.std.proofs.Common.{◌≡◌, ℕ, ℤ, pos, negsuc, ◌<◌, ◌^◌, List, [], ◌∷◌, ◌++◌, true, None, Some, Ok, Err, Result, refl, sym, ap, subst, ◌∙◌, arith, IfOk, OnOk, map, option_map, option_and_then, T, SFits, w8}
 use Rattle.std.specs.Int.{w64, to_be_bytes}
 use Rattle.std.specs.List.{AllByRecursion}
@@ -31,6 +31,7 @@ use Rattle.mb_pdu.specs.declared.table.Table.TheVariants.{Coil, Discrete, Input,
 use Rattle.sunspec.specs.PointType.{row}
 use Rattle.sunspec.specs.declared.point_type.PointType.{PointType}
 use Rattle.sunspec.specs.declared.point_type.PointType.TheVariants.{Int16, Uint16, Acc16, Enum16, Bitfield16, Sunssf, Int32, Uint32, Acc32, Enum32, Bitfield32, Int64, Uint64, Acc64, Ipaddr, Str, Bit}
+use Rattle.sunspec.specs.declared.word_order.WordOrder.TheVariants.{Big}
 use Rattle.point_list.specs.Name.{is_name}
 use Rattle.point_list.specs.Label.{is_label}
 use Rattle.point_list.specs.declared.point.Point.{Point}
@@ -40,14 +41,17 @@ use Rattle.poll_book.specs.declared.rows.PointRow.{PointRow}
 use Rattle.poll_book.specs.Tables.{Tables}
 use Rattle.office_store.specs.PointNumbers.{table_number, role_number}
 use Rattle.office_store.specs.Schema.{point as point_schema, office_schema}
-use Rattle.office_store.specs.Rows.{stored_point, stored_setting, stored_request, stored_sum, number_below, table_coded, role_coded, kind_of, small_of, long_of}
+use Rattle.office_store.specs.Rows.{stored_point, stored_setting, stored_request, stored_sum, stored_swap, number_below, table_coded, role_coded, kind_of, small_of, long_of}
+use Rattle.office_store.specs.Swaps.{plain}
 use Rattle.office_store.specs.Writing.{Within}
 use Rattle.office_store.proofs.Texts.{put_point_text, put_point_terms, put_point_is}
 use Rattle.office_store.proofs.Tables.{went, same_value}
-use Rattle.office_store.proofs.StayingRows.{readings_stay}
+use Rattle.office_store.proofs.StayingRows.{readings_stay, voids_stay}
 use Rattle.office_store.proofs.FirstRows.{cast_null, cast_int}
 use Rattle.office_store.proofs.ByNumber.{numbered, stored_entry, entry_key, as_entries, as_points}
 use Rattle.office_store.proofs.Appending.{stands_last, put_last}
+use Rattle.office_store.proofs.PlainPoints.{plain_low}
+use Rattle.office_store.proofs.Swapping.{no_swap_more}
 
 abbrev pub point_table : SqlTable
 point_table = record point_schema { tree = 2 }
@@ -118,23 +122,24 @@ module _ (n : ℕ) (point : Point) where
   abbrev added : Row
   added = Int (pos n) ∷ Null ∷ columns
 
+  -- its row doesn't tell the order
   abbrev known : PointRow
-  known = record { number = n; point = point }
+  known = plain (record { number = n; point = point })
 
   pub point_added : n < 2 ^ 32 → IsPoint point → stored_point added ≡ Some known
   point_added low is =
       rw (lt-ltb n 4294967296 low, is.name, is.device, table_back point.table, lt-ltb point.address 65536 is.address, kind_back point.kind is.registers, small_back point.scale is.scale, role_back point.role)
-      (ap (λ o. option_map (λ p. record { number = n; point = p }) (option_map (λ m. record point { roll = m }) o)) (long_back point.roll is.roll))
+      (ap (λ o. option_map (λ p. record { number = n; point = p }) (option_map (λ m. record point { roll = m; order = Big }) o)) (long_back point.roll is.roll))
 
   -- ---- what is appended
 
-  in_order : (points : List PointRow) → AllByRecursion (λ p. p.number < n) points → rows.put nat_cmp n point (map numbered points) ≡ map numbered (points ++ known ∷ [])
-  in_order points low = put_last n point (map numbered points) (low_entries n points low) ∙ sym (map-append numbered points (known ∷ []))
+  in_order : (points : List PointRow) → AllByRecursion (λ p. p.number < n) points → rows.put nat_cmp n known.point (map numbered points) ≡ map numbered (points ++ known ∷ [])
+  in_order points low = put_last n known.point (map numbered points) (low_entries n points low) ∙ sym (map-append numbered points (known ∷ []))
 
   stands : (all : List Row) (points : List PointRow) → stored_point added ≡ Some known → map stored_point all ≡ map Some points → AllByRecursion (λ p. p.number < n) points
       → map stored_point (put_row added all) ≡ map Some (points ++ known ∷ [])
   stands all points is stored low =
-      let last = stands_last stored_entry entry_key added n point refl (ap (option_map numbered) is) all (map numbered points) (as_entries stored_point all points stored) (low_entries n points low) in
+      let last = stands_last stored_entry entry_key added n known.point refl (ap (option_map numbered) is) all (map numbered points) (as_entries stored_point all points stored) (low_entries n points low) in
       as_points stored_point (put_row added all) (points ++ known ∷ []) (last ∙ ap (map Some) (in_order points low))
 
   pub adds : (old new : State) (base : Database) (kept : Tables) (r : Result ℕ StoreFault) → n < 2 ^ 32 → IsPoint point → Within old base kept → AllByRecursion (λ p. p.number < n) kept.points
@@ -164,6 +169,8 @@ module _ (n : ℕ) (point : Point) where
       let settings = at 6 ∙ others.1.1.1.0 (λ e. absurd (omega (arith, e))) in
       let requests = at 7 ∙ others.1.1.1.1.0 (λ e. absurd (omega (arith, e))) in
       let totals = at 9 ∙ others.1.1.1.1.1.0 (λ e. absurd (omega (arith, e))) in
+      let voids = at 10 ∙ others.1.1.1.1.1.1.0 (λ e. absurd (omega (arith, e))) in
+      let swapped = at 12 ∙ others.1.1.1.1.1.1.1.0 (λ e. absurd (omega (arith, e))) in
       let was = within.stands in
       record {
         is_open = h.1.is_open;
@@ -173,13 +180,15 @@ module _ (n : ℕ) (point : Point) where
         sound = w.sound;
         stands = record {
           points = record {
-            stored = ap (map stored_point) at_two ∙ stands (db 2) kept.points (point_added low is) was.points.stored below;
-            sorted = subst (λ es. T (rows.is_sorted nat_cmp es)) (in_order kept.points below) (rows.is_sorted-put nat_cmp nat_cmp_total n point (map numbered kept.points) was.points.sorted);
+            stored = ap (map stored_point) at_two ∙ stands (db 2) (map plain kept.points) (point_added low is) was.points.stored (plain_low n kept.points below) ∙ ap (map Some) (sym (map-append plain kept.points (known ∷ [])));
+            sorted = subst (λ es. T (rows.is_sorted nat_cmp es)) (in_order kept.points below) (rows.is_sorted-put nat_cmp nat_cmp_total n known.point (map numbered kept.points) was.points.sorted);
           };
           readings = readings_stay old.now.trees new.now.trees kept.readings readings was.readings;
           settings = record { stored = ap (map stored_setting) settings ∙ was.settings.stored; sorted = was.settings.sorted };
           requests = record { entries = was.requests.entries; stored = ap (map stored_request) requests ∙ was.requests.stored; same = was.requests.same; sorted = was.requests.sorted };
           totals = record { stored = ap (map stored_sum) totals ∙ was.totals.stored; sorted = was.totals.sorted };
+          voids = voids_stay old.now.trees new.now.trees kept.voids voids was.voids;
+          swapped = record { stored = ap (map stored_swap) swapped ∙ was.swapped.stored ∙ ap (map Some) (sym (no_swap_more kept.points known refl)) };
           numbers = meta ∙ was.numbers;
         };
       }

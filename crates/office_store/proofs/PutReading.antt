@@ -34,6 +34,7 @@ use Rattle.office_store.specs.Schema.{reading, office_schema}
 use Rattle.office_store.specs.Rows.{stored_reading, stored_point, stored_setting, stored_request, stored_sum, flag_of, register_bytes}
 use Rattle.office_store.specs.Writing.{Within}
 use Rattle.office_store.proofs.Texts.{put_reading_text, put_reading_terms, put_reading_is}
+use Rattle.office_store.proofs.StayingRows.{swaps_stay, voids_stay}
 use Rattle.office_store.proofs.Tables.{went, same_value}
 use Rattle.office_store.proofs.FirstRows.{cast_null, cast_int}
 use Rattle.office_store.proofs.FreeKeys.{not_foreign, of_new, was_free}
@@ -93,6 +94,8 @@ module _ (p s : ℕ) (words : List ℕ) (flag : Bool) where
       let settings = at 6 ∙ others.1.1.1.0 (λ e. absurd (omega (arith, e))) in
       let requests = at 7 ∙ others.1.1.1.1.0 (λ e. absurd (omega (arith, e))) in
       let totals = at 9 ∙ others.1.1.1.1.1.0 (λ e. absurd (omega (arith, e))) in
+      let voids = at 10 ∙ others.1.1.1.1.1.1.0 (λ e. absurd (omega (arith, e))) in
+      let swapped = at 12 ∙ others.1.1.1.1.1.1.1.0 (λ e. absurd (omega (arith, e))) in
       let was = within.stands in
       let keys = subst (AllByRecursion (λ row. passes Unique office_schema written.0 reading_table row ≡ true)) (made.rows ∙ ap (put_all (db 4)) news) (made.fits.rules Unique not_foreign).1.1.0 in
       let clear = subst (λ all. clashes plain (1 ∷ 2 ∷ []) all (added (db 4)) ≡ false) (made.rows ∙ ap (put_all (db 4)) news) (only_free (clashes plain (1 ∷ 2 ∷ []) (written.0 4) (added (db 4))) (of_new (λ row. passes Unique office_schema written.0 reading_table row ≡ true) (added (db 4)) (db 4) keys)) in
@@ -116,6 +119,8 @@ module _ (p s : ℕ) (words : List ℕ) (flag : Bool) where
           settings = record { stored = ap (map stored_setting) settings ∙ was.settings.stored; sorted = was.settings.sorted };
           requests = record { entries = was.requests.entries; stored = ap (map stored_request) requests ∙ was.requests.stored; same = was.requests.same; sorted = was.requests.sorted };
           totals = record { stored = ap (map stored_sum) totals ∙ was.totals.stored; sorted = was.totals.sorted };
+          voids = voids_stay old.now.trees new.now.trees kept.voids voids was.voids;
+          swapped = swaps_stay old.now.trees new.now.trees kept.points swapped was.swapped;
           numbers = meta ∙ was.numbers;
         };
       }

@@ -30,7 +30,7 @@ use Rattle.office_store.specs.Rows.{stored_point, stored_setting, stored_request
 use Rattle.office_store.specs.Writing.{Within}
 use Rattle.office_store.proofs.Texts.{put_request_text, put_request_terms, put_request_is}
 use Rattle.office_store.proofs.Tables.{went, same_value}
-use Rattle.office_store.proofs.StayingRows.{readings_stay}
+use Rattle.office_store.proofs.StayingRows.{readings_stay, swaps_stay, voids_stay}
 use Rattle.office_store.proofs.FirstRows.{cast_null, cast_int}
 use Rattle.office_store.proofs.Putting.{put_entry, put_same}
 use Rattle.office_store.proofs.PutReading.{only_free}
@@ -93,6 +93,8 @@ module _ (kind : ℕ) (bytes : List ℕ) (answer a b c : ℕ) (e : RequestKey ×
       let readings = at 4 ∙ others.1.1.0 (λ e. absurd (omega (arith, e))) in
       let settings = at 6 ∙ others.1.1.1.0 (λ e. absurd (omega (arith, e))) in
       let totals = at 9 ∙ others.1.1.1.1.1.0 (λ e. absurd (omega (arith, e))) in
+      let voids = at 10 ∙ others.1.1.1.1.1.1.0 (λ e. absurd (omega (arith, e))) in
+      let swapped = at 12 ∙ others.1.1.1.1.1.1.1.0 (λ e. absurd (omega (arith, e))) in
       let was = within.stands in
       let put = put_entry stored_request (added (db 7)) e (request_added (db 7) coded) (db 7) was.requests.entries was.requests.stored free in
       record {
@@ -112,6 +114,8 @@ module _ (kind : ℕ) (bytes : List ℕ) (answer a b c : ℕ) (e : RequestKey ×
             sorted = rows.is_sorted-put request_cmp requests_total e.0 e.1 kept.requests was.requests.sorted;
           };
           totals = record { stored = ap (map stored_sum) totals ∙ was.totals.stored; sorted = was.totals.sorted };
+          voids = voids_stay old.now.trees new.now.trees kept.voids voids was.voids;
+          swapped = swaps_stay old.now.trees new.now.trees kept.points swapped was.swapped;
           numbers = meta ∙ was.numbers;
         };
       }

@@ -27,7 +27,7 @@ use Rattle.office_store.specs.Rows.{stored_point, stored_setting, stored_request
 use Rattle.office_store.specs.Writing.{Within}
 use Rattle.office_store.proofs.Texts.{put_setting_text, put_setting_terms, put_setting_is}
 use Rattle.office_store.proofs.Tables.{went, same_value}
-use Rattle.office_store.proofs.StayingRows.{readings_stay}
+use Rattle.office_store.proofs.StayingRows.{readings_stay, swaps_stay, voids_stay}
 use Rattle.office_store.proofs.FirstRows.{cast_null, cast_int}
 use Rattle.office_store.proofs.Registers.{words_back}
 use Rattle.office_store.proofs.ByNumber.{setting_key}
@@ -88,6 +88,8 @@ module _ (n p : ℕ) (words : List ℕ) (standing : OrderState) where
       let readings = at 4 ∙ others.1.1.0 (λ e. absurd (omega (arith, e))) in
       let requests = at 7 ∙ others.1.1.1.1.0 (λ e. absurd (omega (arith, e))) in
       let totals = at 9 ∙ others.1.1.1.1.1.0 (λ e. absurd (omega (arith, e))) in
+      let voids = at 10 ∙ others.1.1.1.1.1.1.0 (λ e. absurd (omega (arith, e))) in
+      let swapped = at 12 ∙ others.1.1.1.1.1.1.1.0 (λ e. absurd (omega (arith, e))) in
       let was = within.stands in
       let below = subst (λ m. AllByRecursion (λ e. e.0 < m) kept.settings) (sym next) (below_next kept.settings was.settings.sorted) in
       let stored = stands_last stored_setting setting_key added n value refl (setting_added a b low some few) (db 6) kept.settings was.settings.stored below in
@@ -103,6 +105,8 @@ module _ (n p : ℕ) (words : List ℕ) (standing : OrderState) where
           settings = record { stored = ap (map stored_setting) at_six ∙ stored; sorted = rows.is_sorted-put nat_cmp nat_cmp_total n value kept.settings was.settings.sorted };
           requests = record { entries = was.requests.entries; stored = ap (map stored_request) requests ∙ was.requests.stored; same = was.requests.same; sorted = was.requests.sorted };
           totals = record { stored = ap (map stored_sum) totals ∙ was.totals.stored; sorted = was.totals.sorted };
+          voids = voids_stay old.now.trees new.now.trees kept.voids voids was.voids;
+          swapped = swaps_stay old.now.trees new.now.trees kept.points swapped was.swapped;
           numbers = meta ∙ was.numbers;
         };
       }

@@ -29,7 +29,7 @@ use Rattle.office_store.specs.Rows.{stored_point, stored_setting, stored_request
 use Rattle.office_store.specs.Writing.{Within}
 use Rattle.office_store.proofs.Texts.{put_total_text, put_total_terms, put_total_is}
 use Rattle.office_store.proofs.Tables.{went, same_value}
-use Rattle.office_store.proofs.StayingRows.{readings_stay}
+use Rattle.office_store.proofs.StayingRows.{readings_stay, swaps_stay, voids_stay}
 use Rattle.office_store.proofs.FirstRows.{cast_null, cast_int}
 use Rattle.office_store.proofs.Comparing.{and_then_some, map_some, number_is}
 use Rattle.office_store.proofs.Sixteen.{from_be_bytes-to_be_bytes_16}
@@ -82,6 +82,8 @@ module _ (n sum : ℕ) where
       let readings = at 4 ∙ others.1.1.0 (λ e. absurd (omega (arith, e))) in
       let settings = at 6 ∙ others.1.1.1.0 (λ e. absurd (omega (arith, e))) in
       let requests = at 7 ∙ others.1.1.1.1.0 (λ e. absurd (omega (arith, e))) in
+      let voids = at 10 ∙ others.1.1.1.1.1.1.0 (λ e. absurd (omega (arith, e))) in
+      let swapped = at 12 ∙ others.1.1.1.1.1.1.1.0 (λ e. absurd (omega (arith, e))) in
       let was = within.stands in
       let stored = stands_in stored_sum total_key added n sum refl (total_added low fits) (db 9) kept.totals was.totals.stored none in
       record {
@@ -96,6 +98,8 @@ module _ (n sum : ℕ) where
           settings = record { stored = ap (map stored_setting) settings ∙ was.settings.stored; sorted = was.settings.sorted };
           requests = record { entries = was.requests.entries; stored = ap (map stored_request) requests ∙ was.requests.stored; same = was.requests.same; sorted = was.requests.sorted };
           totals = record { stored = ap (map stored_sum) at_nine ∙ stored; sorted = rows.is_sorted-put nat_cmp nat_cmp_total n sum kept.totals was.totals.sorted };
+          voids = voids_stay old.now.trees new.now.trees kept.voids voids was.voids;
+          swapped = swaps_stay old.now.trees new.now.trees kept.points swapped was.swapped;
           numbers = meta ∙ was.numbers;
         };
       }

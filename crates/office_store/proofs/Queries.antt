@@ -9,7 +9,7 @@ use Rattle.sqlite_resolve.specs.Lowering.{and_then}
 use Rattle.sqlite_resolve.specs.Compile.{compiled, first, planned, meaning, returning, command, timed, with_command, small}
 use Rattle.sqlite_resolve.specs.declared.error.CompileError.TheVariants.{NoSuchTable}
 use Rattle.sqlite_tied.specs.Compute.{everything}
-use Rattle.office_store.specs.Texts.{names_text, version_text, readings_text, reading_key_text, value_before_text, value_after_text, points_text, point_text, setting_text, connections_text, request_text, total_text, last_text, waiting_text}
+use Rattle.office_store.specs.Texts.{names_text, version_text, readings_text, reading_key_text, value_before_text, value_after_text, last_reading_text, points_text, point_text, swaps_text, setting_text, connections_text, request_text, total_text, void_key_text, voids_text, last_text, waiting_text}
 use Rattle.sqlite.specs.Listing.{understood, reads_listing, if_select, listing_schema, is_select}
 use Rattle.office_store.specs.Kept.{IsQuery}
 
@@ -76,6 +76,10 @@ pub value_after_is_query : IsQuery value_after_text
 unfolding everything
 value_after_is_query = is_query value_after_text (λ schema base. refl)
 
+pub last_reading_is_query : IsQuery last_reading_text
+unfolding everything
+last_reading_is_query = is_query last_reading_text (λ schema base. refl)
+
 pub points_is_query : IsQuery points_text
 unfolding everything
 points_is_query = is_query points_text (λ schema base. refl)
@@ -83,6 +87,10 @@ points_is_query = is_query points_text (λ schema base. refl)
 pub point_is_query : IsQuery point_text
 unfolding everything
 point_is_query = is_query point_text (λ schema base. refl)
+
+pub swaps_is_query : IsQuery swaps_text
+unfolding everything
+swaps_is_query = is_query swaps_text (λ schema base. refl)
 
 pub setting_is_query : IsQuery setting_text
 unfolding everything
@@ -95,6 +103,14 @@ connections_is_query = is_query connections_text (λ schema base. refl)
 pub total_is_query : IsQuery total_text
 unfolding everything
 total_is_query = is_query total_text (λ schema base. refl)
+
+pub void_key_is_query : IsQuery void_key_text
+unfolding everything
+void_key_is_query = is_query void_key_text (λ schema base. refl)
+
+pub voids_is_query : IsQuery voids_text
+unfolding everything
+voids_is_query = is_query voids_text (λ schema base. refl)
 
 pub request_is_query : IsQuery request_text
 unfolding everything

@@ -25,7 +25,7 @@ use Rattle.sqlite.proofs.Callers.{runs_as, one_step, one_permutation, statement_
 use Rattle.office_store.specs.Schema.{office_schema}
 use Rattle.office_store.specs.Writing.{Within}
 use Rattle.office_store.proofs.Tables.{went, same_value}
-use Rattle.office_store.proofs.StayingRows.{readings_stay}
+use Rattle.office_store.proofs.StayingRows.{readings_stay, swaps_stay, voids_stay}
 use Rattle.office_store.proofs.FirstRows.{cast_null, cast_int}
 use Rattle.office_store.proofs.Comparing.{compares}
 use Rattle.office_store.proofs.Settling.{over}
@@ -101,6 +101,8 @@ module _ (n sum : ℕ) where
       let readings = at 4 ∙ others.1.1.0 (λ e. absurd (omega (arith, e))) in
       let settings = at 6 ∙ others.1.1.1.0 (λ e. absurd (omega (arith, e))) in
       let requests = at 7 ∙ others.1.1.1.1.0 (λ e. absurd (omega (arith, e))) in
+      let voids = at 10 ∙ others.1.1.1.1.1.1.0 (λ e. absurd (omega (arith, e))) in
+      let swapped = at 12 ∙ others.1.1.1.1.1.1.1.0 (λ e. absurd (omega (arith, e))) in
       let at_nine = at 9 ∙ made.rows ∙ ap (put_all (without_rowid (pos n) (db 9))) (news db it.row first it.hit) in
       record {
         is_open = h.1.is_open;
@@ -114,6 +116,8 @@ module _ (n sum : ℕ) where
           settings = record { stored = ap (map stored_setting) settings ∙ was.settings.stored; sorted = was.settings.sorted };
           requests = record { entries = was.requests.entries; stored = ap (map stored_request) requests ∙ was.requests.stored; same = was.requests.same; sorted = was.requests.sorted };
           totals = record { stored = ap (map stored_sum) at_nine ∙ it.put (added n sum) (refl, total_added n sum low fits); sorted = rows.is_sorted-put nat_cmp nat_cmp_total n sum kept.totals was.totals.sorted };
+          voids = voids_stay old.now.trees new.now.trees kept.voids voids was.voids;
+          swapped = swaps_stay old.now.trees new.now.trees kept.points swapped was.swapped;
           numbers = meta ∙ was.numbers;
         };
       }

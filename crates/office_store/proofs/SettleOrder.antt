@@ -28,7 +28,7 @@ use Rattle.office_store.specs.Rows.{stored_point, stored_setting, stored_request
 use Rattle.office_store.specs.Writing.{Within}
 use Rattle.office_store.proofs.Texts.{settle_text, settle_query, settle_is}
 use Rattle.office_store.proofs.Tables.{went, same_value}
-use Rattle.office_store.proofs.StayingRows.{readings_stay}
+use Rattle.office_store.proofs.StayingRows.{readings_stay, swaps_stay, voids_stay}
 use Rattle.office_store.proofs.FirstRows.{cast_null, cast_int}
 use Rattle.office_store.proofs.PutSetting.{setting_table, state_back}
 use Rattle.office_store.proofs.ByNumber.{setting_key, alone_and}
@@ -140,6 +140,8 @@ module _ (n : ℕ) (standing : OrderState) where
         let readings = at 4 ∙ others.1.1.0 (λ e. absurd (omega (arith, e))) in
         let requests = at 7 ∙ others.1.1.1.1.0 (λ e. absurd (omega (arith, e))) in
         let totals = at 9 ∙ others.1.1.1.1.1.0 (λ e. absurd (omega (arith, e))) in
+        let voids = at 10 ∙ others.1.1.1.1.1.1.0 (λ e. absurd (omega (arith, e))) in
+        let swapped = at 12 ∙ others.1.1.1.1.1.1.1.0 (λ e. absurd (omega (arith, e))) in
         let at_six = at 6 ∙ made.rows ∙ ap (put_all (without_rowid (pos n) (db 6))) (news db it.row parts.0 parts.1 it.hit) in
         record {
           is_open = h.1.is_open;
@@ -153,6 +155,8 @@ module _ (n : ℕ) (standing : OrderState) where
             settings = record { stored = ap (map stored_setting) at_six ∙ it.put (changed it.row) (refl, parts.2); sorted = rows.is_sorted-put nat_cmp nat_cmp_total n after kept.settings was.settings.sorted };
             requests = record { entries = was.requests.entries; stored = ap (map stored_request) requests ∙ was.requests.stored; same = was.requests.same; sorted = was.requests.sorted };
             totals = record { stored = ap (map stored_sum) totals ∙ was.totals.stored; sorted = was.totals.sorted };
+            voids = voids_stay old.now.trees new.now.trees kept.voids voids was.voids;
+            swapped = swaps_stay old.now.trees new.now.trees kept.points swapped was.swapped;
             numbers = meta ∙ was.numbers;
           };
         }

@@ -1,7 +1,7 @@
 -- Texts in values: names of callers and keys, and the names of points behind an order's value.
-use Rattle.std.proofs.Common.{◌≡◌, ◌<◌, ◌+◌, ◌&&◌, ℕ, ℤ, List, [], ◌∷◌, ◌++◌, length, take, drop, Bool, true, false, Option, Some, None, refl, sym, ap, ap₂, subst, ◌∙◌, arith, if◌then◌else◌}
+use Rattle.std.proofs.Common.{◌≡◌, ◌<◌, ◌+◌, ◌^◌, ◌&&◌, ℕ, ℤ, List, [], ◌∷◌, ◌++◌, length, take, drop, Bool, true, false, Option, Some, None, refl, sym, ap, ap₂, subst, ◌∙◌, arith, if◌then◌else◌}
 use Rattle.std.specs.Prelude.{nat_le}
-use Rattle.std.specs.Int.{w128, from_be_bytes, to_be_bytes, cast_signed, cast_unsigned}
+use Rattle.std.specs.Int.{w32, w128, from_be_bytes, to_be_bytes, cast_signed, cast_unsigned}
 use Rattle.std.specs.Int.RustNames.{FitsSigned}
 use Rattle.std.specs.List.{list_all}
 use Rattle.std.specs.Str.{IsAscii, IsUtf8, is_utf8}
@@ -9,10 +9,11 @@ use Rattle.std.proofs.lemmas.Bool.{and_parts}
 use Rattle.std.proofs.lemmas.Bool.Decides.{nat_tests}
 use Rattle.std.proofs.lemmas.Str.{IsUtf8-from_ascii, IsUtf8-from_is_utf8, is_utf8-from_IsUtf8}
 use Rattle.std.proofs.lemmas.Str.Ascii.{IsAscii-nil, IsAscii-cons}
+use Rattle.std.proofs.lemmas.Nat.{from_be_bytes-to_be_bytes_4}
 use Rattle.sqlite_value.specs.declared.value.Value.{Value}
 use Rattle.sqlite_value.specs.declared.value.Value.TheVariants.{Null, Int, Real, Text, Blob}
 use Rattle.poll_book.specs.Callers.{is_key_byte, is_word_within}
-use Rattle.poll_book.specs.declared.requests.Body.TheVariants.{Order}
+use Rattle.poll_book.specs.declared.requests.Body.TheVariants.{Order, Void}
 use Rattle.office_store.specs.Rows.{body_coded, text_that}
 use Rattle.office_store.proofs.Sixteen.{signed_back}
 
@@ -81,3 +82,18 @@ pub order_written : (bytes point : List ℕ) (value : ℤ) → FitsSigned w128 v
 order_written bytes point value fits text is =
     let first = to_be_bytes w128 (cast_unsigned w128 value) in
     ap (body_coded 2) is ∙ order_coded (first ++ point) first point point value refl refl (omega arith) text refl (sym (signed_back value fits))
+
+-- four bytes and a name behind them
+pub void_coded : (bytes first name point : List ℕ) (slot : ℕ) → first ≡ take 4 bytes → name ≡ drop 4 bytes → length name + 4 ≡ length bytes → IsUtf8 name
+    → point ≡ name → slot ≡ from_be_bytes w32 first → body_coded 3 bytes ≡ Some (Void point slot)
+void_coded bytes first name point slot first_is name_is long text point_is slot_is =
+    let low : nat_le 4 (length bytes) ≡ true = grind (arith, nat_tests, long) in
+    let is : is_utf8 (drop 4 bytes) ≡ true = is_utf8-from_IsUtf8 (drop 4 bytes) (subst IsUtf8 name_is text) in
+    ap₂ (λ (a b : Bool). if a && b then Some (Void (drop 4 bytes) (from_be_bytes w32 (take 4 bytes))) else None) low is
+    ∙ ap₂ (λ (p : List ℕ) (n : ℕ). Some (Void p n)) (sym (point_is ∙ name_is)) (ap (from_be_bytes w32) (sym first_is) ∙ sym slot_is)
+
+-- what is written so reads back
+pub void_written : (bytes point : List ℕ) (slot : ℕ) → slot < 2 ^ 32 → IsUtf8 point → bytes ≡ to_be_bytes w32 slot ++ point → body_coded 3 bytes ≡ Some (Void point slot)
+void_written bytes point slot fits text is =
+    let first = to_be_bytes w32 slot in
+    ap (body_coded 3) is ∙ void_coded (first ++ point) first point point slot refl refl (omega arith) text refl (sym (from_be_bytes-to_be_bytes_4 slot fits))

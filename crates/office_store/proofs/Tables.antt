@@ -10,9 +10,10 @@ use Rattle.sqlite.specs.Effect.{Database}
 use Rattle.sqlite.specs.Does.{Tally, lacks_sequence}
 use Rattle.sqlite.specs.State.{State, Writes, Executes, Shows}
 use Rattle.sqlite.proofs.Callers.{runs_as}
-use Rattle.office_store.specs.Schema.{meta_text, point_text, reading_text, setting_text, request_text, total_text, meta, point, reading, setting, request, total, no_schema}
-use Rattle.office_store.specs.Blank.{first_schema, AreFirst, AreBlank}
-use Rattle.office_store.proofs.Texts.{IsMade, tables_are, one, two, four, five, meta_made, point_made, reading_made, setting_made, request_made, total_made}
+use Rattle.office_store.specs.Schema.{meta_text, point_text, reading_text, setting_text, request_text, total_text, void_text, swapped_text, meta, point, reading, setting, request, total, void, swapped, no_schema}
+use Rattle.office_store.specs.Blank.{first_schema, six_schema, AreFirst, AreSix}
+use Rattle.office_store.specs.Earlier.{AreAdded}
+use Rattle.office_store.proofs.Texts.{IsMade, tables_are, one, two, four, five, seven, meta_made, point_made, reading_made, setting_made, request_made, total_made, void_made, swapped_made}
 
 -- a part that gave a value wasn't stopped
 pub went : {B E R : Type 0} {b : B} {Stops : E → Type 0} → ((stop : E) × Stops stop × (Ok b ≡ Err stop)) ⊎ R → R
@@ -55,7 +56,7 @@ makes_first a b c d k l (Ok n) none h1 h2 h3 =
 makes_first a b c d k l (Err e) none h1 h2 h3 = tt
 
 pub makes_others : (a b c d : State) (k l : ℕ) (r : Result ℕ StoreFault) → AreFirst a.now → Executes setting_text [] a b (Ok k) → Executes request_text [] b c (Ok l)
-    → IfOk r (λ n. Executes total_text [] c d (Ok n) × Shows c d d.now c.committed true) → OnOk r (AreBlank d.now)
+    → IfOk r (λ n. Executes total_text [] c d (Ok n) × Shows c d d.now c.committed true) → OnOk r (AreSix d.now)
 makes_others a b c d k l (Ok n) first h1 h2 h3 =
     let m1 = makes first_schema setting setting_text tables_are.3 setting_made refl a b k first.schema h1 in
     let m2 = makes four request request_text tables_are.4 request_made refl b c l m1.schema_is h2 in
@@ -70,3 +71,20 @@ makes_others a b c d k l (Ok n) first h1 h2 h3 =
       total = m3.empty;
     }
 makes_others a b c d k l (Err e) first h1 h2 h3 = tt
+
+pub makes_last : (a b c : State) (k : ℕ) (r : Result ℕ StoreFault) → a.now.schema ≡ six_schema → Executes void_text [] a b (Ok k) → IfOk r (λ n. Executes swapped_text [] b c (Ok n) × Shows b c c.now b.committed true) → OnOk r (AreAdded a.now c.now)
+makes_last a b c k (Ok n) six h1 h2 =
+    let m1 = makes six_schema void void_text tables_are.6 void_made refl a b k six h1 in
+    let m2 = makes seven swapped swapped_text tables_are.7 swapped_made refl b c n m1.schema_is h2.0 in
+    record {
+      schema = m2.schema_is;
+      meta = m2.others.0 ∙ m1.others.0;
+      point = m2.others.1.0 ∙ m1.others.1.0;
+      reading = m2.others.1.1.0 ∙ m1.others.1.1.0;
+      setting = m2.others.1.1.1.0 ∙ m1.others.1.1.1.0;
+      request = m2.others.1.1.1.1.0 ∙ m1.others.1.1.1.1.0;
+      total = m2.others.1.1.1.1.1.0 ∙ m1.others.1.1.1.1.1.0;
+      void = m2.others.1.1.1.1.1.1.0 ∙ m1.empty;
+      swapped = m2.empty;
+    }
+makes_last a b c k (Err e) six h1 h2 = tt

@@ -14,12 +14,12 @@ use Rattle.sqlite_schema.specs.declared.command.Command.TheVariants.{CreateTable
 use Rattle.sqlite_schema.specs.declared.command.Source.TheVariants.{Values}
 use Rattle.sqlite_schema.specs.declared.schema.Schema.{Schema}
 use Rattle.sqlite_catalog.specs.Change.{created}
-use Rattle.office_store.specs.Schema.{meta_text, point_text, reading_text, setting_text, request_text, total_text, meta, point, reading, setting, request, total, no_schema, office_schema}
-use Rattle.office_store.specs.Blank.{first_schema}
+use Rattle.office_store.specs.Schema.{meta_text, point_text, reading_text, setting_text, request_text, total_text, void_text, swapped_text, meta, point, reading, setting, request, total, void, swapped, no_schema, office_schema}
+use Rattle.office_store.specs.Blank.{first_schema, six_schema}
 
-pub tables_are : (table_defined_by meta_text ≡ Ok meta) × (table_defined_by point_text ≡ Ok point) × (table_defined_by reading_text ≡ Ok reading) × (table_defined_by setting_text ≡ Ok setting) × (table_defined_by request_text ≡ Ok request) × (table_defined_by total_text ≡ Ok total)
+pub tables_are : (table_defined_by meta_text ≡ Ok meta) × (table_defined_by point_text ≡ Ok point) × (table_defined_by reading_text ≡ Ok reading) × (table_defined_by setting_text ≡ Ok setting) × (table_defined_by request_text ≡ Ok request) × (table_defined_by total_text ≡ Ok total) × (table_defined_by void_text ≡ Ok void) × (table_defined_by swapped_text ≡ Ok swapped)
 unfolding everything
-tables_are = (refl, refl, refl, refl, refl, refl)
+tables_are = (refl, refl, refl, refl, refl, refl, refl, refl)
 
 abbrev pub one : Schema
 one = created no_schema meta
@@ -32,6 +32,9 @@ four = created first_schema setting
 
 abbrev pub five : Schema
 five = created four request
+
+abbrev pub seven : Schema
+seven = created six_schema void
 
 abbrev pub IsMade : Schema → List ℕ → Type 0
 IsMade schema text = (command_of (understood schema text) ≡ CreateTable) × (statement_of text (understood schema text) ≡ text) × IsPlain (understood schema text)
@@ -60,11 +63,19 @@ pub total_made : IsMade five total_text
 unfolding understood everything
 total_made = (refl, refl, (refl, refl))
 
+pub void_made : IsMade six_schema void_text
+unfolding understood everything
+void_made = (refl, refl, (refl, refl))
+
+pub swapped_made : IsMade seven swapped_text
+unfolding understood everything
+swapped_made = (refl, refl, (refl, refl))
+
 abbrev pub numbers_text : List ℕ
-numbers_text = codes "INSERT INTO meta(name, value) VALUES ('version', 1), ('connections', 0)"
+numbers_text = codes "INSERT INTO meta(name, value) VALUES ('version', 2), ('connections', 0)"
 
 abbrev pub numbers_terms : List Term
-numbers_terms = lit Null ∷ lit (Text (codes "version")) ∷ lit (Int (pos 1)) ∷ lit Null ∷ lit (Text (codes "connections")) ∷ lit (Int (pos 0)) ∷ []
+numbers_terms = lit Null ∷ lit (Text (codes "version")) ∷ lit (Int (pos 2)) ∷ lit Null ∷ lit (Text (codes "connections")) ∷ lit (Int (pos 0)) ∷ []
 
 pub numbers_are : (command_of (understood office_schema numbers_text) ≡ Insert 0 (Values numbers_terms 3)) × IsPlain (understood office_schema numbers_text)
 unfolding understood everything
@@ -192,6 +203,16 @@ pub set_total_is : (command_of (understood office_schema set_total_text) ≡ Upd
 unfolding understood everything
 set_total_is = (refl, (refl, refl))
 
+abbrev pub put_void_text : List ℕ
+put_void_text = codes "INSERT INTO void(point, slot) VALUES (?1, ?2)"
+
+abbrev pub put_void_terms : List Term
+put_void_terms = lit Null ∷ col 0 0 ∷ col 0 1 ∷ []
+
+pub put_void_is : (command_of (understood office_schema put_void_text) ≡ Insert 6 (Values put_void_terms 3)) × IsPlain (understood office_schema put_void_text)
+unfolding understood everything
+put_void_is = (refl, (refl, refl))
+
 abbrev pub put_request_text : List ℕ
 put_request_text = codes "INSERT INTO request(caller, rkey, kind, body, answer, a, b, c) VALUES (?1, ?2, ?3, ?4, ?5, ?6, ?7, ?8)"
 
@@ -211,3 +232,13 @@ put_point_terms = col 0 0 ∷ lit Null ∷ col 0 1 ∷ col 0 2 ∷ col 0 3 ∷ c
 pub put_point_is : (command_of (understood office_schema put_point_text) ≡ Insert 1 (Values put_point_terms 11)) × IsPlain (understood office_schema put_point_text)
 unfolding understood everything
 put_point_is = (refl, (refl, refl))
+
+abbrev pub put_swap_text : List ℕ
+put_swap_text = codes "INSERT INTO swapped(point) VALUES (?1)"
+
+abbrev pub put_swap_terms : List Term
+put_swap_terms = col 0 0 ∷ lit Null ∷ []
+
+pub put_swap_is : (command_of (understood office_schema put_swap_text) ≡ Insert 7 (Values put_swap_terms 2)) × IsPlain (understood office_schema put_swap_text)
+unfolding understood everything
+put_swap_is = (refl, (refl, refl))

@@ -1,5 +1,5 @@
--- What the query of the version shows, of a database without tables and of an office's.
-use Rattle.std.proofs.Common.{◌≡◌, inl, inr, ◌≤◌, ℕ, pos, negsuc, List, [], ◌∷◌, map, Bool, true, false, ◌&&◌, ◌++◌, flat_map, if◌then◌else◌, Option, None, Some, Ok, Err, Result, IsTrue, IsSome, Any, length, lit≤, refl, sym, ap, subst, ◌∙◌, codes}
+-- What the query of the version shows, of a database without tables, of one of version 1 and of an office's.
+use Rattle.std.proofs.Common.{◌≡◌, inl, inr, ◌≤◌, ℕ, pos, negsuc, List, [], ◌∷◌, map, Bool, true, false, ◌&&◌, ◌++◌, flat_map, if◌then◌else◌, Option, None, Some, Ok, Err, Result, IsTrue, IsSome, Any, length, lit≤, refl, sym, ap, subst, ◌∙◌, ◌^◌, codes}
 use Rattle.std.specs.Prelude.{◌≢◌}
 use Rattle.std.specs.List.{list_all}
 use Rattle.std.specs.List.Sorted.{IsPermutation}
@@ -16,6 +16,7 @@ use Rattle.sqlite_sql.specs.Query.{Query, inner, end, output, Output}
 use Rattle.sqlite_trees.specs.Tree.{Trees}
 use Rattle.sqlite_trees.specs.declared.error.StoreError.{StoreError as StoreFailure}
 use Rattle.sqlite_trees.specs.declared.error.StoreError.TheVariants.{OutOfMemory, Io, Corrupt, Full, Broken, Unstorable}
+use Rattle.sqlite_schema.specs.declared.schema.Schema.{Schema}
 use Rattle.sqlite_schema.specs.declared.command.Command.{Command}
 use Rattle.sqlite_schema.specs.declared.command.Command.TheVariants.{Select, Rows}
 use Rattle.sqlite_resolve.specs.declared.compiled.Compiled.{Compiled}
@@ -26,13 +27,17 @@ use Rattle.sqlite.specs.Listing.{understood, reads_listing, listing_schema, IsSo
 use Rattle.sqlite.specs.Clock.{timed}
 use Rattle.sqlite.specs.State.{State, FailsToQuery, FailsToShow, HasCause, IsNoStatement, IsNotRun, Shown, store_error}
 use Rattle.sqlite.proofs.Callers.{IsPlain, command_of, reads_as, one_permutation}
+use Rattle.poll_book.specs.Tables.{Tables}
 use Rattle.poll_book.specs.declared.fault.StoreFault.TheVariants.{Other}
 use Rattle.office_store.specs.Faults.{IsOfStore, fault_of}
-use Rattle.office_store.specs.Schema.{no_schema, office_schema}
+use Rattle.office_store.specs.Blank.{six_schema}
+use Rattle.office_store.specs.Earlier.{WasHeld, numbers_of}
+use Rattle.office_store.specs.Schema.{meta_tree, no_schema, office_schema}
 use Rattle.office_store.specs.Texts.{version_text}
 use Rattle.office_store.specs.Rows.{number_of}
-use Rattle.office_store.specs.Kept.{AreNumbers}
+use Rattle.office_store.specs.Kept.{AreNumbers, IsHeld}
 use Rattle.office_store.proofs.Asking.{after_ok}
+use Rattle.office_store.proofs.Comparing.{number_is}
 use Rattle.office_store.proofs.Queries.{version_is_query}
 
 -- what showed rows was open
@@ -120,19 +125,26 @@ version_query = record {
 abbrev version_command : Command
 version_command = Select (record { lets = []; body = version_query }) (codes "value" ∷ [])
 
-version_is : (command_of (understood office_schema version_text) ≡ version_command) × (reads_listing office_schema version_text ≡ false) × IsPlain (understood office_schema version_text)
+abbrev Means : Schema → Type 0
+Means s = (command_of (understood s version_text) ≡ version_command) × (reads_listing s version_text ≡ false) × IsPlain (understood s version_text)
+
+version_is : Means office_schema
 unfolding understood everything
 version_is = (refl, refl, (refl, refl))
 
-passes_itself : is_true (binary (Compare Eq Binary) (Text (codes "version")) (Text (codes "version"))) ≡ true
+earlier_is : Means six_schema
+unfolding understood everything
+earlier_is = (refl, refl, (refl, refl))
+
+pub passes_itself : is_true (binary (Compare Eq Binary) (Text (codes "version")) (Text (codes "version"))) ≡ true
 unfolding binary
 passes_itself = rw (value_cmp-Text (codes "version") (codes "version")) refl
 
-passes_not : is_true (binary (Compare Eq Binary) (Text (codes "connections")) (Text (codes "version"))) ≡ false
+pub passes_not : is_true (binary (Compare Eq Binary) (Text (codes "connections")) (Text (codes "version"))) ≡ false
 unfolding binary
 passes_not = rw (value_cmp-Text (codes "connections") (codes "version")) refl
 
-first_alone : {X : Type 0} (x y : X) (a b : Bool) → a ≡ true → b ≡ false → (if a then x ∷ [] else []) ++ ((if b then y ∷ [] else []) ++ []) ≡ x ∷ []
+pub first_alone : {X : Type 0} (x y : X) (a b : Bool) → a ≡ true → b ≡ false → (if a then x ∷ [] else []) ++ ((if b then y ∷ [] else []) ++ []) ≡ x ∷ []
 first_alone x y false b h k = absurd (cc)
 first_alone x y true true h k = absurd (cc)
 first_alone x y true false h k = refl
@@ -166,29 +178,49 @@ refused limit trees error (inl untyped) = absurd (let bad : true ≡ false = unt
 refused limit trees error (inr (inl over)) = elim over.1 [ inl none ↦ absurd none | inr some ↦ absurd (never _ some) ]
 refused limit trees error (inr (inr limited)) = limited.1
 
-module _ (old new : State) (connections : ℕ) (schema : old.now.schema ≡ office_schema) (numbers : AreNumbers old.now.trees connections) where
-  shows_version : (rows : List Row) → Shown version_text [] old new rows → rows ≡ (Int (pos 1) ∷ []) ∷ []
-  shows_version rows shown =
-      let r : Row = Int (pos 1) ∷ Text (codes "version") ∷ Int (pos 1) ∷ [] in
-      let s : Row = Int (pos 2) ∷ Text (codes "connections") ∷ Int (pos connections) ∷ [] in
-      let a = (reads_as version_text [] old new office_schema schema version_command version_is.0 version_is.2 version_is.1 rows shown).answer Null in
+-- tables that list a schema in which the text is this query, and have a version
+module _ (s : Schema) (means : Means s) (version : ℕ) (old new : State) (connections : ℕ) (schema : old.now.schema ≡ s) (numbers : old.now.trees meta_tree ≡ numbers_of version connections) where
+  shows : (rows : List Row) → Shown version_text [] old new rows → rows ≡ (Int (pos version) ∷ []) ∷ []
+  shows rows shown =
+      let r : Row = Int (pos 1) ∷ Text (codes "version") ∷ Int (pos version) ∷ [] in
+      let t : Row = Int (pos 2) ∷ Text (codes "connections") ∷ Int (pos connections) ∷ [] in
+      let a = (reads_as version_text [] old new s schema version_command means.0 means.2 means.1 rows shown).answer Null in
       let passes = ap (λ b. b && true) passes_itself in
       let fails = ap (λ b. b && true) passes_not in
       let all : List Row → List Env = λ rs. flat_map (λ r. if list_all (holds ([] ∷ r ∷ [])) version_query.filter then ([] ∷ r ∷ []) ∷ [] else []) rs in
-      let staged : a.staged ≡ ([] ∷ r ∷ []) ∷ [] = a.grouped ∙ ap all numbers ∙ first_alone ([] ∷ r ∷ []) ([] ∷ s ∷ []) _ _ passes fails in
+      let staged : a.staged ≡ ([] ∷ r ∷ []) ∷ [] = a.grouped ∙ ap all numbers ∙ first_alone ([] ∷ r ∷ []) ([] ∷ t ∷ []) _ _ passes fails in
       let kept_is : a.kept ≡ output version_query ([] ∷ r ∷ []) ∷ [] = a.distinct ∙ ap (map (output version_query)) staged in
       let sorted = one_permutation (output version_query ([] ∷ r ∷ [])) a.ordered (subst (λ k. IsPermutation k a.ordered) kept_is a.same) in
       a.shown ∙ ap (map (λ (o : Output). o.1)) sorted
+
+  number_shown : (row : Row) → Shown version_text [] old new (row ∷ []) → (n : ℕ) → number_of (column row 0) ≡ Some n → n ≡ version
+  number_shown row shown n some =
+      let all = shows (row ∷ []) shown in
+      let is : row ≡ Int (pos version) ∷ [] = cc in
+      let same : Int (pos n) ≡ Int (pos version) = sym (number_is (2 ^ 32) (column row 0) n some) ∙ ap (λ (r : Row). column r 0) is in
+      cc
+
+-- of the tables of version 1
+pub earlier_shown : (old new : State) (kept : Tables) → WasHeld old kept → (row : Row) → Shown version_text [] old new (row ∷ []) → (n : ℕ) → number_of (column row 0) ≡ Some n → n ≡ 1
+earlier_shown old new kept held = number_shown six_schema earlier_is 1 old new kept.connections held.schema held.stood.numbers
+
+-- and of an office's
+pub office_shown : (old new : State) (kept : Tables) → IsHeld old kept → (row : Row) → Shown version_text [] old new (row ∷ []) → (n : ℕ) → number_of (column row 0) ≡ Some n → n ≡ 2
+office_shown old new kept held = number_shown office_schema version_is 2 old new kept.connections held.schema held.stands.numbers
+
+module _ (old new : State) (connections : ℕ) (schema : old.now.schema ≡ office_schema) (numbers : AreNumbers old.now.trees connections) where
+  shows_version : (rows : List Row) → Shown version_text [] old new rows → rows ≡ (Int (pos 2) ∷ []) ∷ []
+  shows_version = shows office_schema version_is 2 old new connections schema numbers
 
   -- It shows one row,
   pub row_shown : (rows : List Row) → Shown version_text [] old new rows → length rows ≡ 1
   row_shown rows shown = ap (λ (all : List Row). length all) (shows_version rows shown)
 
-  -- which has the version 1.
-  pub version_shown : (row : Row) → Shown version_text [] old new (row ∷ []) → number_of (column row 0) ≡ Some 1
+  -- which has the version 2.
+  pub version_shown : (row : Row) → Shown version_text [] old new (row ∷ []) → number_of (column row 0) ≡ Some 2
   version_shown row shown =
       let all = shows_version (row ∷ []) shown in
-      let is : row ≡ Int (pos 1) ∷ [] = cc in
+      let is : row ≡ Int (pos 2) ∷ [] = cc in
       ap (λ (r : Row). number_of (column r 0)) is
 
   -- It fails by a fault of the store itself, or since a query's steps are limited.

@@ -35,6 +35,10 @@ IsOfStore old new Full = HasFailed old new
 IsOfStore old new Disk = HasFailed old new
 IsOfStore old new Other = ⊥
 
+-- a row isn't in its form, or memory was refused to what it shows
+abbrev pub IsOfForm : StoreFault → Type 0
+IsOfForm fault = (fault ≡ Memory) ⊎ (fault ≡ Other)
+
 abbrev pub error_text : StoreError → List ℕ
 error_text (Store fault) = fault_text fault
 error_text BadVersion = codes "bad version"

@@ -14,11 +14,12 @@ use Rattle.sqlite_catalog.specs.Listing.{Lists}
 use Rattle.sqlite.specs.Listing.{understood}
 use Rattle.sqlite.specs.State.{State, HasCleanDisk}
 use Rattle.poll_book.specs.declared.rows.PointRow.{PointRow}
-use Rattle.poll_book.specs.Tables.{Tables, Readings, Sums, key_cmp}
+use Rattle.poll_book.specs.Tables.{Tables, Readings, Sums, Voids, key_cmp}
 use Rattle.poll_book.specs.Orders.{Settings}
 use Rattle.poll_book.specs.Requests.{Requests, request_cmp}
-use Rattle.office_store.specs.Schema.{office_schema, meta_tree, point_tree, reading_tree, setting_tree, request_tree, total_tree}
-use Rattle.office_store.specs.Rows.{stored_point, stored_reading, stored_setting, stored_request, stored_sum}
+use Rattle.office_store.specs.Schema.{office_schema, meta_tree, point_tree, reading_tree, setting_tree, request_tree, total_tree, void_tree, swapped_tree}
+use Rattle.office_store.specs.Rows.{stored_point, stored_reading, stored_setting, stored_request, stored_sum, stored_swap, stored_void}
+use Rattle.office_store.specs.Swaps.{AreInOrder, plain, swaps_of}
 
 -- Each row of the table stands for its entry, and the map has these entries, in the order of their keys. The rows' own numbers, by which
 -- one is written over, rise
@@ -35,10 +36,20 @@ pub record AreRequests (db : Trees) (kept : Requests) : Type 0 where
   pub same : IsPermutation entries kept
   pub sorted : T (is_sorted request_cmp kept)
 
--- the rows of a table by its numbers stand in their order
+pub record AreVoids (db : Trees) (kept : Voids) : Type 0 where
+  pub entries : Voids
+  pub stored : map stored_void (db void_tree) ≡ map Some entries
+  pub same : IsPermutation entries kept
+  pub sorted : T (is_sorted key_cmp kept)
+
+-- the rows of a table by its numbers stand in their order. A point's row doesn't tell its order
 pub record ArePoints (db : Trees) (kept : List PointRow) : Type 0 where
-  pub stored : map stored_point (db point_tree) ≡ map Some kept
-  pub sorted : T (is_sorted nat_cmp (map (λ p. (p.number, p.point)) kept))
+  pub stored : map stored_point (db point_tree) ≡ map Some (map plain kept)
+  pub sorted : AreInOrder kept
+
+-- the swapped points have a row each, and no other has one
+pub record AreSwaps (db : Trees) (points : List PointRow) : Type 0 where
+  pub stored : map stored_swap (db swapped_tree) ≡ map Some (swaps_of points)
 
 pub record AreSettings (db : Trees) (kept : Settings) : Type 0 where
   pub stored : map stored_setting (db setting_tree) ≡ map Some kept
@@ -50,18 +61,20 @@ pub record AreTotals (db : Trees) (kept : Sums) : Type 0 where
 
 -- the version, and the number of the last connection
 abbrev pub number_rows : ℕ → List Row
-number_rows connections = (Int (pos 1) ∷ Text (codes "version") ∷ Int (pos 1) ∷ []) ∷ (Int (pos 2) ∷ Text (codes "connections") ∷ Int (pos connections) ∷ []) ∷ []
+number_rows connections = (Int (pos 1) ∷ Text (codes "version") ∷ Int (pos 2) ∷ []) ∷ (Int (pos 2) ∷ Text (codes "connections") ∷ Int (pos connections) ∷ []) ∷ []
 
 abbrev pub AreNumbers : Trees → ℕ → Type 0
 AreNumbers db connections = db meta_tree ≡ number_rows connections
 
--- the rows of the tables stand for these six parts, and nothing else is there
+-- the rows of the tables stand for these seven parts, and nothing else is there
 pub record StandFor (db : Trees) (kept : Tables) : Type 0 where
   pub points : ArePoints db kept.points
   pub readings : AreReadings db kept.readings
   pub settings : AreSettings db kept.settings
   pub requests : AreRequests db kept.requests
   pub totals : AreTotals db kept.totals
+  pub voids : AreVoids db kept.voids
+  pub swapped : AreSwaps db kept.points
   pub numbers : AreNumbers db kept.connections
 
 -- the tables are an office's and stand for what is kept, and nothing waits for a commit

@@ -1,12 +1,15 @@
 pub mod Schema
 pub mod Rows
+pub mod Swaps
 pub mod Kept
 pub mod Faults
 pub mod Blank
+pub mod Earlier
 pub mod Texts
 pub mod Counting
 pub mod Writing
 pub mod States
 pub mod Waiting
+pub mod Ends
 pub mod PointNumbers
 pub mod Keepers

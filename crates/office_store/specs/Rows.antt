@@ -1,7 +1,7 @@
 -- What a row of each table stands for, if it is in the form.
-use Rattle.std.specs.Prelude.{◌≡◌, ◌≤◌, ℕ, ℤ, pos, negsuc, ◌+◌, ◌*◌, ◌/◌, ◌%◌, ◌^◌, ◌&&◌, nat_lt, nat_le, ◌==◌, Bool, true, false, List, [], ◌∷◌, length, take, drop, Option, Some, None, option_and_then, option_map, if◌then◌else◌}
+use Rattle.std.specs.Prelude.{◌≡◌, ⊤, ◌≤◌, ℕ, ℤ, pos, negsuc, ◌+◌, ◌*◌, ◌/◌, ◌%◌, ◌^◌, ◌&&◌, nat_lt, nat_le, ◌==◌, Bool, true, false, List, [], ◌∷◌, length, take, drop, Option, Some, None, option_and_then, option_map, if◌then◌else◌}
 use Rattle.std.specs.Str.{is_utf8}
-use Rattle.std.specs.Int.{w64, w128, from_be_bytes, cast_signed}
+use Rattle.std.specs.Int.{w32, w64, w128, from_be_bytes, cast_signed}
 use Rattle.sqlite_value.specs.declared.value.Value.{Value}
 use Rattle.sqlite_value.specs.declared.value.Value.TheVariants.{Int, Text, Blob}
 use Rattle.sqlite_value.specs.Order.{Row, column}
@@ -11,6 +11,7 @@ use Rattle.sunspec.specs.PointType.{row, coded, IsSized}
 use Rattle.sunspec.specs.Text.{IsScale}
 use Rattle.sunspec.specs.declared.point_type.PointType.{PointType}
 use Rattle.sunspec.specs.declared.point_type.PointType.TheVariants.{Str}
+use Rattle.sunspec.specs.declared.word_order.WordOrder.TheVariants.{Big}
 use Rattle.point_list.specs.Name.{is_name}
 use Rattle.point_list.specs.Label.{is_label}
 use Rattle.point_list.specs.declared.point.Point.{Point}
@@ -31,10 +32,10 @@ use Rattle.poll_book.specs.declared.requests.Request.{Request}
 use Rattle.poll_book.specs.declared.requests.Body.{Body}
 use Rattle.poll_book.specs.declared.requests.Body.TheVariants as body
 use Rattle.poll_book.specs.declared.requests.Outcome.{Outcome}
-use Rattle.poll_book.specs.declared.requests.Outcome.TheVariants.{Loaded, Ordered, RefusedFor}
+use Rattle.poll_book.specs.declared.requests.Outcome.TheVariants.{Loaded, Ordered, Voided, RefusedFor}
 use Rattle.poll_book.specs.declared.requests.RequestFault.{RequestFault}
 use Rattle.poll_book.specs.declared.requests.RequestFault.TheVariants as fault
-use Rattle.point_list.specs.declared.error.ListFault.TheVariants.{BadCsv, BadHeader, BadName, UnknownDevice, BadTable, BadAddress, BadType, LeftOutType, BadLength, BadScale, BadRole, BadRoll, Twice, TooManyPoints, NoModel, PastModel}
+use Rattle.point_list.specs.declared.error.ListFault.TheVariants.{BadCsv, BadHeader, BadName, UnknownDevice, BadTable, BadAddress, BadType, LeftOutType, BadLength, BadScale, BadRole, BadRoll, Twice, TooManyPoints, NoModel, PastModel, BadWords}
 
 -- ---- values
 
@@ -101,11 +102,11 @@ sized len kind = if (row kind).registers == len then Some kind else None
 abbrev pub kind_of : Value → Value → Option PointType
 kind_of kind len = option_and_then (λ k. option_and_then (λ n. option_and_then (sized n) (coded k)) (number_below 256 len)) (number_below 256 kind)
 
--- the columns of a point after its name and its device
+-- the columns of a point after its name and its device. Its order stands in another table
 abbrev pub described : List ℕ → List ℕ → Value → Value → Value → Value → Value → Value → Value → Option Point
 described name device table address kind len scale role roll =
     option_and_then (λ t. option_and_then (λ a. option_and_then (λ k. option_and_then (λ s. option_and_then (λ r. option_map
-    (λ m. record { name = name; device = device; table = t; address = a; kind = k; scale = s; role = r; roll = m })
+    (λ m. record { name = name; device = device; table = t; address = a; kind = k; scale = s; role = r; roll = m; order = Big })
     (long_of roll)) (option_and_then role_coded (number_below 256 role))) (small_of scale)) (kind_of kind len)) (number_below 65536 address)) (option_and_then table_coded (number_below 256 table))
 
 -- of the columns from a place on, of which the first is the number's
@@ -147,6 +148,17 @@ shown_reading = reading_from 0
 pub record IsRowOf (row : ReadingRow) (values : Row) : Type 0 where
   pub are : values ≡ Int (pos row.point) ∷ Int (pos row.slot) ∷ Blob (register_bytes row.words) ∷ Int (if row.counted then pos 1 else pos 0) ∷ []
   pub reads : shown_reading values ≡ Some (as_row row)
+
+-- ---- voids
+
+abbrev pub stored_void : Row → Option (Key × ⊤)
+stored_void r = option_and_then (λ p. option_map (λ s. ((p, s), tt)) (number_of (column r 2))) (number_of (column r 1))
+
+-- ---- swapped points
+
+-- of a row of the table and of one that a query shows, whose first values are the same
+abbrev pub stored_swap : Row → Option (ℕ × ⊤)
+stored_swap r = option_map (λ n. (n, tt)) (number_of (column r 0))
 
 -- ---- totals
 
@@ -191,24 +203,27 @@ reason_coded n =
     if n == 1 then Some (fault.List BadCsv) else (if n == 2 then Some (fault.List BadHeader) else (if n == 3 then Some (fault.List BadName) else (if n == 4 then Some (fault.List UnknownDevice)
     else (if n == 5 then Some (fault.List BadTable) else (if n == 6 then Some (fault.List BadAddress) else (if n == 7 then Some (fault.List BadType) else (if n == 8 then Some (fault.List LeftOutType)
     else (if n == 9 then Some (fault.List BadLength) else (if n == 10 then Some (fault.List BadScale) else (if n == 11 then Some (fault.List BadRole) else (if n == 12 then Some (fault.List BadRoll)
-    else (if n == 13 then Some (fault.List Twice) else (if n == 14 then Some (fault.List TooManyPoints) else (if n == 16 then Some (fault.List NoModel) else (if n == 18 then Some (fault.List PastModel) else (if n == 20 then Some fault.PointDiffers else (if n == 21 then Some fault.UnknownPoint
-    else (if n == 22 then Some fault.NotASetting else (if n == 23 then Some fault.OutOfRange else (if n == 24 then Some fault.TooManyOrders else None))))))))))))))))))))
+    else (if n == 13 then Some (fault.List Twice) else (if n == 14 then Some (fault.List TooManyPoints) else (if n == 16 then Some (fault.List NoModel) else (if n == 18 then Some (fault.List PastModel) else (if n == 19 then Some (fault.List BadWords) else (if n == 20 then Some fault.PointDiffers else (if n == 21 then Some fault.UnknownPoint
+    else (if n == 22 then Some fault.NotASetting else (if n == 23 then Some fault.OutOfRange else (if n == 24 then Some fault.TooManyOrders
+    else (if n == 25 then Some fault.NotACounter else (if n == 26 then Some fault.TooManyVoids else None)))))))))))))))))))))))
 
--- 1 loaded rows, 2 ordered a number, 3 refused for a reason at a row and a column. Unused numbers are 0
+-- 1 loaded rows, 2 ordered a number, 3 refused for a reason at a row and a column, 4 voided a slot. Unused numbers are 0
 abbrev pub outcome_coded : ℕ → ℕ → ℕ → ℕ → Option Outcome
 outcome_coded answer a b c =
     if answer == 3 then option_map (λ f. RefusedFor (record { fault = f; row = b; column = c })) (reason_coded a)
-    else (if b == 0 && c == 0 then (if answer == 1 then Some (Loaded a) else (if answer == 2 then Some (Ordered a) else None)) else None)
+    else (if b == 0 && c == 0 then (if answer == 1 then Some (Loaded a) else (if answer == 2 then Some (Ordered a) else (if answer == 4 then Some (Voided a) else None))) else None)
 
 abbrev pub outcome_of : Value → Value → Value → Value → Option Outcome
 outcome_of answer a b c =
     option_and_then (λ k. option_and_then (λ x. option_and_then (λ y. option_and_then (outcome_coded k x y) (number_below 256 c)) (number_of b)) (number_of a)) (number_below 256 answer)
 
--- 1 the bytes of a list, 2 the value of an order in sixteen bytes, in two's complement and most significant first, and the point's name
+-- 1 the bytes of a list, 2 the value of an order in sixteen bytes, in two's complement and most significant first, and the point's name,
+-- 3 the slot of a void in four bytes, most significant first, and the point's name
 abbrev pub body_coded : ℕ → List ℕ → Option Body
 body_coded kind bytes =
     if kind == 1 then Some (body.List bytes)
-    else (if kind == 2 && (nat_le 16 (length bytes) && is_utf8 (drop 16 bytes)) then Some (body.Order (drop 16 bytes) (cast_signed w128 (from_be_bytes w128 (take 16 bytes)))) else None)
+    else (if kind == 2 && (nat_le 16 (length bytes) && is_utf8 (drop 16 bytes)) then Some (body.Order (drop 16 bytes) (cast_signed w128 (from_be_bytes w128 (take 16 bytes))))
+    else (if kind == 3 && (nat_le 4 (length bytes) && is_utf8 (drop 4 bytes)) then Some (body.Void (drop 4 bytes) (from_be_bytes w32 (take 4 bytes))) else None))
 
 abbrev pub body_of : Value → Value → Option Body
 body_of kind bytes = option_and_then (λ k. option_and_then (body_coded k) (bytes_of bytes)) (number_below 256 kind)

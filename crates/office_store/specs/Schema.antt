@@ -33,6 +33,12 @@ request_text = codes "CREATE TABLE request(caller TEXT NOT NULL, rkey TEXT NOT N
 abbrev pub total_text : List ℕ
 total_text = codes "CREATE TABLE total(point INTEGER PRIMARY KEY REFERENCES point(number), value BLOB NOT NULL) STRICT"
 
+abbrev pub void_text : List ℕ
+void_text = codes "CREATE TABLE void(point INTEGER NOT NULL REFERENCES point(number), slot INTEGER NOT NULL, PRIMARY KEY(point, slot)) STRICT"
+
+abbrev pub swapped_text : List ℕ
+swapped_text = codes "CREATE TABLE swapped(point INTEGER PRIMARY KEY REFERENCES point(number)) STRICT"
+
 abbrev pub strict : List ℕ → Kind → Bool → Column
 strict name kind required = record { name = name; kind = kind; is_strict = true; not_null = required; default = Null; collation = Binary }
 
@@ -144,11 +150,43 @@ total = record {
   is_counted = false;
 }
 
+abbrev pub void : Table
+void = record {
+  name = codes "void";
+  tree = 0;
+  columns = number (codes "point") ∷ number (codes "slot") ∷ [];
+  key = None;
+  primary = 1 ∷ 2 ∷ [];
+  uniques = (1 ∷ 2 ∷ []) ∷ [];
+  orders = plain ∷ [];
+  checks = [];
+  references = to_point ∷ [];
+  computed = [];
+  stamps = record { places = []; terms = []; formats = [] };
+  is_counted = false;
+}
+
+abbrev pub swapped : Table
+swapped = record {
+  name = codes "swapped";
+  tree = 0;
+  columns = strict (codes "point") Integer false ∷ [];
+  key = Some 0;
+  primary = 0 ∷ [];
+  uniques = [];
+  orders = [];
+  checks = [];
+  references = record to_point { columns = 0 ∷ [] } ∷ [];
+  computed = [];
+  stamps = record { places = []; terms = []; formats = [] };
+  is_counted = false;
+}
+
 abbrev pub no_schema : Schema
 no_schema = record { tables = []; indexes = []; views = [] }
 
 abbrev pub office_schema : Schema
-office_schema = created (created (created (created (created (created no_schema meta) point) reading) setting) request) total
+office_schema = created (created (created (created (created (created (created (created no_schema meta) point) reading) setting) request) total) void) swapped
 
 -- the trees of the tables, in the order in which they are made; the others are their keys
 abbrev pub meta_tree : ℕ
@@ -168,3 +206,9 @@ request_tree = 7
 
 abbrev pub total_tree : ℕ
 total_tree = 9
+
+abbrev pub void_tree : ℕ
+void_tree = 10
+
+abbrev pub swapped_tree : ℕ
+swapped_tree = 12

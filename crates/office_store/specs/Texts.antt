@@ -19,6 +19,9 @@ value_before_text = codes "SELECT point, slot, words, counted FROM reading WHERE
 abbrev pub value_after_text : List ℕ
 value_after_text = codes "SELECT point, slot, words, counted FROM reading WHERE point = ?1 AND slot > ?2 AND counted = 1 ORDER BY slot LIMIT 1"
 
+abbrev pub last_reading_text : List ℕ
+last_reading_text = codes "SELECT point, slot, words, counted FROM reading WHERE point = ?1 ORDER BY slot DESC LIMIT 1"
+
 abbrev pub points_text : List ℕ
 points_text = codes "SELECT number, name, device, tab, addr, kind, len, scale, role, roll FROM point ORDER BY number"
 
@@ -37,8 +40,17 @@ request_text = codes "SELECT caller, rkey, kind, body, answer, a, b, c FROM requ
 abbrev pub total_text : List ℕ
 total_text = codes "SELECT point, value FROM total WHERE point = ?1 ORDER BY point"
 
+abbrev pub void_key_text : List ℕ
+void_key_text = codes "SELECT point, slot FROM void WHERE point = ?1 AND slot = ?2"
+
+abbrev pub voids_text : List ℕ
+voids_text = codes "SELECT COUNT(*) FROM void"
+
 abbrev pub last_text : List ℕ
 last_text = codes "SELECT number, point, words, state, code FROM setting ORDER BY number DESC LIMIT 1"
 
 abbrev pub waiting_text : List ℕ
 waiting_text = codes "SELECT number, point, words, state, code FROM setting WHERE state = 0 ORDER BY number"
+
+abbrev pub swaps_text : List ℕ
+swaps_text = codes "SELECT point FROM swapped ORDER BY point"

@@ -21,6 +21,7 @@ pub record IsEmpty (change : Change) : Type 0 where
   pub points : change.points ≡ []
   pub readings : change.readings ≡ []
   pub totals : change.totals ≡ []
+  pub void : change.void ≡ None
   pub setting : change.setting ≡ None
   pub request : change.request ≡ None
   pub connections : change.connections ≡ None

@@ -18,6 +18,7 @@ use crate::write_readings::put_readings;
 use crate::write_requests::put_asked;
 use crate::write_settings::put_order;
 use crate::write_totals::put_totals;
+use crate::write_voids::put_void;
 use poll_book::{Change, StoreFault};
 use sqlite::{Alter, Connection, Transaction};
 use std::alloc::Global;
@@ -30,6 +31,7 @@ fn is_empty(change: &Change) -> bool
     change.points.as_slice().is_empty()
         && change.readings.as_slice().is_empty()
         && change.totals.as_slice().is_empty()
+        && change.void.is_none()
         && change.setting.is_none()
         && change.request.is_none()
         && change.connections.is_none()
@@ -52,6 +54,7 @@ fn put_change<S: Alter>(
     put_points(tx, change.points.as_slice())?;
     put_readings(tx, change.readings.as_slice())?;
     put_totals(tx, change.points.as_slice(), change.totals.as_slice())?;
+    put_void(tx, change.void)?;
     put_order(tx, &change.setting)?;
     put_asked(alloc, tx, &change.request)?;
     put_connections(tx, change.connections)

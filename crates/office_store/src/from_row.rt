@@ -1,6 +1,7 @@
 //! What the rows of an answer stand for.
 
-ghost use Rattle.std.specs.Prelude.{◌≡◌, IfOk, Some, map};
+ghost use Rattle.std.specs.Prelude.{◌≡◌, IfErr, IfOk, Some, map};
+ghost use Rattle.office_store.specs.Faults.{IsOfForm};
 
 use poll_book::StoreFault;
 use sqlite::Row;
@@ -20,12 +21,14 @@ pub(crate) trait FromRow {
     ghost shown: { Row → Option Entry };
 
     fn from_row(alloc: Global, row: &Row) -> Result<Self, StoreFault>
-        ensures { IfOk result (λ value. shown row.now ≡ Some (as_entry value)) };
+        ensures shown { IfOk result (λ value. shown row.now ≡ Some (as_entry value)) }
+        ensures told { IfErr result IsOfForm };
 }
 
 /// The values of all rows.
 pub(crate) fn all_of<T: FromRow + Drop>(alloc: Global, rows: &[Row]) -> Result<Vec<T>, StoreFault>
-    ensures { IfOk result (λ values. map T.shown rows.now ≡ map Some (map T.as_entry values.items)) }
+    ensures shown { IfOk result (λ values. map T.shown rows.now ≡ map Some (map T.as_entry values.items)) }
+    ensures told { IfErr result IsOfForm }
 {
     let mut values = Vec::new(alloc);
     for row in rows {

@@ -6,6 +6,7 @@ ghost use Rattle.sqlite.specs.State.{HasCleanDisk, Shown, FailsToQuery};
 ghost use Rattle.sqlite_value.specs.Order.{Row, column};
 ghost use Rattle.poll_book.specs.declared.fault.StoreFault.{StoreFault};
 ghost use Rattle.office_store.specs.Faults.{fault_of};
+ghost use Rattle.office_store.specs.Earlier.{WasHeld};
 ghost use Rattle.office_store.specs.Kept.{Holds, Keeps};
 ghost use Rattle.poll_book.specs.Tables.{Tables};
 ghost use Rattle.office_store.specs.Rows.{number_of};
@@ -15,9 +16,10 @@ ghost use Rattle.poll_book.specs.Looks.{CountsRows};
 
 use crate::apply::apply;
 use crate::ask::ask;
+use crate::ends::{self, Ends};
 use crate::error::{StoreError, fault_of};
 use crate::values::{number_of, value_at};
-use crate::{numbers, points, readings, requests, settings, totals, waiting};
+use crate::{numbers, points, readings, requests, settings, totals, voids, waiting};
 use poll_book::{
     Caller, Change, Keeper, Key, Neighbours, PointRow, Reading, ReadingRow, Request, Setting,
     SettingRow, StoreFault,
@@ -32,6 +34,8 @@ pub struct SqlKeeper<S: Alter> {
     connection: Connection<S>,
     // The orders that wait, once they were read.
     waiting: Option<Vec<SettingRow>>,
+    // Where the readings of points end, once it was read.
+    ends: Ends,
     // How many calls were refused, up to the greatest count.
     refusals: u64,
     // How many look-ups were made, up to the greatest count.
@@ -42,7 +46,7 @@ pub struct SqlKeeper<S: Alter> {
 impl<S: Alter> SqlKeeper<S> {
     ghost use Rattle.office_store.specs.Keepers.{IsKeptBy, connection_of, looked_by, refused_by};
 
-    /// The keeper of the tables, if they are of version 1. It reads the version alone and changes
+    /// The keeper of the tables, if they are of version 2. It reads the version alone and changes
     /// nothing. An error gives the connection back.
     pub fn open(mut connection: Connection<S>) -> Result<SqlKeeper<S>, (StoreError, Connection<S>)>
         ensures kept { IfOk result (λ keeper. Keeps (state S.Store connection) (state S.Store (connection_of keeper))) }
@@ -52,9 +56,10 @@ impl<S: Alter> SqlKeeper<S> {
         ensures given_back { IfErr result (λ error. Keeps (state S.Store connection) (state S.Store error.1)) }
         ensures counted { IfOk result (λ keeper. (refused_by keeper ≡ 0) × (looked_by keeper ≡ 0)) }
         ensures known { IfOk result (λ keeper. HasCleanDisk (state S.Store (connection_of keeper))
-            → (row : Row) × Shown version_text [] (state S.Store connection) (state S.Store (connection_of keeper)) (row ∷ []) × (number_of (column row 0) ≡ Some 1)) }
+            → (row : Row) × Shown version_text [] (state S.Store connection) (state S.Store (connection_of keeper)) (row ∷ []) × (number_of (column row 0) ≡ Some 2)) }
+        ensures earlier { IfOk result (λ keeper. HasCleanDisk (state S.Store (connection_of keeper)) → (kept : Tables) → ¬ WasHeld (state S.Store connection) kept) }
         ensures bad_version { IfErr result (λ error. error.0 ≡ StoreError.BadVersion → HasCleanDisk (state S.Store error.1)
-            → (row : Row) × Shown version_text [] (state S.Store connection) (state S.Store error.1) (row ∷ []) × (number_of (column row 0) ≢ Some 1)) }
+            → (row : Row) × Shown version_text [] (state S.Store connection) (state S.Store error.1) (row ∷ []) × (number_of (column row 0) ≢ Some 2)) }
         ensures not_office { IfErr result (λ error. error.0 ≡ StoreError.NotOffice → HasCleanDisk (state S.Store error.1)
             → Shown version_text [] (state S.Store connection) (state S.Store error.1) []
             ⊎ ((cause : _) × FailsToQuery version_text [] (state S.Store connection) (state S.Store error.1) cause × (fault_of cause ≡ StoreFault.Other))) }
@@ -86,11 +91,12 @@ impl<S: Alter> SqlKeeper<S> {
         match rows.as_slice() {
             [] => Err((StoreError::NotOffice, connection)),
             [row] => {
-                if number_of(value_at(row, 0)) == Some(1) {
+                if number_of(value_at(row, 0)) == Some(2) {
                     Ok(SqlKeeper {
                         alloc,
                         connection,
                         waiting: None,
+                        ends: Ends::new(alloc),
                         refusals: 0,
                         lookups: 0,
                     })
@@ -165,8 +171,14 @@ impl<S: Alter> Neighbours for SqlKeeper<S> {
 
     fn has_reading(&mut self, point: &PointRow, slot: u32) -> Result<bool, StoreFault> {
         count_look(&mut self.lookups);
-        let has = readings::has_reading(&mut self.connection, point.number, slot);
+        let has = ends::has_reading(&mut self.connection, &mut self.ends, point.number, slot);
         counted(&mut self.refusals, has)
+    }
+
+    fn voided(&mut self, point: &PointRow, slot: u32) -> Result<bool, StoreFault> {
+        count_look(&mut self.lookups);
+        let is = voids::is_void(&mut self.connection, point.number, slot);
+        counted(&mut self.refusals, is)
     }
 
     fn before(&mut self, point: &PointRow, slot: u32) -> Result<Option<u64>, StoreFault> {
@@ -177,7 +189,7 @@ impl<S: Alter> Neighbours for SqlKeeper<S> {
 
     fn after(&mut self, point: &PointRow, slot: u32) -> Result<Option<u64>, StoreFault> {
         count_look(&mut self.lookups);
-        let found = readings::value_after(self.alloc, &mut self.connection, point, slot);
+        let found = ends::value_after(self.alloc, &mut self.connection, &self.ends, point, slot);
         counted(&mut self.refusals, found)
     }
 
@@ -244,6 +256,11 @@ impl<S: Alter> Keeper for SqlKeeper<S> {
         counted(&mut self.refusals, last)
     }
 
+    fn voids(&mut self) -> Result<u64, StoreFault> {
+        let count = voids::count(&mut self.connection);
+        counted(&mut self.refusals, count)
+    }
+
     fn connections(&mut self) -> Result<u32, StoreFault> {
         let last = numbers::last_connection(&mut self.connection);
         counted(&mut self.refusals, last)
@@ -253,6 +270,7 @@ impl<S: Alter> Keeper for SqlKeeper<S> {
         let written = apply(self.alloc, &mut self.connection, change);
         let is_written = written.is_ok();
         self.waiting = waiting::followed(self.waiting.take(), &change.setting, is_written);
+        self.ends.follow(change.readings.as_slice(), is_written);
         counted(&mut self.refusals, written)
     }
 }

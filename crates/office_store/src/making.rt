@@ -8,7 +8,8 @@ ghost use Rattle.poll_book.specs.Tables.{no_tables};
 ghost use Rattle.office_store.specs.Schema.{no_schema, office_schema};
 ghost use Rattle.poll_book.specs.declared.fault.StoreFault.{StoreFault};
 ghost use Rattle.office_store.specs.Kept.{IsHeld, StandFor};
-ghost use Rattle.office_store.specs.Blank.{AreFirst, AreBlank, IsEmptyOffice};
+ghost use Rattle.office_store.specs.Blank.{AreFirst, AreSix, AreBlank, IsEmptyOffice, six_schema};
+ghost use Rattle.office_store.specs.Earlier.{AreAdded};
 
 use crate::error::{StoreError, fault_of};
 use crate::run::run;
@@ -44,7 +45,7 @@ fn make_first<S: Alter>(tx: &mut Transaction<'_, S>) -> Result<usize, StoreFault
 fn make_others<S: Alter>(tx: &mut Transaction<'_, S>) -> Result<usize, StoreFault>
     ensures same_reference { tx.new.conn.ghost_name ≡ tx.old.conn.ghost_name }
     ensures made { HasCleanDisk (state S.Store tx.new.conn.now) → IsTrue (state S.Store tx.old.conn.now).in_transaction → AreFirst (state S.Store tx.old.conn.now).now
-        → OnOk result (AreBlank (state S.Store tx.new.conn.now).now) }
+        → OnOk result (AreSix (state S.Store tx.new.conn.now).now) }
     ensures open { HasCleanDisk (state S.Store tx.new.conn.now) → IsTrue (state S.Store tx.old.conn.now).in_transaction
         → OnOk result (IsTrue (state S.Store tx.old.conn.now).is_open × IsTrue (state S.Store tx.new.conn.now).in_transaction) }
     ensures kept { HasCleanDisk (state S.Store tx.new.conn.now) → KeepsCommit (state S.Store tx.old.conn.now) (state S.Store tx.new.conn.now) }
@@ -67,6 +68,28 @@ fn make_others<S: Alter>(tx: &mut Transaction<'_, S>) -> Result<usize, StoreFaul
     )
 }
 
+/// Makes the tables that version 1 lacks.
+pub(crate) fn make_last<S: Alter>(tx: &mut Transaction<'_, S>) -> Result<usize, StoreFault>
+    ensures same_reference { tx.new.conn.ghost_name ≡ tx.old.conn.ghost_name }
+    ensures added { HasCleanDisk (state S.Store tx.new.conn.now) → IsTrue (state S.Store tx.old.conn.now).in_transaction → (state S.Store tx.old.conn.now).now.schema ≡ six_schema
+        → OnOk result (AreAdded (state S.Store tx.old.conn.now).now (state S.Store tx.new.conn.now).now) }
+    ensures open { HasCleanDisk (state S.Store tx.new.conn.now) → IsTrue (state S.Store tx.old.conn.now).in_transaction
+        → OnOk result (IsTrue (state S.Store tx.old.conn.now).is_open × IsTrue (state S.Store tx.new.conn.now).in_transaction) }
+    ensures kept { HasCleanDisk (state S.Store tx.new.conn.now) → KeepsCommit (state S.Store tx.old.conn.now) (state S.Store tx.new.conn.now) }
+    ensures survives { Survives (state S.Store tx.old.conn.now) (state S.Store tx.new.conn.now) (λ _. ⊥) }
+{
+    run(
+        tx,
+        "CREATE TABLE void(point INTEGER NOT NULL REFERENCES point(number), slot INTEGER NOT NULL, PRIMARY KEY(point, slot)) STRICT",
+        &[],
+    )?;
+    run(
+        tx,
+        "CREATE TABLE swapped(point INTEGER PRIMARY KEY REFERENCES point(number)) STRICT",
+        &[],
+    )
+}
+
 fn put_numbers<S: Alter>(tx: &mut Transaction<'_, S>) -> Result<usize, StoreFault>
     ensures same_reference { tx.new.conn.ghost_name ≡ tx.old.conn.ghost_name }
     ensures made { HasCleanDisk (state S.Store tx.new.conn.now) → IsTrue (state S.Store tx.old.conn.now).in_transaction → AreBlank (state S.Store tx.old.conn.now).now
@@ -80,7 +103,7 @@ fn put_numbers<S: Alter>(tx: &mut Transaction<'_, S>) -> Result<usize, StoreFaul
 {
     run(
         tx,
-        "INSERT INTO meta(name, value) VALUES ('version', 1), ('connections', 0)",
+        "INSERT INTO meta(name, value) VALUES ('version', 2), ('connections', 0)",
         &[],
     )
 }
@@ -98,6 +121,7 @@ fn make_all<S: Alter>(tx: &mut Transaction<'_, S>) -> Result<usize, StoreFault>
 {
     make_first(tx)?;
     make_others(tx)?;
+    make_last(tx)?;
     put_numbers(tx)
 }
 

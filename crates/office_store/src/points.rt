@@ -1,6 +1,6 @@
 //! The table of points.
 
-ghost use Rattle.std.specs.Prelude.{◌≡◌, ◌↔◌, false, IfOk, IsTrue, Some, option_and_then};
+ghost use Rattle.std.specs.Prelude.{◌≡◌, ◌↔◌, false, IfErr, IfOk, IsTrue, OnOk, Some, map, option_and_then, option_map};
 ghost use Rattle.sqlite.specs.Held.{state};
 ghost use Rattle.sqlite.specs.State.{HasCleanDisk};
 ghost use Rattle.sqlite_value.specs.Value.{owned};
@@ -11,11 +11,14 @@ ghost use Rattle.poll_book.specs.Orders.{point_at};
 ghost use Rattle.poll_book.specs.Tables.{Tables};
 ghost use Rattle.office_store.specs.Kept.{Holds, Keeps};
 ghost use Rattle.poll_book.specs.Totals.{is_counter};
+ghost use Rattle.office_store.specs.Swaps.{AreInOrder, plain};
+ghost use Rattle.office_store.specs.Faults.{IsOfForm};
 ghost use Rattle.office_store.specs.Rows.{CanBeListed, described, kind_of, number_below, role_coded, shown_point, table_coded, text_that};
 
 use crate::ask::ask;
 use crate::error::fault_of;
 use crate::from_row::{FromRow, all_of};
+use crate::swaps::{all_swaps, with_swaps};
 use crate::values::{address_of, byte_of, long_of, number_of, small_of, value_at};
 use mb_pdu::Table;
 use point_list::{Label, Name, Point, Role};
@@ -23,7 +26,7 @@ use poll_book::{PointRow, StoreFault};
 use sqlite::types::ValueRef;
 use sqlite::{Alter, Connection, Row, params};
 use std::alloc::Global;
-use sunspec::PointType;
+use sunspec::{PointType, WordOrder};
 
 fn name_of(value: ValueRef<'_>) -> Option<Name>
     ensures { result ≡ text_that is_name (owned value.entry) }
@@ -104,6 +107,7 @@ fn described(name: Name, device: Label, row: &Row) -> Option<Point>
         scale: small_of(value_at(row, 7))?,
         role: role_of(value_at(row, 8))?,
         roll: long_of(value_at(row, 9))?,
+        order: WordOrder::Big,
     })
 }
 
@@ -135,6 +139,7 @@ fn can_be_listed(point: &Point) -> bool
 fn listed(point: Option<PointRow>) -> Result<PointRow, StoreFault>
     ensures value { IfOk result (λ known. point ≡ Some known) }
     ensures listed { IfOk result (λ known. CanBeListed known.point) }
+    ensures told { IfErr result IsOfForm }
 {
     match point {
         Some(known) if can_be_listed(&known.point) => Ok(known),
@@ -157,14 +162,16 @@ impl FromRow for PointRow {
     }
 }
 
-/// The points, by their numbers.
-pub(crate) fn all_points<S: Alter>(
+/// The points, by their numbers, each with its registers in the usual order, since their rows don't tell it.
+fn plain_points<S: Alter>(
     alloc: Global,
     connection: &mut Connection<S>,
 ) -> Result<Vec<PointRow>, StoreFault>
     requires { connection.old.in_transaction ≡ false }
     ensures value { HasCleanDisk (state S.Store connection.new) → (kept : Tables) → Holds (state S.Store connection.old) kept
-        → IfOk result (λ points. points.items ≡ kept.points) }
+        → IfOk result (λ points. points.items ≡ map plain kept.points) }
+    ensures in_order { HasCleanDisk (state S.Store connection.new) → (kept : Tables) → Holds (state S.Store connection.old) kept
+        → OnOk result (AreInOrder kept.points) }
     ensures keeps { Keeps (state S.Store connection.old) (state S.Store connection.new) }
     ensures idle { connection.new.in_transaction ≡ false }
 {
@@ -178,14 +185,30 @@ pub(crate) fn all_points<S: Alter>(
     }
 }
 
-/// The point of a number, if it is known.
-pub(crate) fn point_at<S: Alter>(
+/// The points, by their numbers.
+pub(crate) fn all_points<S: Alter>(
+    alloc: Global,
+    connection: &mut Connection<S>,
+) -> Result<Vec<PointRow>, StoreFault>
+    requires { connection.old.in_transaction ≡ false }
+    ensures value { HasCleanDisk (state S.Store connection.new) → (kept : Tables) → Holds (state S.Store connection.old) kept
+        → IfOk result (λ points. points.items ≡ kept.points) }
+    ensures keeps { Keeps (state S.Store connection.old) (state S.Store connection.new) }
+    ensures idle { connection.new.in_transaction ≡ false }
+{
+    let points = plain_points(alloc, connection)?;
+    let swaps = all_swaps(alloc, connection)?;
+    with_swaps(alloc, &points, &swaps)
+}
+
+/// The point of a number, if it is known, with its registers in the usual order.
+pub(crate) fn plain_at<S: Alter>(
     connection: &mut Connection<S>,
     number: u32,
 ) -> Result<Option<PointRow>, StoreFault>
     requires { connection.old.in_transaction ≡ false }
     ensures value { HasCleanDisk (state S.Store connection.new) → (kept : Tables) → Holds (state S.Store connection.old) kept
-        → IfOk result (λ found. found ≡ point_at kept.points number) }
+        → IfOk result (λ found. found ≡ option_map plain (point_at kept.points number)) }
     ensures keeps { Keeps (state S.Store connection.old) (state S.Store connection.new) }
     ensures idle { connection.new.in_transaction ≡ false }
 {

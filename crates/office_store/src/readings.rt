@@ -7,6 +7,7 @@ ghost use Rattle.poll_book.specs.Tables.{Tables, reading_at, readings_between};
 ghost use Rattle.poll_book.specs.Totals.{value_after, value_before};
 ghost use Rattle.poll_book.specs.Changes.{as_rows};
 ghost use Rattle.office_store.specs.Kept.{Holds, Keeps};
+ghost use Rattle.office_store.specs.Ends.{IsEndOf, IsJustBehind, ShowEnd};
 ghost use Rattle.office_store.specs.Counting.{MayBeOf, ShowValue, number_in};
 ghost use Rattle.office_store.specs.Rows.{shown_reading};
 
@@ -141,6 +142,43 @@ pub(crate) fn has_reading<S: Alter>(
         params![point, slot],
     ) {
         Ok(rows) => Ok(!rows.is_empty()),
+        Err(error) => Err(fault_of(error)),
+    }
+}
+
+/// The slot behind the reading that the rows of an answer show, and 0 where they show none.
+fn end_shown(rows: &[Row]) -> Result<u64, StoreFault>
+    ensures { IfOk result (ShowEnd rows.now) }
+{
+    match rows {
+        [] => Ok(0),
+        [row] => match number_of(value_at(row, 1)) {
+            Some(slot) => Ok(u64::from(slot) + 1),
+            None => Err(StoreFault::Other),
+        },
+        _ => Err(StoreFault::Other),
+    }
+}
+
+/// The slot behind the last reading of a point, whether it counts or not; 0 if the point has none.
+pub(crate) fn end_of<S: Alter>(
+    connection: &mut Connection<S>,
+    point: u32,
+) -> Result<u64, StoreFault>
+    requires { connection.old.in_transaction ≡ false }
+    ensures value { HasCleanDisk (state S.Store connection.new) → (kept : Tables) → Holds (state S.Store connection.old) kept
+        → IfOk result (λ end. IsEndOf point end kept.readings) }
+    ensures last { HasCleanDisk (state S.Store connection.new) → (kept : Tables) → Holds (state S.Store connection.old) kept
+        → IfOk result (λ end. IsJustBehind point end kept.readings) }
+    ensures keeps { Keeps (state S.Store connection.old) (state S.Store connection.new) }
+    ensures idle { connection.new.in_transaction ≡ false }
+{
+    match ask(
+        connection,
+        "SELECT point, slot, words, counted FROM reading WHERE point = ?1 ORDER BY slot DESC LIMIT 1",
+        params![point],
+    ) {
+        Ok(rows) => end_shown(&rows),
         Err(error) => Err(fault_of(error)),
     }
 }

@@ -17,11 +17,12 @@ use crate::error::fault_of;
 use crate::values::{byte_of, number_of, value_at};
 use point_list::ListFault::{
     BadAddress, BadCsv, BadHeader, BadLength, BadName, BadRole, BadRoll, BadScale, BadTable,
-    BadType, LeftOutType, NoModel, PastModel, TooManyPoints, Twice, UnknownDevice,
+    BadType, BadWords, LeftOutType, NoModel, PastModel, TooManyPoints, Twice, UnknownDevice,
 };
 use point_list::{Items, Text};
 use poll_book::RequestFault::{
-    List, NotASetting, OutOfRange, PointDiffers, TooManyOrders, UnknownPoint,
+    List, NotACounter, NotASetting, OutOfRange, PointDiffers, TooManyOrders, TooManyVoids,
+    UnknownPoint,
 };
 use poll_book::{
     Body, Caller, Key, Outcome, Reason, Request, RequestFault, RequestRow, StoreFault,
@@ -81,11 +82,14 @@ fn reason_of(code: u32) -> Option<RequestFault>
         14 => Some(List(TooManyPoints)),
         16 => Some(List(NoModel)),
         18 => Some(List(PastModel)),
+        19 => Some(List(BadWords)),
         20 => Some(PointDiffers),
         21 => Some(UnknownPoint),
         22 => Some(NotASetting),
         23 => Some(OutOfRange),
         24 => Some(TooManyOrders),
+        25 => Some(NotACounter),
+        26 => Some(TooManyVoids),
         _ => None,
     }
 }
@@ -101,6 +105,7 @@ fn outcome_of(answer: u8, a: u32, b: u32, c: u8) -> Option<Outcome>
         })),
         (1, 0, 0) => Some(Outcome::Loaded(a)),
         (2, 0, 0) => Some(Outcome::Ordered(a)),
+        (4, 0, 0) => Some(Outcome::Voided(a)),
         _ => None,
     }
 }
@@ -121,12 +126,29 @@ fn order_of(alloc: Global, bytes: &[u8]) -> Result<Body, StoreFault>
     })
 }
 
+/// A slot in four bytes, and the point's name behind them.
+fn void_of(alloc: Global, bytes: &[u8]) -> Result<Body, StoreFault>
+    ensures { IfOk result (λ body. body_coded 3 bytes.now ≡ Some body) }
+{
+    let Some((slot, name)) = bytes.split_first_chunk::<4>() else {
+        return Err(StoreFault::Other);
+    };
+    let Ok(name) = str::from_utf8(name) else {
+        return Err(StoreFault::Other);
+    };
+    Ok(Body::Void {
+        point: Text::from_string(String::from_str(alloc, name)?),
+        slot: u32::from_be_bytes(*slot),
+    })
+}
+
 fn body_of(alloc: Global, kind: u8, bytes: &[u8]) -> Result<Body, StoreFault>
     ensures { IfOk result (λ body. body_coded kind bytes.now ≡ Some body) }
 {
     match kind {
         1 => Ok(Body::List(Items::from_vec(Vec::from_slice(alloc, bytes)?))),
         2 => order_of(alloc, bytes),
+        3 => void_of(alloc, bytes),
         _ => Err(StoreFault::Other),
     }
 }

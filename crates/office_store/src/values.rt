@@ -1,8 +1,9 @@
 //! Values of the database.
 
-ghost use Rattle.std.specs.Prelude.{◌≡◌, IfOk, Some};
+ghost use Rattle.std.specs.Prelude.{◌≡◌, IfErr, IfOk, Some};
 ghost use Rattle.sqlite_value.specs.Value.{owned};
 ghost use Rattle.sqlite_value.specs.Order.{column};
+ghost use Rattle.office_store.specs.Faults.{IsOfForm};
 ghost use Rattle.office_store.specs.Rows.{flag_of, long_of, number_below, number_of, small_of, wide_of, words_of};
 
 use poll_book::{StoreFault, Words};
@@ -44,7 +45,8 @@ pub(crate) fn flag_of(value: ValueRef<'_>) -> Option<bool>
 
 /// The registers that bytes are, two bytes a register, most significant first.
 pub(crate) fn words_of(alloc: Global, value: ValueRef<'_>) -> Result<Words, StoreFault>
-    ensures { IfOk result (λ words. words_of (owned value.entry) ≡ Some words) }
+    ensures shown { IfOk result (λ words. words_of (owned value.entry) ≡ Some words) }
+    ensures told { IfErr result IsOfForm }
 {
     let ValueRef::Blob(bytes) = value else {
         return Err(StoreFault::Other);

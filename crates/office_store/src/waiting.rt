@@ -10,7 +10,7 @@ ghost use Rattle.poll_book.specs.Tables.{Tables};
 ghost use Rattle.office_store.specs.Kept.{Holds, Keeps};
 ghost use Rattle.office_store.specs.Waiting.{AreRead, AreThose, HoldsBy, is_other};
 
-use crate::points::point_at;
+use crate::points::plain_at;
 use crate::settings::all_waiting;
 use poll_book::{OrderState, SettingRow, StoreFault};
 use sqlite::{Alter, Connection};
@@ -38,7 +38,7 @@ fn is_of<S: Alter>(
     ensures keeps { Keeps (state S.Store connection.old) (state S.Store connection.new) }
     ensures idle { connection.new.in_transaction ≡ false }
 {
-    match point_at(connection, number)? {
+    match plain_at(connection, number)? {
         Some(known) => Ok(known.point.device.as_str() == device),
         None => Ok(false),
     }

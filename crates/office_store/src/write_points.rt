@@ -1,14 +1,16 @@
 //! Rows of points are written.
 
-ghost use Rattle.std.specs.Prelude.{◌≡◌, ◌⊎◌, ◌++◌, ◌∷◌, [], ◌<◌, IsTrue, OnOk};
+ghost use Rattle.std.specs.Prelude.{◌≡◌, ◌⊎◌, ◌++◌, ◌∷◌, [], ◌<◌, IsTrue, OnOk, true};
 ghost use Rattle.std.specs.List.{AllByRecursion};
 ghost use Rattle.sqlite.specs.Effect.{Database};
 ghost use Rattle.sqlite.specs.Held.{state};
 ghost use Rattle.sqlite.specs.State.{HasCleanDisk, KeepsCommit, Survives};
 ghost use Rattle.sunspec.specs.PointType.{row};
+ghost use Rattle.point_list.specs.declared.point.Point.{Point};
 ghost use Rattle.poll_book.specs.Tables.{Tables};
 ghost use Rattle.poll_book.specs.Changes.{AreNumbered};
 ghost use Rattle.office_store.specs.PointNumbers.{role_number, table_number};
+ghost use Rattle.office_store.specs.Swaps.{comes_swapped, plain};
 ghost use Rattle.office_store.specs.Writing.{Within};
 
 use crate::run::run;
@@ -16,8 +18,8 @@ use mb_pdu::Table;
 use point_list::{Point, Role};
 use poll_book::{PointRow, StoreFault};
 use sqlite::types::{ToSql, ValueRef};
-use sqlite::{Alter, Transaction};
-use sunspec::PointType;
+use sqlite::{Alter, Transaction, params};
+use sunspec::{PointType, WordOrder};
 
 fn table_number(table: Table) -> u32
     ensures { result ≡ table_number table }
@@ -51,8 +53,8 @@ fn registers_of(kind: PointType) -> u8
     }
 }
 
-/// Adds a point after those that are there.
-pub(crate) fn put_point<S: Alter>(
+/// Adds a point after those that are there, with its registers in the usual order, since its row doesn't tell it.
+fn put_plain<S: Alter>(
     tx: &mut Transaction<'_, S>,
     number: u32,
     point: &Point,
@@ -60,7 +62,7 @@ pub(crate) fn put_point<S: Alter>(
     ensures same_reference { tx.new.conn.ghost_name ≡ tx.old.conn.ghost_name }
     ensures put { HasCleanDisk (state S.Store tx.new.conn.now) → (base : Database) → (kept : Tables) → Within (state S.Store tx.old.conn.now) base kept
         → AllByRecursion (λ p. p.number < number) kept.points
-        → OnOk result (Within (state S.Store tx.new.conn.now) base (record kept { points = kept.points ++ (record { number = number; point = point.now }) ∷ [] })) }
+        → OnOk result (Within (state S.Store tx.new.conn.now) base (record kept { points = kept.points ++ plain (record { number = number; point = point.now }) ∷ [] })) }
     ensures inside { HasCleanDisk (state S.Store tx.new.conn.now) → IsTrue (state S.Store tx.old.conn.now).in_transaction → OnOk result (IsTrue (state S.Store tx.new.conn.now).in_transaction) }
     ensures opened { HasCleanDisk (state S.Store tx.new.conn.now) → IsTrue (state S.Store tx.old.conn.now).in_transaction → OnOk result (IsTrue (state S.Store tx.old.conn.now).is_open) }
     ensures kept { HasCleanDisk (state S.Store tx.new.conn.now) → KeepsCommit (state S.Store tx.old.conn.now) (state S.Store tx.new.conn.now) }
@@ -83,6 +85,46 @@ pub(crate) fn put_point<S: Alter>(
             roll.as_slice().to_sql(),
         ],
     )
+}
+
+/// Swaps the last point.
+fn put_swap<S: Alter>(tx: &mut Transaction<'_, S>, number: u32) -> Result<usize, StoreFault>
+    ensures same_reference { tx.new.conn.ghost_name ≡ tx.old.conn.ghost_name }
+    ensures put { HasCleanDisk (state S.Store tx.new.conn.now) → (base : Database) → (kept : Tables) → (point : Point) → comes_swapped point.order ≡ true
+        → AllByRecursion (λ p. p.number < number) kept.points → Within (state S.Store tx.old.conn.now) base (record kept { points = kept.points ++ plain (record { number = number; point = point }) ∷ [] })
+        → OnOk result (Within (state S.Store tx.new.conn.now) base (record kept { points = kept.points ++ (record { number = number; point = point }) ∷ [] })) }
+    ensures inside { HasCleanDisk (state S.Store tx.new.conn.now) → IsTrue (state S.Store tx.old.conn.now).in_transaction → OnOk result (IsTrue (state S.Store tx.new.conn.now).in_transaction) }
+    ensures opened { HasCleanDisk (state S.Store tx.new.conn.now) → IsTrue (state S.Store tx.old.conn.now).in_transaction → OnOk result (IsTrue (state S.Store tx.old.conn.now).is_open) }
+    ensures kept { HasCleanDisk (state S.Store tx.new.conn.now) → KeepsCommit (state S.Store tx.old.conn.now) (state S.Store tx.new.conn.now) }
+    ensures survives { Survives (state S.Store tx.old.conn.now) (state S.Store tx.new.conn.now) (λ _. ⊥) }
+{
+    run(
+        tx,
+        "INSERT INTO swapped(point) VALUES (?1)",
+        params![number],
+    )
+}
+
+/// Adds a point after those that are there.
+pub(crate) fn put_point<S: Alter>(
+    tx: &mut Transaction<'_, S>,
+    number: u32,
+    point: &Point,
+) -> Result<(), StoreFault>
+    ensures same_reference { tx.new.conn.ghost_name ≡ tx.old.conn.ghost_name }
+    ensures put { HasCleanDisk (state S.Store tx.new.conn.now) → (base : Database) → (kept : Tables) → Within (state S.Store tx.old.conn.now) base kept
+        → AllByRecursion (λ p. p.number < number) kept.points
+        → OnOk result (Within (state S.Store tx.new.conn.now) base (record kept { points = kept.points ++ (record { number = number; point = point.now }) ∷ [] })) }
+    ensures inside { HasCleanDisk (state S.Store tx.new.conn.now) → IsTrue (state S.Store tx.old.conn.now).in_transaction → OnOk result (IsTrue (state S.Store tx.new.conn.now).in_transaction) }
+    ensures opened { HasCleanDisk (state S.Store tx.new.conn.now) → IsTrue (state S.Store tx.old.conn.now).in_transaction → OnOk result (IsTrue (state S.Store tx.old.conn.now).is_open) }
+    ensures kept { HasCleanDisk (state S.Store tx.new.conn.now) → KeepsCommit (state S.Store tx.old.conn.now) (state S.Store tx.new.conn.now) }
+    ensures survives { Survives (state S.Store tx.old.conn.now) (state S.Store tx.new.conn.now) (λ _. ⊥) }
+{
+    put_plain(tx, number, point)?;
+    if let WordOrder::Swapped = point.order {
+        put_swap(tx, number)?;
+    }
+    Ok(())
 }
 
 /// Adds points after those that are there.

@@ -14,11 +14,12 @@ ghost use Rattle.office_store.specs.Writing.{Within};
 use crate::run::run;
 use point_list::ListFault::{
     self, BadAddress, BadCsv, BadHeader, BadLength, BadName, BadRole, BadRoll, BadScale, BadSite,
-    BadTable, BadType, LeftOutType, Memory, NoModel, PastModel, TooManyPoints, Twice,
+    BadTable, BadType, BadWords, LeftOutType, Memory, NoModel, PastModel, TooManyPoints, Twice,
     UnknownDevice,
 };
 use poll_book::RequestFault::{
-    List, NotASetting, OutOfRange, PointDiffers, TooManyOrders, UnknownPoint,
+    List, NotACounter, NotASetting, OutOfRange, PointDiffers, TooManyOrders, TooManyVoids,
+    UnknownPoint,
 };
 use poll_book::{Body, Outcome, RequestFault, RequestRow, StoreFault};
 use sqlite::types::{ToSql, ValueRef};
@@ -56,12 +57,15 @@ fn reason_number(fault: RequestFault) -> Option<u32>
         List(TooManyPoints) => Some(14),
         List(NoModel) => Some(16),
         List(PastModel) => Some(18),
+        List(BadWords) => Some(19),
         List(Memory | BadSite) => None,
         PointDiffers => Some(20),
         UnknownPoint => Some(21),
         NotASetting => Some(22),
         OutOfRange => Some(23),
         TooManyOrders => Some(24),
+        NotACounter => Some(25),
+        TooManyVoids => Some(26),
     }
 }
 
@@ -81,6 +85,12 @@ fn outcome_numbers(outcome: Outcome) -> Option<OutcomeNumbers>
             b: 0,
             c: 0,
         },
+        Outcome::Voided(slot) => OutcomeNumbers {
+            answer: 4,
+            a: slot,
+            b: 0,
+            c: 0,
+        },
         Outcome::RefusedFor(reason) => OutcomeNumbers {
             answer: 3,
             a: reason_number(reason.fault)?,
@@ -95,6 +105,15 @@ fn order_bytes(alloc: Global, point: &str, value: i128) -> Result<Vec<u8>, Alloc
     ensures { IfOk result (λ bytes. body_coded 2 bytes.items ≡ Some (Body.Order point.now value)) }
 {
     let mut bytes = Vec::from_slice(alloc, &value.to_be_bytes())?;
+    bytes.extend_from_slice(point.as_bytes())?;
+    Ok(bytes)
+}
+
+/// A slot in four bytes, and the point's name behind them.
+fn void_bytes(alloc: Global, point: &str, slot: u32) -> Result<Vec<u8>, AllocError>
+    ensures { IfOk result (λ bytes. body_coded 3 bytes.items ≡ Some (Body.Void point.now slot)) }
+{
+    let mut bytes = Vec::from_slice(alloc, &slot.to_be_bytes())?;
     bytes.extend_from_slice(point.as_bytes())?;
     Ok(bytes)
 }
@@ -157,6 +176,10 @@ pub(crate) fn put_request<S: Alter>(
         Body::Order { point, value } => {
             let bytes = order_bytes(alloc, point.as_str(), *value)?;
             put_coded(tx, row, 2, bytes.as_slice(), outcome)
+        }
+        Body::Void { point, slot } => {
+            let bytes = void_bytes(alloc, point.as_str(), *slot)?;
+            put_coded(tx, row, 3, bytes.as_slice(), outcome)
         }
     }
 }

@@ -17,6 +17,7 @@ pub data ErrandView : Type 0 where
   load : (caller key list : Text) → ErrandView
   poll : (slot : ℕ) (line : Text) → ErrandView
   order : (caller key point : Text) (value : ℤ) → ErrandView
+  void : (caller key point : Text) (slot : ℕ) → ErrandView
   report : (point : Text) (from to : ℕ) → ErrandView
   serve : (port : ℕ) (count : Option ℕ) → ErrandView
 
@@ -24,6 +25,7 @@ abbrev pub errand_view : Errand → ErrandView
 errand_view (errand.Load caller key list) = load caller key (string_bytes list)
 errand_view (errand.Poll slot line) = poll slot (string_bytes line)
 errand_view (errand.Order caller key point value) = order caller key (string_bytes point) value
+errand_view (errand.Void caller key point slot) = void caller key (string_bytes point) slot
 errand_view (errand.Report point from to) = report (string_bytes point) from to
 errand_view (errand.Serve port count) = serve port count
 
@@ -33,6 +35,7 @@ pub data JobView : Type 0 where
   plan : (site list : Text) → JobView
   discover : (site : Text) (timeout : ℕ) (device : Text) → JobView
   sim : (image : Text) (port : Option ℕ) → JobView
+  migrate : (store : Text) (timeout : ℕ) → JobView
   office : (store site : Text) (timeout : ℕ) (does : ErrandView) → JobView
 
 abbrev pub job_view : Job → JobView
@@ -40,6 +43,7 @@ job_view job.Replay = replay
 job_view (job.Plan site list) = plan (string_bytes site) (string_bytes list)
 job_view (job.Discover site timeout device) = discover (string_bytes site) timeout (string_bytes device)
 job_view (job.Sim image port) = sim (string_bytes image) port
+job_view (job.Migrate store timeout) = migrate (string_bytes store) timeout
 job_view (job.Office store site timeout does) = office (string_bytes store) (string_bytes site) timeout (errand_view does)
 
 -- ---- the job of each command, by the values that were matched
@@ -86,6 +90,20 @@ order_of rows = do
   value ← first_of (codes "value") rows >>= value_of
   office_of rows (order caller key point value)
 
+unfoldable pub void_of : List Row → Option JobView
+void_of rows = do
+  caller ← first_of (codes "caller") rows >>= caller_of
+  key ← first_of (codes "key") rows >>= key_of
+  point ← first_of (codes "point") rows
+  slot ← first_of (codes "slot") rows >>= number_of
+  office_of rows (void caller key point slot)
+
+unfoldable pub migrate_of : List Row → Option JobView
+migrate_of rows = do
+  store ← first_of (codes "store") rows
+  timeout ← first_of (codes "timeout") rows >>= seconds_of
+  Some (migrate store timeout)
+
 -- the slots are in order, and at most 9,999 apart
 unfoldable pub report_of : List Row → Option JobView
 report_of rows = do
@@ -115,9 +133,11 @@ job_in (name, rows) =
     else if bytes_eq name (codes "discover") then discover_of rows
     else if bytes_eq name (codes "poll") then poll_of rows
     else if bytes_eq name (codes "order") then order_of rows
+    else if bytes_eq name (codes "void") then void_of rows
     else if bytes_eq name (codes "report") then report_of rows
     else if bytes_eq name (codes "serve") then serve_of rows
     else if bytes_eq name (codes "sim") then sim_of rows
+    else if bytes_eq name (codes "migrate") then migrate_of rows
     else None
 
 abbrev pub job_found : Option (Text × List Row) → Option JobView

@@ -77,6 +77,9 @@ poll_line = with_values (named (codes "poll")) (store ∷ site ∷ timeout ∷ o
 unfoldable pub order_line : App
 order_line = with_values (named (codes "order")) (store ∷ site ∷ timeout ∷ caller ∷ key ∷ place (codes "point") ∷ place (codes "value") ∷ [])
 
+unfoldable pub void_line : App
+void_line = with_values (named (codes "void")) (store ∷ site ∷ timeout ∷ caller ∷ key ∷ place (codes "point") ∷ place (codes "slot") ∷ [])
+
 unfoldable pub report_line : App
 report_line = with_values (named (codes "report")) (store ∷ site ∷ timeout ∷ place (codes "point") ∷ place (codes "from") ∷ place (codes "to") ∷ [])
 
@@ -85,6 +88,9 @@ serve_line = with_values (named (codes "serve")) (store ∷ site ∷ timeout ∷
 
 unfoldable pub sim_line : App
 sim_line = with_values (named (codes "sim")) (option (codes "image") ∷ spare (codes "port") ∷ [])
+
+unfoldable pub migrate_line : App
+migrate_line = with_values (named (codes "migrate")) (store ∷ timeout ∷ [])
 
 -- ---- the program
 
@@ -104,8 +110,12 @@ device_lines = discover_line ∷ poll_line ∷ order_line ∷ []
 abbrev pub answer_lines : List App
 answer_lines = report_line ∷ serve_line ∷ sim_line ∷ []
 
+-- that put right what is stored
+abbrev pub store_lines : List App
+store_lines = void_line ∷ migrate_line ∷ []
+
 unfoldable pub with_commands : App → App
-with_commands a = with_lines a (list_lines ++ device_lines ++ answer_lines)
+with_commands a = with_lines a (list_lines ++ device_lines ++ answer_lines ++ store_lines)
 
 -- no word is the program's own name, and a command must be there
 abbrev pub plain_top : Shape → Shape

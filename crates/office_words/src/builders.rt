@@ -135,7 +135,7 @@ pub(crate) fn with_timeout<'a>(
     )
 }
 
-fn with_store<'a>(alloc: Global, command: Command<'a>) -> Result<Command<'a>, AllocError>
+pub(crate) fn with_store<'a>(alloc: Global, command: Command<'a>) -> Result<Command<'a>, AllocError>
     requires { (out-Command command).has_globals ≡ false }
     ensures line { IfOk result (λ c. line_of c ≡ with_value (line_of command.entry) (option (codes "store"))) }
     ensures plain { IfOk result (λ c. (out-Command c).has_globals ≡ false) }

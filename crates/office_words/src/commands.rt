@@ -1,6 +1,6 @@
 //! The job of each command, by the values that its matches have.
 ghost use Rattle.clap.specs.Words.{found_of, rows_of, subcommand_rows_of};
-ghost use Rattle.office_words.specs.Jobs.{discover_of, errand_view, job_found, job_view, load_of, office_of, order_of, plan_of, poll_of, report_of, serve_of, sim_of};
+ghost use Rattle.office_words.specs.Jobs.{discover_of, errand_view, job_found, job_view, load_of, migrate_of, office_of, order_of, plan_of, poll_of, report_of, serve_of, sim_of, void_of};
 ghost use Rattle.office_words.specs.Values.{Gives};
 
 use crate::given::{
@@ -88,6 +88,32 @@ fn order(alloc: Global, matches: &ArgMatches) -> Result<Job, WordFault>
     in_office(alloc, matches, errand)
 }
 
+#[tactic(auto, unfolding(crate::specs::Jobs::void_of))]
+fn void(alloc: Global, matches: &ArgMatches) -> Result<Job, WordFault>
+    ensures { Gives job_view result (void_of (rows_of (found_of matches.now))) }
+{
+    let caller = caller(matches, "caller")?;
+    let key = key(matches, "key")?;
+    let point = text(alloc, matches, "point")?;
+    let slot = number(matches, "slot")?;
+    let errand = Errand::Void {
+        caller,
+        key,
+        point,
+        slot,
+    };
+    in_office(alloc, matches, errand)
+}
+
+#[tactic(auto, unfolding(crate::specs::Jobs::migrate_of))]
+fn migrate(alloc: Global, matches: &ArgMatches) -> Result<Job, WordFault>
+    ensures { Gives job_view result (migrate_of (rows_of (found_of matches.now))) }
+{
+    let store = text(alloc, matches, "store")?;
+    let timeout = seconds(matches, "timeout")?;
+    Ok(Job::Migrate { store, timeout })
+}
+
 #[tactic(auto, unfolding(crate::specs::Jobs::report_of))]
 fn report(alloc: Global, matches: &ArgMatches) -> Result<Job, WordFault>
     ensures { Gives job_view result (report_of (rows_of (found_of matches.now))) }
@@ -130,9 +156,11 @@ pub(crate) fn job_in(alloc: Global, matches: &ArgMatches) -> Result<Job, WordFau
         Some(("discover", inner)) => discover(alloc, inner),
         Some(("poll", inner)) => poll(alloc, inner),
         Some(("order", inner)) => order(alloc, inner),
+        Some(("void", inner)) => void(alloc, inner),
         Some(("report", inner)) => report(alloc, inner),
         Some(("serve", inner)) => serve(alloc, inner),
         Some(("sim", inner)) => sim(alloc, inner),
+        Some(("migrate", inner)) => migrate(alloc, inner),
         _ => Err(WordFault::Words),
     }
 }

@@ -29,6 +29,12 @@ pub enum Job {
         image: String,
         port: Option<u16>,
     },
+    /// Moves a store of an earlier version to today's.
+    Migrate {
+        store: String,
+        /// Seconds, 1 to 3,600.
+        timeout: u16,
+    },
     /// Does an errand in the office of a store, over a site.
     Office {
         store: String,
@@ -59,6 +65,13 @@ pub enum Errand {
         key: Key,
         point: String,
         value: i128,
+    },
+    /// Takes a slot of a counter out of its total.
+    Void {
+        caller: Caller,
+        key: Key,
+        point: String,
+        slot: u32,
     },
     /// Prints the readings of a point, with `from` at most `to` and the two at most 9,999 apart.
     Report {

@@ -1,10 +1,10 @@
 //! The command line, with what help says of each command.
 ghost use Rattle.std.specs.Prelude.{◌≡◌, IfOk, false};
 ghost use Rattle.clap.specs.declared.builder.command.Command.TheViews.{out-Command};
-ghost use Rattle.office_words.specs.Line.{bare_line, answer_lines, device_lines, discover_line, help_line, list_lines, without_help, line_of, load_line, named, office_line, order_line, plan_line, poll_line, replay_line, report_line, serve_line, sim_line, with_version, with_commands, with_lines};
+ghost use Rattle.office_words.specs.Line.{bare_line, answer_lines, device_lines, discover_line, help_line, list_lines, without_help, line_of, load_line, migrate_line, named, office_line, order_line, plan_line, poll_line, replay_line, report_line, serve_line, sim_line, store_lines, void_line, with_version, with_commands, with_lines};
 
 use crate::builders::{
-    with_caller, with_key, with_office, with_option, with_place, with_site, with_spare,
+    with_caller, with_key, with_office, with_option, with_place, with_site, with_spare, with_store,
     with_subcommand, with_timeout,
 };
 use clap::Command;
@@ -186,6 +186,37 @@ fn order<'a>(alloc: Global) -> Result<Command<'a>, AllocError>
     Ok(command)
 }
 
+#[tactic(auto, unfolding(crate::specs::Line::void_line))]
+fn void<'a>(alloc: Global) -> Result<Command<'a>, AllocError>
+    ensures line { IfOk result (λ c. line_of c ≡ void_line) }
+    ensures plain { IfOk result (λ c. (out-Command c).has_globals ≡ false) }
+{
+    let command = command(
+        alloc,
+        "void",
+        "Takes a slot of a counter out of its total, for good; its reading stays",
+        "Takes a slot of a counter out of its total, for good; its reading stays.\n\nExample: office void --store roof.db --site site.toml --caller ann --key v1 e 12",
+    );
+    let command = with_office(alloc, command, STORE_ALONE)?;
+    let command = with_caller(alloc, command)?;
+    let command = with_key(alloc, command)?;
+    let command = with_place(
+        alloc,
+        command,
+        "point",
+        "POINT",
+        "The counter, as the point list names it, as e",
+    )?;
+    let command = with_place(
+        alloc,
+        command,
+        "slot",
+        "SLOT",
+        "The slot, 0 to 4294967295, as 12",
+    )?;
+    Ok(command)
+}
+
 #[tactic(auto, unfolding(crate::specs::Line::report_line))]
 fn report<'a>(alloc: Global) -> Result<Command<'a>, AllocError>
     ensures line { IfOk result (λ c. line_of c ≡ report_line) }
@@ -273,6 +304,22 @@ fn sim<'a>(alloc: Global) -> Result<Command<'a>, AllocError>
     Ok(command)
 }
 
+#[tactic(auto, unfolding(crate::specs::Line::migrate_line))]
+fn migrate<'a>(alloc: Global) -> Result<Command<'a>, AllocError>
+    ensures line { IfOk result (λ c. line_of c ≡ migrate_line) }
+    ensures plain { IfOk result (λ c. (out-Command c).has_globals ≡ false) }
+{
+    let command = command(
+        alloc,
+        "migrate",
+        "Moves a store of version 1 to version 2, whole or not at all",
+        "Moves a store of version 1 to version 2, whole or not at all.\n\nExample: office migrate --store roof.db",
+    );
+    let command = with_store(alloc, command)?;
+    let command = with_timeout(alloc, command, STORE_ALONE)?;
+    Ok(command)
+}
+
 /// The commands for scripts and point lists after those that a command has.
 fn with_list_commands<'a>(alloc: Global, command: Command<'a>) -> Result<Command<'a>, AllocError>
     ensures { IfOk result (λ c. line_of c ≡ with_lines (line_of command.entry) list_lines) }
@@ -303,6 +350,15 @@ fn with_answer_commands<'a>(alloc: Global, command: Command<'a>) -> Result<Comma
     Ok(command)
 }
 
+/// The commands that put right what is stored after those that a command has.
+fn with_store_commands<'a>(alloc: Global, command: Command<'a>) -> Result<Command<'a>, AllocError>
+    ensures { IfOk result (λ c. line_of c ≡ with_lines (line_of command.entry) store_lines) }
+{
+    let command = with_subcommand(command, void(alloc)?)?;
+    let command = with_subcommand(command, migrate(alloc)?)?;
+    Ok(command)
+}
+
 /// The commands after those that a command has.
 #[tactic(auto, unfolding(crate::specs::Line::with_commands))]
 fn with_commands<'a>(alloc: Global, command: Command<'a>) -> Result<Command<'a>, AllocError>
@@ -311,6 +367,7 @@ fn with_commands<'a>(alloc: Global, command: Command<'a>) -> Result<Command<'a>,
     let command = with_list_commands(alloc, command)?;
     let command = with_device_commands(alloc, command)?;
     let command = with_answer_commands(alloc, command)?;
+    let command = with_store_commands(alloc, command)?;
     Ok(command)
 }
 

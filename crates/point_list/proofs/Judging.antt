@@ -16,28 +16,28 @@ count : (rows : List ListRow) → length (names_of rows) ≡ length rows
 count rows = length-map rows (λ (x : ListRow). x.point.name)
 
 -- where the point's place is right
-behind_place : (known : List ℕ → Bool) (rows : List ListRow) (r : Record) → first_failed (place_checks known (length rows) r) ≡ None
-    → fault_below known (names_of rows) r ≡ first_failed (meaning_checks r ++ whole_checks (names_of rows) r)
+behind_place : (columns : ℕ) (known : List ℕ → Bool) (rows : List ListRow) (r : Record) → first_failed (place_checks columns known (length rows) r) ≡ None
+    → fault_below columns known (names_of rows) r ≡ first_failed (meaning_checks r ++ whole_checks (names_of rows) r)
 unfolding fault_below
-behind_place known rows r h = rw (count rows) (failed-behind (place_checks known (length rows) r) (meaning_checks r ++ whole_checks (names_of rows) r) h)
+behind_place columns known rows r h = rw (count rows) (failed-behind (place_checks columns known (length rows) r) (meaning_checks r ++ whole_checks (names_of rows) r) h)
 
-pub below-meaning : (known : List ℕ → Bool) (rows : List ListRow) (r : Record) (e : ListFault × ℕ) → first_failed (place_checks known (length rows) r) ≡ None → first_failed (meaning_checks r) ≡ Some e
-    → fault_below known (names_of rows) r ≡ Some e
-below-meaning known rows r e place h = behind_place known rows r place ∙ failed-front (meaning_checks r) (whole_checks (names_of rows) r) e h
+pub below-meaning : (columns : ℕ) (known : List ℕ → Bool) (rows : List ListRow) (r : Record) (e : ListFault × ℕ) → first_failed (place_checks columns known (length rows) r) ≡ None → first_failed (meaning_checks r) ≡ Some e
+    → fault_below columns known (names_of rows) r ≡ Some e
+below-meaning columns known rows r e place h = behind_place columns known rows r place ∙ failed-front (meaning_checks r) (whole_checks (names_of rows) r) e h
 
 -- where the point's meaning is right too
-behind_meaning : (known : List ℕ → Bool) (rows : List ListRow) (r : Record) → first_failed (place_checks known (length rows) r) ≡ None → first_failed (meaning_checks r) ≡ None
-    → fault_below known (names_of rows) r ≡ first_failed (whole_checks (names_of rows) r)
-behind_meaning known rows r place meaning = behind_place known rows r place ∙ failed-behind (meaning_checks r) (whole_checks (names_of rows) r) meaning
+behind_meaning : (columns : ℕ) (known : List ℕ → Bool) (rows : List ListRow) (r : Record) → first_failed (place_checks columns known (length rows) r) ≡ None → first_failed (meaning_checks r) ≡ None
+    → fault_below columns known (names_of rows) r ≡ first_failed (whole_checks (names_of rows) r)
+behind_meaning columns known rows r place meaning = behind_place columns known rows r place ∙ failed-behind (meaning_checks r) (whole_checks (names_of rows) r) meaning
 
-pub below-twice : (known : List ℕ → Bool) (rows : List ListRow) (r : Record) (address : ℕ) (kind : PointType) → first_failed (place_checks known (length rows) r) ≡ None → first_failed (meaning_checks r) ≡ None
+pub below-twice : (columns : ℕ) (known : List ℕ → Bool) (rows : List ListRow) (r : Record) (address : ℕ) (kind : PointType) → first_failed (place_checks columns known (length rows) r) ≡ None → first_failed (meaning_checks r) ≡ None
     → address_in r ≡ Some address → type_in r ≡ Some kind → ends_in_time (Some address) (Some kind) ≡ true
-    → list_any (λ name. bytes_eq (field r 0) name) (names_of rows) ≡ true → fault_below known (names_of rows) r ≡ Some (Twice, 1)
-below-twice known rows r address kind place meaning a k ends any =
-    behind_meaning known rows r place meaning ∙ rw (a, k, ends, any) refl
+    → list_any (λ name. bytes_eq (field r 0) name) (names_of rows) ≡ true → fault_below columns known (names_of rows) r ≡ Some (Twice, 1)
+below-twice columns known rows r address kind place meaning a k ends any =
+    behind_meaning columns known rows r place meaning ∙ rw (a, k, ends, any) refl
 
-pub below-none : (known : List ℕ → Bool) (rows : List ListRow) (r : Record) (address : ℕ) (kind : PointType) → first_failed (place_checks known (length rows) r) ≡ None → first_failed (meaning_checks r) ≡ None
+pub below-none : (columns : ℕ) (known : List ℕ → Bool) (rows : List ListRow) (r : Record) (address : ℕ) (kind : PointType) → first_failed (place_checks columns known (length rows) r) ≡ None → first_failed (meaning_checks r) ≡ None
     → address_in r ≡ Some address → type_in r ≡ Some kind → ends_in_time (Some address) (Some kind) ≡ true
-    → list_any (λ name. bytes_eq (field r 0) name) (names_of rows) ≡ false → fault_below known (names_of rows) r ≡ None
-below-none known rows r address kind place meaning a k ends any =
-    behind_meaning known rows r place meaning ∙ rw (a, k, ends, any) refl
+    → list_any (λ name. bytes_eq (field r 0) name) (names_of rows) ≡ false → fault_below columns known (names_of rows) r ≡ None
+below-none columns known rows r address kind place meaning a k ends any =
+    behind_meaning columns known rows r place meaning ∙ rw (a, k, ends, any) refl

@@ -16,3 +16,4 @@ pub mod OneMeaning
 pub mod OnLiterals
 pub mod ExampleList
 pub mod PointsRead
+pub mod PlainLists

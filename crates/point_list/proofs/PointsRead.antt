@@ -4,6 +4,7 @@ use Rattle.std.specs.Prelude.{Err, IfErr, IfOk, Ok, Result}
 use Rattle.std.proofs.lemmas.Bool.{cases_lt}
 use Rattle.std.proofs.lemmas.List.{length-map, length-take}
 use Rattle.point_list.specs.Columns.{Record, field, is_device}
+use Rattle.point_list.specs.Edition.{Edition}
 use Rattle.point_list.specs.ListMeaning.{rows_unless}
 use Rattle.point_list.specs.Lists.{AreRows, IsFaultOf, IsMemory, SayRows, names_in}
 use Rattle.point_list.specs.Resolving.{first_misplaced, placed, point_placed, points_at, points_in, points_of, resolved_list}
@@ -21,11 +22,11 @@ said number (r ∷ body) [] say = absurd say
 said number (r ∷ body) (x ∷ rows) say = ap suc (said (number + 1) body rows say.1)
 
 -- a list has at most 10,000 rows
-few_rows : (known : List ℕ → Bool) (list : List Record) (rows : List ListRow) → AreRows known list rows → length rows ≤ 10000
-few_rows known list rows are =
+few_rows : (edition : Edition) (known : List ℕ → Bool) (list : List Record) (rows : List ListRow) → AreRows edition known list rows → length rows ≤ 10000
+few_rows edition known list rows are =
     let count = said 2 are.body rows are.say in
     ⊎_elim (λ (gt : 10000 < length are.body).
-    let some = few_names known (names_in (take 10000 are.body)) (get_or are.body 10000 []) (are.faultless 10000 gt) in
+    let some = few_names (length are.first) known (names_in (take 10000 are.body)) (get_or are.body 10000 []) (are.faultless 10000 gt) in
     absurd (omega (arith, some, length-map (take 10000 are.body) (λ (r : Record). field r 0), length-take 10000 are.body)))
     (λ (le : length are.body ≤ 10000). (let n = count in omega arith))
     (cases_lt 10000 (length are.body))
@@ -35,28 +36,28 @@ points_placed : (site : Site) (rows : List ListRow) → points_of (map (placed s
 points_placed site [] = refl
 points_placed site (x ∷ rows) = ap (λ l. point_placed site x ∷ l) (points_placed site rows)
 
-module _ (site : Site) (list : List Record) (rows : List ListRow) (are : AreRows (is_device site) list rows) where
-  meant : points_at site list ≡ points_in (rows_unless (first_misplaced site rows) (map (placed site) rows))
-  meant = ap (λ m. points_in (resolved_list site m)) (rows_are (is_device site) list rows are)
+module _ (edition : Edition) (site : Site) (list : List Record) (rows : List ListRow) (are : AreRows edition (is_device site) list rows) where
+  meant : points_at edition site list ≡ points_in (rows_unless (first_misplaced site rows) (map (placed site) rows))
+  meant = ap (λ m. points_in (resolved_list site m)) (rows_are edition (is_device site) list rows are)
 
   -- what resolving gives of the rows is what the list means at the site
   pub points_are : (told : Result (Vec Point Global) ListError) → IfOk told (λ v. (first_misplaced site rows ≡ None) × (v.items ≡ map (point_placed site) rows))
-      → IfOk told (λ v. points_at site list ≡ Ok v.items)
+      → IfOk told (λ v. points_at edition site list ≡ Ok v.items)
   points_are (Ok v) is = meant ∙ ap (λ o. points_in (rows_unless o (map (placed site) rows))) is.0 ∙ ap Ok (points_placed site rows ∙ sym is.1)
   points_are (Err e) is = tt
 
   pub points_few : (told : Result (Vec Point Global) ListError) → IfOk told (λ v. (first_misplaced site rows ≡ None) × (v.items ≡ map (point_placed site) rows))
       → IfOk told (λ v. length v.items ≤ 10000)
-  points_few (Ok v) is = subst (λ n. n ≤ 10000) (sym (ap length is.1 ∙ length-map rows (point_placed site))) (few_rows (is_device site) list rows are)
+  points_few (Ok v) is = subst (λ n. n ≤ 10000) (sym (ap length is.1 ∙ length-map rows (point_placed site))) (few_rows edition (is_device site) list rows are)
   points_few (Err e) is = tt
 
   pub points_fault : (told : Result (Vec Point Global) ListError) → IfErr told (λ e. IsMemory e ⊎ (first_misplaced site rows ≡ Some e))
-      → IfErr told (λ e. IsMemory e ⊎ (points_at site list ≡ Err e))
+      → IfErr told (λ e. IsMemory e ⊎ (points_at edition site list ≡ Err e))
   points_fault (Ok v) is = tt
   points_fault (Err e) (inl memory) = inl memory
   points_fault (Err e) (inr fault) = inr (meant ∙ ap (λ o. points_in (rows_unless o (map (placed site) rows))) fault)
 
 -- the fault of a list alone is its fault at a site
-pub list_fault : (site : Site) (list : List Record) (e : ListError) → IsMemory e ⊎ IsFaultOf (is_device site) list e → IsMemory e ⊎ (points_at site list ≡ Err e)
-list_fault site list e (inl memory) = inl memory
-list_fault site list e (inr fault) = inr (ap (λ m. points_in (resolved_list site m)) (fault_is (is_device site) list e fault))
+pub list_fault : (edition : Edition) (site : Site) (list : List Record) (e : ListError) → IsMemory e ⊎ IsFaultOf edition (is_device site) list e → IsMemory e ⊎ (points_at edition site list ≡ Err e)
+list_fault edition site list e (inl memory) = inl memory
+list_fault edition site list e (inr fault) = inr (ap (λ m. points_in (resolved_list site m)) (fault_is edition (is_device site) list e fault))

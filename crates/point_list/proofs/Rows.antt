@@ -1,6 +1,7 @@
 -- A body of records, record by record.
 use Rattle.std.proofs.Common.{◌≡◌, ◌<◌, ◌+◌, ◌||◌, ℕ, zero, suc, List, [], ◌∷◌, ◌++◌, length, map, take, get_or, refl, ap, sym, ◌∙◌, arith, subst, Option, Some, None, Bool, true, false, cond}
 use borrow.Author.Tests.{ltb-true}
+use Rattle.std.proofs.lemmas.Bool.Decides.{Decides-eqb}
 use Rattle.std.proofs.lemmas.List.{take_more, length-map, length-take-le, map-append}
 use Rattle.std.specs.List.{list_any}
 use Rattle.std.specs.Str.{bytes_eq}
@@ -40,6 +41,17 @@ more_rows body i number x rows y lt e place say says =
     let len : length (take i (map fields_of body)) ≡ i = length-take-le i (map fields_of body) (omega (arith, length-map body fields_of)) in
     rw (next_record body i x lt e) (SayRows-push 2 number (take i (map fields_of body)) rows (fields_of x) y (omega (arith, len)) say says)
 
+-- the record of each row, which says its point
+pub row_said : (number : ℕ) (body : List Record) (rows : List ListRow) → SayRows number body rows → (k : ℕ) (d : ListRow) → k < length rows
+    → (k < length body) × Says (get_or body k []) (get_or rows k d).point
+row_said number [] [] say k d lt = absurd (omega (arith, lt))
+row_said number [] (x ∷ xs) say k d lt = absurd say
+row_said number (r ∷ rs) [] say k d lt = absurd say
+row_said number (r ∷ rs) (x ∷ xs) say zero d lt = (omega arith, say.0.point)
+row_said number (r ∷ rs) (x ∷ xs) say (suc k) d lt =
+    let later = row_said (number + 1) rs xs say.1 k d (omega (arith, lt)) in
+    (omega (arith, later.0), later.1)
+
 -- one more name
 pub more_names : (body : List Row) (i : ℕ) (x : Row) (rows : List ListRow) (y : ListRow) → i < length body → x ≡ get_or body i x
     → names_of rows ≡ names_in (take i (map fields_of body)) → Says (fields_of x) y.point
@@ -66,20 +78,25 @@ known_more (x ∷ xs) y text = rw (known_more xs y text) (middle (bytes_eq text 
     middle false false c = refl
 
 -- one more faultless record, or the first that has a fault
-pub more_faultless : (known : List ℕ → Bool) (body : List Row) (i : ℕ) (x : Row) (names : List (List ℕ)) (fault : Option (ListFault × ℕ))
+pub more_faultless : (columns : ℕ) (known : List ℕ → Bool) (body : List Row) (i : ℕ) (x : Row) (names : List (List ℕ)) (fault : Option (ListFault × ℕ))
     → i < length body → x ≡ get_or body i x
-    → names ≡ names_in (take i (map fields_of body)) → fault_below known names (fields_of x) ≡ fault
-    → fault_of known (take i (map fields_of body)) (get_or (map fields_of body) i []) ≡ fault
-more_faultless known body i x names fault lt e same h = rw (record_at body i x lt e, ← same) h
+    → names ≡ names_in (take i (map fields_of body)) → fault_below columns known names (fields_of x) ≡ fault
+    → fault_of columns known (take i (map fields_of body)) (get_or (map fields_of body) i []) ≡ fault
+more_faultless columns known body i x names fault lt e same h = rw (record_at body i x lt e, ← same) h
 
 passed : {A : Type 0} (b : Bool) (x : Option A) (y : A) → cond b x (Some y) ≡ None → (b ≡ true) × (x ≡ None)
 passed true x y h = (refl, h)
 passed false x y h = cc
 
--- few points stand below a faultless record
-pub few_names : (known : List ℕ → Bool) (names : List (List ℕ)) (r : Record) → fault_below known names r ≡ None → length names < 10000
+-- a faultless record has as many fields as there are columns
+pub all_columns : (columns : ℕ) (known : List ℕ → Bool) (names : List (List ℕ)) (r : Record) → fault_below columns known names r ≡ None → length r ≡ columns
 unfolding fault_below
-few_names known names r h =
+all_columns columns known names r h = (Decides-eqb (length r) columns).0 (passed _ _ _ h).0
+
+-- few points stand below a faultless record
+pub few_names : (columns : ℕ) (known : List ℕ → Bool) (names : List (List ℕ)) (r : Record) → fault_below columns known names r ≡ None → length names < 10000
+unfolding fault_below
+few_names columns known names r h =
     let count = passed _ _ _ h in
     let few = passed _ _ _ count.1 in
     ltb-true (length names) 10000 few.0

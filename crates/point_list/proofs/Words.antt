@@ -1,5 +1,5 @@
 -- The words of tables, roles and types.
-use Rattle.std.proofs.Common.{◌≡◌, ◌↔◌, ℕ, Bool, true, false, cond, List, [], ◌∷◌, refl, sym, ap, ◌∙◌, subst, Option, Some, None}
+use Rattle.std.proofs.Common.{◌≡◌, ◌⊎◌, ◌↔◌, inl, inr, ℕ, Bool, true, false, cond, List, [], ◌∷◌, refl, sym, ap, ◌∙◌, subst, Option, Some, None}
 use Rattle.std.specs.Prelude.{◌&&◌, codes}
 use Rattle.std.specs.Char.{is_ascii}
 use Rattle.std.specs.List.{find, list_all}
@@ -11,8 +11,11 @@ use Rattle.mb_pdu.specs.declared.table.Table.TheVariants.{Coil, Discrete, Input,
 use Rattle.mb_pdu.specs.Tables.{table_name}
 use Rattle.sunspec.specs.declared.point_type.PointType.{PointType}
 use Rattle.sunspec.specs.declared.point_type.PointType.TheVariants.{Int16, Uint16, Acc16, Enum16, Bitfield16, Sunssf, Int32, Uint32, Acc32, Enum32, Bitfield32, Int64, Uint64, Acc64, Ipaddr, Str, Bit}
-use Rattle.sunspec.specs.PointType.{named, row, types}
-use Rattle.point_list.specs.Columns.{can_be_set, can_be_written, can_count, role_name, role_of, table_of}
+use Rattle.sunspec.specs.PointType.{can_be_swapped, named, row, types}
+use Rattle.sunspec.specs.WordOrder.{order_name}
+use Rattle.sunspec.specs.declared.word_order.WordOrder.{WordOrder}
+use Rattle.sunspec.specs.declared.word_order.WordOrder.TheVariants.{Big, Swapped}
+use Rattle.point_list.specs.Columns.{can_be_set, can_be_written, can_count, order_of, role_name, role_of, table_of}
 use Rattle.point_list.specs.declared.point.Role.{Role}
 use Rattle.point_list.specs.declared.point.Role.TheVariants.{Gauge, Counter, Setting}
 use Rattle.point_list.proofs.Labels.{all_ascii}
@@ -59,6 +62,27 @@ role_word table kind text role e =
     by false false true x true ha hb hc e = let same : Setting ≡ role = cc in hc refl ∙ ap role_name same
     by false false true x false ha hb hc e = absurd (cc)
     by false false false x y ha hb hc e = absurd (cc)
+
+-- ---- orders
+
+-- an order is read from its word alone, or from nothing
+pub order_word : (kind : PointType) (text : List ℕ) (order : WordOrder) → order_of kind text ≡ Some order → (text ≡ order_name order) ⊎ ((text ≡ []) × (order ≡ Big))
+unfolding order_of
+order_word kind [] order e = let same : Big ≡ order = cc in inr (refl, sym same)
+order_word kind (byte ∷ bytes) order e = inl (
+    by (bytes_eq text (codes "big")) (bytes_eq text (codes "swapped")) (can_be_swapped kind)
+    ((bytes_eq-Decides text (codes "big")).0) ((bytes_eq-Decides text (codes "swapped")).0) e
+    )
+  where
+    text : List ℕ
+    text = byte ∷ bytes
+
+    by : (a b x : Bool) → (a ≡ true → text ≡ codes "big") → (b ≡ true → text ≡ codes "swapped")
+        → cond a (Some Big) (cond b (cond x (Some Swapped) None) None) ≡ Some order → text ≡ order_name order
+    by true b x ha hb e = let same : Big ≡ order = cc in ha refl ∙ ap order_name same
+    by false true true ha hb e = let same : Swapped ≡ order = cc in hb refl ∙ ap order_name same
+    by false true false ha hb e = absurd (cc)
+    by false false x ha hb e = absurd (cc)
 
 -- ---- types
 

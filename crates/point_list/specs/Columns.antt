@@ -7,8 +7,10 @@ use Rattle.mb_pdu.specs.declared.table.Table.{Table}
 use Rattle.mb_pdu.specs.declared.table.Table.TheVariants.{Coil, Discrete, Input, Holding}
 use Rattle.sunspec.specs.declared.point_type.PointType.{PointType}
 use Rattle.sunspec.specs.declared.point_type.PointType.TheVariants.{Str, Bit}
-use Rattle.sunspec.specs.PointType.{row, types, resized, bits_of}
+use Rattle.sunspec.specs.PointType.{row, types, resized, bits_of, can_be_swapped}
 use Rattle.sunspec.specs.Digits.{number_of, number_within, scale_of}
+use Rattle.sunspec.specs.declared.word_order.WordOrder.{WordOrder}
+use Rattle.sunspec.specs.declared.word_order.WordOrder.TheVariants.{Big, Swapped}
 use Rattle.point_list.specs.declared.point.Role.{Role}
 use Rattle.point_list.specs.declared.point.Role.TheVariants.{Gauge, Counter, Setting}
 use Rattle.point_list.specs.Label.{is_label}
@@ -172,3 +174,13 @@ unfoldable pub roll_of : PointType → Role → List ℕ → Option ℕ
 roll_of kind Counter text = roll_given (greatest_of kind) text
 roll_of kind role [] = Some 0
 roll_of kind role text = None
+
+-- ---- column 10, which a list may have: the order of the registers
+
+-- the order of a text, as far as the type can have it; the most significant register first where none is given
+unfoldable pub order_of : PointType → List ℕ → Option WordOrder
+order_of kind [] = Some Big
+order_of kind text =
+    if bytes_eq text (codes "big") then Some Big
+    else if bytes_eq text (codes "swapped") then (if can_be_swapped kind then Some Swapped else None)
+    else None

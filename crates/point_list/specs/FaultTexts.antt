@@ -2,7 +2,7 @@
 use Rattle.std.specs.Prelude.{ℕ, List, [], ◌++◌, ◌==◌, if◌then◌else◌, codes, decimal}
 use Rattle.point_list.specs.declared.error.ListError.{ListError}
 use Rattle.point_list.specs.declared.error.ListFault.{ListFault}
-use Rattle.point_list.specs.declared.error.ListFault.TheVariants.{BadCsv, BadHeader, BadName, UnknownDevice, BadTable, BadAddress, BadType, LeftOutType, BadLength, BadScale, BadRole, BadRoll, Twice, TooManyPoints, Memory, NoModel, BadSite, PastModel}
+use Rattle.point_list.specs.declared.error.ListFault.TheVariants.{BadCsv, BadHeader, BadName, UnknownDevice, BadTable, BadAddress, BadType, LeftOutType, BadLength, BadScale, BadRole, BadRoll, Twice, TooManyPoints, Memory, NoModel, BadSite, PastModel, BadWords}
 
 abbrev pub fault_text : ListFault → List ℕ
 fault_text BadCsv = codes "bad csv"
@@ -23,6 +23,7 @@ fault_text Memory = codes "memory"
 fault_text NoModel = codes "no model"
 fault_text BadSite = codes "bad site"
 fault_text PastModel = codes "past model"
+fault_text BadWords = codes "bad words"
 
 -- a word and a number, where the number isn't 0
 abbrev pub numbered : List ℕ → ℕ → List ℕ

@@ -4,6 +4,7 @@ pub mod Sites
 pub mod SiteFile
 pub mod Texts
 pub mod Columns
+pub mod Edition
 pub mod Lists
 pub mod Judged
 pub mod Header

@@ -1,8 +1,9 @@
 -- What a list means, computed: its rows, or its fault.
-use Rattle.std.specs.Prelude.{ℕ, ◌+◌, List, [], ◌∷◌, ◌++◌, Bool, Option, Some, None, Result, Ok, Err, if◌then◌else◌}
+use Rattle.std.specs.Prelude.{ℕ, ◌+◌, List, [], ◌∷◌, ◌++◌, length, Bool, Option, Some, None, Result, Ok, Err, if◌then◌else◌}
 use Rattle.point_list.specs.Columns.{Record, field, ◌then◌}
+use Rattle.point_list.specs.Edition.{Edition}
 use Rattle.point_list.specs.Header.{is_header}
-use Rattle.point_list.specs.Lists.{table_in, address_in, model_in, type_in, scale_in, role_in, roll_in, fault_below}
+use Rattle.point_list.specs.Lists.{table_in, address_in, model_in, type_in, scale_in, role_in, roll_in, order_in, fault_below}
 use Rattle.point_list.specs.declared.point.Point.{Point}
 use Rattle.point_list.specs.declared.point.ListRow.{ListRow}
 use Rattle.point_list.specs.declared.error.ListError.{ListError}
@@ -15,8 +16,18 @@ use Rattle.point_list.specs.declared.error.ListFault.TheVariants.{BadHeader}
 abbrev pub point_in : Record → Option Point
 point_in r =
     table_in r then (λ table. address_in r then (λ address. type_in r then (λ kind.
-    scale_in r then (λ scale. role_in r then (λ role. roll_in r then (λ roll.
-    Some (record { name = field r 0; device = field r 1; table = table; address = address; kind = kind; scale = scale; role = role; roll = roll })))))))
+    scale_in r then (λ scale. role_in r then (λ role. roll_in r then (λ roll. order_in r then (λ order.
+    Some (record {
+      name = field r 0;
+      device = field r 1;
+      table = table;
+      address = address;
+      kind = kind;
+      scale = scale;
+      role = role;
+      roll = roll;
+      order = order;
+    }))))))))
 
 -- the row of this number in front of the rows after it, if there is a point
 abbrev pub row_before : ℕ → Option (ℕ × ℕ) → Option Point → List ListRow → List ListRow
@@ -39,11 +50,12 @@ abbrev pub fault_or_later : ℕ → Option (ListFault × ℕ) → Option ListErr
 fault_or_later number None later = later
 fault_or_later number (Some fault) later = Some (fault_at number fault)
 
--- below points of these names, the fault of the first of these records that has one; the first record has this number
-abbrev pub first_fault : (List ℕ → Bool) → List (List ℕ) → ℕ → List Record → Option ListError
-first_fault known names number [] = None
-first_fault known names number (r ∷ rs) =
-    fault_or_later number (fault_below known names r) (first_fault known (names ++ field r 0 ∷ []) (number + 1) rs)
+-- below so many columns and points of these names, the fault of the first of these records that has one; the first record
+-- has this number
+abbrev pub first_fault : ℕ → (List ℕ → Bool) → List (List ℕ) → ℕ → List Record → Option ListError
+first_fault columns known names number [] = None
+first_fault columns known names number (r ∷ rs) =
+    fault_or_later number (fault_below columns known names r) (first_fault columns known (names ++ field r 0 ∷ []) (number + 1) rs)
 
 -- the fault of a list with no header
 abbrev pub missing_header : ListError
@@ -56,11 +68,11 @@ abbrev pub rows_unless : Option ListError → List ListRow → Result (List List
 rows_unless None rows = Ok rows
 rows_unless (Some e) rows = Err e
 
--- what the records below a header mean
-abbrev pub body_meaning : (List ℕ → Bool) → List Record → Result (List ListRow) ListError
-body_meaning known body = rows_unless (first_fault known [] 2 body) (rows_said 2 body)
+-- what the records below a header of so many columns mean
+abbrev pub body_meaning : ℕ → (List ℕ → Bool) → List Record → Result (List ListRow) ListError
+body_meaning columns known body = rows_unless (first_fault columns known [] 2 body) (rows_said 2 body)
 
--- what a list of these records means, where the site knows these devices
-abbrev pub list_meaning : (List ℕ → Bool) → List Record → Result (List ListRow) ListError
-list_meaning known [] = Err missing_header
-list_meaning known (first ∷ body) = if is_header first then body_meaning known body else Err missing_header
+-- what a list of these records means in an edition, where the site knows these devices
+abbrev pub list_meaning : Edition → (List ℕ → Bool) → List Record → Result (List ListRow) ListError
+list_meaning edition known [] = Err missing_header
+list_meaning edition known (first ∷ body) = if is_header edition first then body_meaning (length first) known body else Err missing_header

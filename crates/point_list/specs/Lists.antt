@@ -1,28 +1,25 @@
 -- A point list: which records are faultless, which fault is the first, and what rows there are.
-use Rattle.std.specs.Prelude.{◌≡◌, ◌≢◌, ◌⊎◌, ◌+◌, ◌<◌, ℕ, ℤ, List, [], ◌∷◌, ◌++◌, map, take, Bool, false, not, ◌==◌, Option, Some, None, is_some, if◌then◌else◌, nat_le, nat_lt, length, codes, get_or}
+use Rattle.std.specs.Prelude.{◌≡◌, ◌≢◌, ◌⊎◌, ◌+◌, ◌<◌, ℕ, ℤ, List, [], ◌∷◌, ◌++◌, map, take, Bool, false, not, ◌==◌, Option, Some, None, is_some, if◌then◌else◌, nat_le, nat_lt, length, get_or}
 use Rattle.std.specs.List.{list_any}
 use Rattle.std.specs.Str.{bytes_eq}
 use Rattle.csv.specs.Reading.{records, strip_bom, default_config}
 use Rattle.mb_pdu.specs.declared.table.Table.{Table}
 use Rattle.sunspec.specs.declared.point_type.PointType.{PointType}
 use Rattle.sunspec.specs.PointType.{row}
+use Rattle.sunspec.specs.declared.word_order.WordOrder.{WordOrder}
 use Rattle.point_list.specs.Name.{is_name}
-use Rattle.point_list.specs.Columns.{Record, field, ◌then◌, table_of, address_unless, model_of, is_left_out, named_in, sized, scaled_by, role_of, roll_of}
+use Rattle.point_list.specs.Columns.{Record, field, ◌then◌, table_of, address_unless, model_of, is_left_out, named_in, sized, scaled_by, role_of, roll_of, order_of}
+use Rattle.point_list.specs.Edition.{Edition, IsHeader}
 use Rattle.point_list.specs.declared.point.Role.{Role}
 use Rattle.point_list.specs.declared.point.Point.{Point}
 use Rattle.point_list.specs.declared.point.ListRow.{ListRow}
 use Rattle.point_list.specs.declared.error.ListError.{ListError}
 use Rattle.point_list.specs.declared.error.ListFault.{ListFault}
-use Rattle.point_list.specs.declared.error.ListFault.TheVariants.{BadCsv, BadHeader, BadName, UnknownDevice, BadTable, BadAddress, BadType, LeftOutType, BadLength, BadScale, BadRole, BadRoll, Twice, TooManyPoints, Memory}
+use Rattle.point_list.specs.declared.error.ListFault.TheVariants.{BadCsv, BadHeader, BadName, UnknownDevice, BadTable, BadAddress, BadType, LeftOutType, BadLength, BadScale, BadRole, BadRoll, BadWords, Twice, TooManyPoints, Memory}
 
 -- the records of a list's bytes, without a byte order mark
 abbrev pub records_of : List ℕ → List Record
 records_of bytes = records default_config (strip_bom bytes)
-
-abbrev pub header : Record
-header =
-    codes "name" ∷ codes "device" ∷ codes "table" ∷ codes "address" ∷ codes "type"
-    ∷ codes "length" ∷ codes "scale" ∷ codes "role" ∷ codes "roll" ∷ []
 
 -- ---- what the columns of a record say, each with those that it depends on
 
@@ -51,6 +48,10 @@ role_in r = table_in r then (λ table. type_in r then (λ kind. role_of table ki
 unfoldable pub roll_in : Record → Option ℕ
 roll_in r = type_in r then (λ kind. role_in r then (λ role. roll_of kind role (field r 8)))
 
+-- in a record without the column it is as where that is empty
+unfoldable pub order_in : Record → Option WordOrder
+order_in r = type_in r then (λ kind. order_of kind (field r 9))
+
 -- whether the point ends by the last address
 abbrev pub ends_in_time : Option ℕ → Option PointType → Bool
 ends_in_time (Some address) (Some kind) = nat_le (address + (row kind).registers) 65536
@@ -67,10 +68,11 @@ pub record Check : Type 0 where
 abbrev pub check : Bool → ListFault → ℕ → Check
 check passes fault column = record { passes = passes; fault = fault; column = column }
 
--- Of a list whose site knows these devices: how many fields there are, how many points stand before, and where the point is
-abbrev pub place_checks : (List ℕ → Bool) → ℕ → Record → List Check
-place_checks known before r =
-    check (length r == 9) BadCsv 0
+-- Of a list with so many columns whose site knows these devices: how many fields there are, how many points stand before,
+-- and where the point is
+abbrev pub place_checks : ℕ → (List ℕ → Bool) → ℕ → Record → List Check
+place_checks columns known before r =
+    check (length r == columns) BadCsv 0
     ∷ check (nat_lt before 10000) TooManyPoints 0
     ∷ check (is_name (field r 0)) BadName 1
     ∷ check (known (field r 1)) UnknownDevice 2
@@ -87,6 +89,7 @@ meaning_checks r =
     ∷ check (is_some (scale_in r)) BadScale 7
     ∷ check (is_some (role_in r)) BadRole 8
     ∷ check (is_some (roll_in r)) BadRoll 9
+    ∷ check (is_some (order_in r)) BadWords 10
     ∷ []
 
 -- the address range, and the name among those before
@@ -102,8 +105,8 @@ first_failed [] = None
 first_failed (c ∷ cs) = if c.passes then first_failed cs else Some (c.fault, c.column)
 
 -- the fault of a record below points of these names, if it has one
-unfoldable pub fault_below : (List ℕ → Bool) → List (List ℕ) → Record → Option (ListFault × ℕ)
-fault_below known names r = first_failed (place_checks known (length names) r ++ (meaning_checks r ++ whole_checks names r))
+unfoldable pub fault_below : ℕ → (List ℕ → Bool) → List (List ℕ) → Record → Option (ListFault × ℕ)
+fault_below columns known names r = first_failed (place_checks columns known (length names) r ++ (meaning_checks r ++ whole_checks names r))
 
 -- the names of these rows
 abbrev pub names_of : List ListRow → List (List ℕ)
@@ -114,8 +117,8 @@ abbrev pub names_in : List Record → List (List ℕ)
 names_in rs = map (λ r. field r 0) rs
 
 -- the fault of a record below these records, if it has one
-abbrev pub fault_of : (List ℕ → Bool) → List Record → Record → Option (ListFault × ℕ)
-fault_of known before r = fault_below known (names_in before) r
+abbrev pub fault_of : ℕ → (List ℕ → Bool) → List Record → Record → Option (ListFault × ℕ)
+fault_of columns known before r = fault_below columns known (names_in before) r
 
 -- ---- the points
 
@@ -129,6 +132,7 @@ pub record Says (r : Record) (point : Point) : Type 0 where
   pub scale : scale_in r ≡ Some point.scale
   pub role : role_in r ≡ Some point.role
   pub roll : roll_in r ≡ Some point.roll
+  pub order : order_in r ≡ Some point.order
 
 -- the record of this number says this row
 pub record SaysRow (number : ℕ) (r : Record) (said : ListRow) : Type 0 where
@@ -145,40 +149,44 @@ SayRows number rs xs = ⊥
 -- ---- the list
 
 -- each of the first records of the body is faultless below those before it
-abbrev pub FaultlessBelow : (List ℕ → Bool) → List Record → ℕ → Type 0
-FaultlessBelow known body n = (k : ℕ) → k < n → fault_of known (take k body) (get_or body k []) ≡ None
+abbrev pub FaultlessBelow : ℕ → (List ℕ → Bool) → List Record → ℕ → Type 0
+FaultlessBelow columns known body n = (k : ℕ) → k < n → fault_of columns known (take k body) (get_or body k []) ≡ None
 
--- these are the rows of a list of these records
-pub record AreRows (known : List ℕ → Bool) (list : List Record) (rows : List ListRow) : Type 0 where
+-- these are the rows of a list of these records, each of which has as many fields as its header
+pub record AreRows (edition : Edition) (known : List ℕ → Bool) (list : List Record) (rows : List ListRow) : Type 0 where
+  pub first : Record
   pub body : List Record
-  pub whole : list ≡ header ∷ body
-  pub faultless : FaultlessBelow known body (length body)
+  pub whole : list ≡ first ∷ body
+  pub header : IsHeader edition first
+  pub faultless : FaultlessBelow (length first) known body (length body)
   pub say : SayRows 2 body rows
 
 -- the first fault of the first faulty record of the body, whose first record is the second of the list
-pub record IsFirstInBody (known : List ℕ → Bool) (body : List Record) (e : ListError) : Type 0 where
+pub record IsFirstInBody (columns : ℕ) (known : List ℕ → Bool) (body : List Record) (e : ListError) : Type 0 where
   pub place : ℕ
   pub within : place < length body
-  pub faultless : FaultlessBelow known body place
-  pub fault : fault_of known (take place body) (get_or body place []) ≡ Some (e.fault, e.column)
+  pub faultless : FaultlessBelow columns known body place
+  pub fault : fault_of columns known (take place body) (get_or body place []) ≡ Some (e.fault, e.column)
   pub row : e.row ≡ place + 2
 
--- the list has no header
-pub record IsHeaderFault (list : List Record) (e : ListError) : Type 0 where
+-- the list has no header that the edition knows
+pub record IsHeaderFault (edition : Edition) (list : List Record) (e : ListError) : Type 0 where
   pub fault : e.fault ≡ BadHeader
   pub row : e.row ≡ 1
   pub column : e.column ≡ 0
-  pub missing : (body : List Record) → list ≢ header ∷ body
+  pub missing : (first : Record) (body : List Record) → IsHeader edition first → list ≢ first ∷ body
 
 -- the list has a header, and this is the first fault below it
-pub record IsBodyFault (known : List ℕ → Bool) (list : List Record) (e : ListError) : Type 0 where
+pub record IsBodyFault (edition : Edition) (known : List ℕ → Bool) (list : List Record) (e : ListError) : Type 0 where
+  pub first : Record
   pub body : List Record
-  pub whole : list ≡ header ∷ body
-  pub first : IsFirstInBody known body e
+  pub whole : list ≡ first ∷ body
+  pub header : IsHeader edition first
+  pub fault : IsFirstInBody (length first) known body e
 
 -- the fault of a list
-abbrev pub IsFaultOf : (List ℕ → Bool) → List Record → ListError → Type 0
-IsFaultOf known list e = IsHeaderFault list e ⊎ IsBodyFault known list e
+abbrev pub IsFaultOf : Edition → (List ℕ → Bool) → List Record → ListError → Type 0
+IsFaultOf edition known list e = IsHeaderFault edition list e ⊎ IsBodyFault edition known list e
 
 -- memory was refused
 abbrev pub IsMemory : ListError → Type 0

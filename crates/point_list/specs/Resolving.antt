@@ -4,6 +4,7 @@ use Rattle.std.specs.List.{find}
 use Rattle.sunspec.specs.PointType.{row}
 use Rattle.sunspec.specs.declared.chain.Model.{Model}
 use Rattle.point_list.specs.Columns.{Record, ◌then◌, is_device}
+use Rattle.point_list.specs.Edition.{Edition}
 use Rattle.point_list.specs.ListMeaning.{list_meaning, rows_unless}
 use Rattle.point_list.specs.Sites.{device_named}
 use Rattle.point_list.specs.declared.site.Site.{Site}
@@ -54,7 +55,17 @@ address_by site said (Some place) = address_in_model said place.1 (model_at site
 -- the same point at another address
 abbrev pub moved : Point → ℕ → Point
 moved p address =
-    record { name = p.name; device = p.device; table = p.table; address = address; kind = p.kind; scale = p.scale; role = p.role; roll = p.roll }
+    record {
+      name = p.name;
+      device = p.device;
+      table = p.table;
+      address = address;
+      kind = p.kind;
+      scale = p.scale;
+      role = p.role;
+      roll = p.roll;
+      order = p.order;
+    }
 
 -- the point of a row, at its address
 abbrev pub point_placed : Site → ListRow → Point
@@ -74,9 +85,9 @@ abbrev pub resolved_list : Site → Result (List ListRow) ListError → Result (
 resolved_list site (Ok rows) = resolved site rows
 resolved_list site (Err e) = Err e
 
--- what a list of these records means at a site
-abbrev pub list_at : Site → List Record → Result (List ListRow) ListError
-list_at site list = resolved_list site (list_meaning (is_device site) list)
+-- what a list of these records means in an edition at a site
+abbrev pub list_at : Edition → Site → List Record → Result (List ListRow) ListError
+list_at edition site list = resolved_list site (list_meaning edition (is_device site) list)
 
 -- the points of rows
 abbrev pub points_of : List ListRow → List Point
@@ -87,5 +98,5 @@ points_in (Ok rows) = Ok (points_of rows)
 points_in (Err e) = Err e
 
 -- the points of a list of these records at a site, or its fault there
-abbrev pub points_at : Site → List Record → Result (List Point) ListError
-points_at site list = points_in (list_at site list)
+abbrev pub points_at : Edition → Site → List Record → Result (List Point) ListError
+points_at edition site list = points_in (list_at edition site list)

@@ -4,13 +4,13 @@ ghost use Rattle.std.specs.List.{list_any, position};
 ghost use Rattle.std.specs.Str.{bytes_eq};
 ghost use Rattle.csv.specs.Records.{fields_of};
 ghost use Rattle.sunspec.specs.PointType.{IsSized, named};
-ghost use Rattle.point_list.specs.Columns.{field, table_of, address_of, address_unless, by_model, model_id_of, model_of, parts_of, is_left_out, in_table, named_in, sized, scaled_by, can_be_written, role_of, roll_of, roll_given, scale_in, greatest_of};
+ghost use Rattle.point_list.specs.Columns.{field, table_of, address_of, address_unless, by_model, model_id_of, model_of, parts_of, is_left_out, in_table, named_in, sized, scaled_by, can_be_written, role_of, roll_of, roll_given, scale_in, greatest_of, order_of};
 
 use crate::point::Role;
 use csv::ByteRecord;
 use mb_pdu::Table;
 use std::str;
-use sunspec::{PointType, digits};
+use sunspec::{PointType, WordOrder, digits};
 
 /// The field of a record at a place, or nothing.
 pub(crate) fn field_of(record: &ByteRecord, place: usize) -> &[u8]
@@ -248,5 +248,24 @@ pub(crate) fn roll_in(kind: PointType, role: Role, text: &[u8]) -> Option<u64>
     match role {
         Role::Counter => roll_given(kind.greatest(), text),
         Role::Gauge | Role::Setting => { if text.is_empty() { Some(0) } else { None } }
+    }
+}
+
+/// The order of the registers of its column, as far as the type can have it: the most significant one
+/// first where it is empty.
+#[tactic(auto, unfolding(crate::specs::Columns::order_of))]
+pub(crate) fn order_in(kind: PointType, text: &[u8]) -> Option<WordOrder>
+    ensures { result ≡ order_of kind text.now }
+{
+    if text.is_empty() || text == b"big".as_slice() {
+        Some(WordOrder::Big)
+    } else if text == b"swapped".as_slice() {
+        if kind.can_be_swapped() {
+            Some(WordOrder::Swapped)
+        } else {
+            None
+        }
+    } else {
+        None
     }
 }

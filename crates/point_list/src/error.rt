@@ -7,9 +7,9 @@ use std::fmt;
 /// What is wrong with a point list or a site file.
 #[derive(Clone, Copy, Debug, PartialEq, Eq)]
 pub enum ListFault {
-    /// A record has another number of fields than nine.
+    /// A record has another number of fields than its header.
     BadCsv,
-    /// The first record isn't the header.
+    /// The first record is no header.
     BadHeader,
     /// The name isn't 1 to 64 of `A-Z a-z 0-9 _ - .`.
     BadName,
@@ -44,6 +44,8 @@ pub enum ListFault {
     BadSite,
     /// The point passes the end of its model.
     PastModel,
+    /// The order of the registers is unknown, or the type can't have it.
+    BadWords,
 }
 
 impl fmt::Display for ListFault {
@@ -72,12 +74,13 @@ impl fmt::Display for ListFault {
             ListFault::NoModel => "no model",
             ListFault::BadSite => "bad site",
             ListFault::PastModel => "past model",
+            ListFault::BadWords => "bad words",
         })
     }
 }
 
 /// A fault with its place: the number of the record, of which the header is 1, and the column 1 to
-/// 9, or 0 where no column is at fault. A fault of a site file, and `Memory`, have row and column 0.
+/// 10, or 0 where no column is at fault. A fault of a site file, and `Memory`, have row and column 0.
 /// It prints as the fault with its row and column, where it has them: `bad csv row 3`.
 #[derive(Clone, Copy, Debug, PartialEq, Eq)]
 pub struct ListError {

@@ -9,8 +9,8 @@ ghost use Rattle.point_list.specs.Lists.{SaysRow, ends_in_time, fault_below, fir
 ghost use Rattle.point_list.specs.Judged.{SaysPlace, SaysMeaning};
 
 use crate::columns::{
-    address_unless, field_of, is_left_out, model_in, role_in, roll_in, scale_in, table_named,
-    type_named, type_sized,
+    address_unless, field_of, is_left_out, model_in, order_in, role_in, roll_in, scale_in,
+    table_named, type_named, type_sized,
 };
 use crate::error::ListFault;
 use crate::label::Label;
@@ -20,7 +20,7 @@ use crate::point::{ListRow, Point, Role};
 use crate::texts::Texts;
 use csv::ByteRecord;
 use mb_pdu::Table;
-use sunspec::PointType;
+use sunspec::{PointType, WordOrder};
 
 /// Columns 1 to 4: where a point is.
 #[derive(Clone, Copy)]
@@ -32,13 +32,14 @@ pub(crate) struct Place {
     model: Option<(u16, u16)>,
 }
 
-/// Columns 5 to 9: what a point means.
+/// Columns 5 to 10: what a point means.
 #[derive(Clone, Copy)]
 pub(crate) struct Meaning {
     kind: PointType,
     scale: i8,
     role: Role,
     roll: u64,
+    order: WordOrder,
 }
 
 /// The device of this name, if there is one.
@@ -57,16 +58,17 @@ fn device_named(devices: &Texts<'_>, text: &[u8]) -> Option<Label>
 
 #[tactic(auto, unfolding(crate::specs::Lists::table_in, crate::specs::Lists::model_in, crate::specs::Lists::address_in))]
 fn place_in(
+    columns: usize,
     devices: &Texts<'_>,
     before: usize,
     record: &ByteRecord,
 ) -> Result<Place, (ListFault, u8)>
     requires { (text : List ℕ) → has_text devices.now text ≡ true → is_label text ≡ true }
-    ensures place { IfOk result (λ x. (first_failed (place_checks (has_text devices.now) before (fields_of record.now)) ≡ None)
+    ensures place { IfOk result (λ x. (first_failed (place_checks columns (has_text devices.now) before (fields_of record.now)) ≡ None)
         × SaysPlace (fields_of record.now) x) }
-    ensures fault { IfErr result (λ e. first_failed (place_checks (has_text devices.now) before (fields_of record.now)) ≡ Some e) }
+    ensures fault { IfErr result (λ e. first_failed (place_checks columns (has_text devices.now) before (fields_of record.now)) ≡ Some e) }
 {
-    if record.len() != 9 {
+    if record.len() != columns {
         return Err((ListFault::BadCsv, 0));
     }
     if before >= MOST_POINTS {
@@ -94,7 +96,7 @@ fn place_in(
     })
 }
 
-#[tactic(auto, unfolding(crate::specs::Lists::name_of_type_in, crate::specs::Lists::type_in, crate::specs::Lists::scale_in, crate::specs::Lists::role_in, crate::specs::Lists::roll_in))]
+#[tactic(auto, unfolding(crate::specs::Lists::name_of_type_in, crate::specs::Lists::type_in, crate::specs::Lists::scale_in, crate::specs::Lists::role_in, crate::specs::Lists::roll_in, crate::specs::Lists::order_in))]
 fn meaning_in(table: Table, record: &ByteRecord) -> Result<Meaning, (ListFault, u8)>
     requires { table_in (fields_of record.now) ≡ Some table }
     ensures meaning { IfOk result (λ x. (first_failed (meaning_checks (fields_of record.now)) ≡ None) × SaysMeaning (fields_of record.now) x) }
@@ -118,11 +120,15 @@ fn meaning_in(table: Table, record: &ByteRecord) -> Result<Meaning, (ListFault, 
     let Some(roll) = roll_in(kind, role, field_of(record, 8)) else {
         return Err((ListFault::BadRoll, 9));
     };
+    let Some(order) = order_in(kind, field_of(record, 9)) else {
+        return Err((ListFault::BadWords, 10));
+    };
     Ok(Meaning {
         kind,
         scale,
         role,
         roll,
+        order,
     })
 }
 
@@ -133,9 +139,11 @@ fn ends_in_time(address: u16, kind: PointType) -> bool
     address as u32 + kind.registers() as u32 <= 65536
 }
 
-/// The row of a record of this number below these rows, whose names the set has, or its first fault.
+/// The row of a record of this number below so many columns and these rows, whose names the set has, or
+/// its first fault.
 #[tactic(auto, unfolding(crate::specs::Lists::fault_below))]
 pub(crate) fn row_in(
+    columns: usize,
     devices: &Texts<'_>,
     names: &Texts<'_>,
     rows: &[ListRow],
@@ -144,11 +152,11 @@ pub(crate) fn row_in(
 ) -> Result<ListRow, (ListFault, u8)>
     requires devices { (text : List ℕ) → has_text devices.now text ≡ true → is_label text ≡ true }
     requires names { (text : List ℕ) → has_text names.now text ≡ list_any (λ name. bytes_eq text name) (names_of rows.now) }
-    ensures row { IfOk result (λ x. (fault_below (has_text devices.now) (names_of rows.now) (fields_of record.now) ≡ None)
+    ensures row { IfOk result (λ x. (fault_below columns (has_text devices.now) (names_of rows.now) (fields_of record.now) ≡ None)
         × SaysRow number (fields_of record.now) x) }
-    ensures fault { IfErr result (λ e. fault_below (has_text devices.now) (names_of rows.now) (fields_of record.now) ≡ Some e) }
+    ensures fault { IfErr result (λ e. fault_below columns (has_text devices.now) (names_of rows.now) (fields_of record.now) ≡ Some e) }
 {
-    let place = match place_in(devices, rows.len(), record) {
+    let place = match place_in(columns, devices, rows.len(), record) {
         Ok(place) => place,
         Err(e) => return Err(e),
     };
@@ -171,6 +179,7 @@ pub(crate) fn row_in(
         scale: meaning.scale,
         role: meaning.role,
         roll: meaning.roll,
+        order: meaning.order,
     };
     Ok(ListRow {
         row: number,

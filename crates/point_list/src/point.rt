@@ -7,7 +7,7 @@ use crate::name::Name;
 use mb_pdu::Table;
 use std::fmt;
 use std::str::FromStr;
-use sunspec::PointType;
+use sunspec::{PointType, WordOrder};
 use thiserror::Error;
 
 /// What a point is for. It prints as `gauge`, `counter` or `setting`, the words of a list.
@@ -70,6 +70,8 @@ pub struct Point {
     pub role: Role,
     /// The greatest value of a counter before it begins again at 0; 0 for other roles.
     pub roll: u64,
+    /// Which of its registers its device sends first.
+    pub order: WordOrder,
 }
 
 /// A record of a list.

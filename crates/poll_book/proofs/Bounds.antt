@@ -1,15 +1,14 @@
 -- How large numbers and totals are.
 use Rattle.std.proofs.Common.{◌≡◌, ℕ, ◌+◌, ◌*◌, ◌^◌, ◌<◌, ◌≤◌, max, Bool, true, false, cond, eqb, leb, T, List, [], ◌∷◌, length, Option, Some, None, refl, subst, arith}
-use Rattle.std.specs.Prelude.{All, IfSome, ◌&&◌, pos, negsuc}
+use Rattle.std.specs.Prelude.{ℤ, All, IfSome, ◌&&◌, pos, negsuc}
 use Rattle.std.specs.List.{cons_option, last_or}
 use Rattle.std.specs.FinMap.Entries as rows
 use Rattle.std.proofs.lemmas.Bool.{eqb-true}
 use Rattle.std.proofs.lemmas.Bool.Decides.{nat_tests}
 use Rattle.std.proofs.lemmas.Nat.{mul-le}
 use Rattle.std.proofs.lemmas.List.Elements.{All-head, All-tail, All-cons, All-nil}
-use Rattle.sunspec.specs.Value.{value}
-use Rattle.sunspec.specs.declared.value.Value.{Value}
-use Rattle.sunspec.specs.declared.value.Value.TheVariants.{Number, Unimplemented, Text}
+use Rattle.sunspec.specs.Value.{number_in, value}
+use Rattle.sunspec.specs.WordOrder.{arranged}
 use Rattle.point_list.specs.declared.point.Point.{Point}
 use Rattle.poll_book.specs.declared.rows.PointRow.{PointRow}
 use Rattle.poll_book.specs.declared.rows.Reading.{Reading}
@@ -19,15 +18,14 @@ use Rattle.poll_book.proofs.Sides.{both_left, both_right, higher_is, is_less}
 use Rattle.poll_book.proofs.Steps.{steps_bound}
 
 -- a number that counts is at most the roll
-within_bound : (roll : ℕ) (read : Value) → IfSome (number_within roll read) (λ n. n ≤ roll)
-within_bound roll (Number (pos n)) = by (leb n roll) refl
+within_bound : (roll : ℕ) (read : Option ℤ) → IfSome (number_within roll read) (λ n. n ≤ roll)
+within_bound roll (Some (pos n)) = by (leb n roll) refl
   where
     by : (b : Bool) → leb n roll ≡ b → IfSome (cond b (Some n) None) (λ m. m ≤ roll)
     by true is = grind (arith, nat_tests)
     by false is = tt
-within_bound roll (Number (negsuc n)) = tt
-within_bound roll (Text text) = tt
-within_bound roll Unimplemented = tt
+within_bound roll (Some (negsuc n)) = tt
+within_bound roll None = tt
 
 if_kept : (b : Bool) (o : Option ℕ) (roll : ℕ) → IfSome o (λ n. n ≤ roll) → IfSome (cond b o None) (λ n. n ≤ roll)
 if_kept true o roll h = h
@@ -35,7 +33,7 @@ if_kept false o roll h = tt
 
 counted_bound : (point : Point) (words : List ℕ) → IfSome (counted_number point words) (λ n. n ≤ point.roll)
 counted_bound point words =
-    if_kept (is_counter point.role && are_registers point.kind words) (number_within point.roll (value point.kind words)) point.roll (within_bound point.roll (value point.kind words))
+    if_kept (is_counter point.role && are_registers point.kind words) (number_within point.roll (number_in (value point.kind (arranged point.order words)))) point.roll (within_bound point.roll (number_in (value point.kind (arranged point.order words))))
 
 pub reading_bound : (point : Point) (reading : Reading) (n : ℕ) → reading_number point reading ≡ Some n → n ≤ point.roll
 reading_bound point reading n is =

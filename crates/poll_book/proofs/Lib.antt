@@ -17,3 +17,4 @@ pub mod Lacked
 pub mod Covered
 pub mod Counted
 pub mod Marked
+pub mod Voided

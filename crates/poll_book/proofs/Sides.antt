@@ -3,14 +3,15 @@ use Rattle.std.proofs.Common.{◌≡◌, ◌≢◌, ℕ, ◌<◌, ◌≤◌, Boo
 use Rattle.std.specs.Prelude.{All, ◌&&◌}
 use Rattle.std.specs.List.{cons_option}
 use Rattle.std.specs.Ordering.{is_lt, is_eq, nat_cmp, ordering_then}
-use Rattle.std.specs.Cmp.{nat_cmp_is}
+use Rattle.std.specs.Cmp.{nat_cmp_is, tied_itself}
 use Rattle.std.specs.declared.cmp.Ordering.{Ordering}
 use Rattle.std.specs.declared.cmp.Ordering.TheVariants.{Less, Equal, Greater}
 use Rattle.std.specs.FinMap.Entries as rows
 use Rattle.std.proofs.lemmas.Bool.{eqb-true, eq-eqb, ne_eqb}
 use Rattle.std.proofs.lemmas.Bool.Decides.{nat_tests}
 use Rattle.std.proofs.lemmas.Cmp.{ranked}
-use Rattle.std.proofs.lemmas.List.Elements.{All-head, All-tail, All-cons, All-nil, All-weaker, filter-append, filter_map-append}
+use Rattle.std.proofs.lemmas.Option.{none-some, same_Some}
+use Rattle.std.proofs.lemmas.List.Elements.{All-head, All-tail, All-cons, All-nil, All-weaker, All-append, filter-append, filter_map-append}
 use Rattle.poll_book.specs.declared.rows.PointRow.{PointRow}
 use Rattle.poll_book.specs.declared.rows.Reading.{Reading}
 use Rattle.poll_book.specs.Tables.{AreByKey, Key, key_cmp, Readings, reading_at, with_row}
@@ -119,6 +120,23 @@ all_above key x [] lt h = All-nil (IsAbove key)
 all_above key x (e ∷ es) lt h =
     All-cons (IsAbove key) e es (keys_total.trans key x e.0 lt (is_less (key_cmp x e.0) (both_left _ _ h))) (all_above key x es lt (both_right _ _ h))
 
+-- so are those above one that has the key, and a key is found in none that is above it
+all_higher : (key x : Key) (es : Readings) → key ≡ x → T (rows.below_all key_cmp x es) → All (IsAbove key) es
+all_higher key x [] same h = All-nil (IsAbove key)
+all_higher key x (e ∷ es) same h =
+    All-cons (IsAbove key) e es (ap (λ k. key_cmp k e.0) same ∙ is_less (key_cmp x e.0) (both_left _ _ h)) (all_higher key x es same (both_right _ _ h))
+
+none_behind : (key : Key) (es : Readings) → All (IsAbove key) es → reading_at es key ≡ None
+none_behind key [] h = refl
+none_behind key (e ∷ es) h = ap (λ o. cond (is_eq o) (Some e.1) (reading_at es key)) (All-head (IsAbove key) e es h) ∙ none_behind key es (All-tail (IsAbove key) e es h)
+
+put_same : (key : Key) (reading there : Reading) (es : Readings) → with_row key reading ((key, there) ∷ es) ≡ (key, reading) ∷ es
+put_same key reading there es = ap (λ o. rows.by_order o ((key, reading) ∷ (key, there) ∷ es) ((key, reading) ∷ es) ((key, there) ∷ with_row key reading es)) (tied_itself keys_total key)
+
+append_one : (xs : Readings) (x : Key × Reading) (ys : Readings) → xs ++ x ∷ ys ≡ (xs ++ x ∷ []) ++ ys
+append_one [] x ys = refl
+append_one (y ∷ xs) x ys = ap (λ l. y ∷ l) (append_one xs x ys)
+
 -- the rows below a key, and those above it
 record Parts (key : Key) (table : Readings) : Type 0 where
   lows : Readings
@@ -198,6 +216,88 @@ module _ (known : PointRow) (slot : ℕ) (table : Readings) (sorted : AreByKey t
       ∙ ap (λ o. counted_numbers known at.lows ++ cons_option o (counted_numbers known at.highs)) (own_number known slot reading)
       ∙ ap (λ l. l ++ cons_option (reading_number known.point reading) (counted_numbers known at.highs)) (sym before_is)
       ∙ ap (λ l. numbers_before known slot table ++ cons_option (reading_number known.point reading) l) (sym after_is)
+
+-- ---- where a key stands in a table
+
+-- the row of a key, between the rows below it and those above it
+record Whole (key : Key) (there : Reading) (table : Readings) : Type 0 where
+  lows : Readings
+  highs : Readings
+  whole : table ≡ lows ++ (key, there) ∷ highs
+  low : All (IsBelow key) lows
+  high : All (IsAbove key) highs
+
+whole_of : (key : Key) (there : Reading) (table : Readings) → AreByKey table → reading_at table key ≡ Some there → Whole key there table
+whole_of key there [] sorted found = absurd (none-some there found)
+whole_of key there (e ∷ es) sorted found = by (key_cmp key e.0) refl found (whole_of key there es (both_right _ _ sorted))
+  where
+    by : (o : Ordering) → key_cmp key e.0 ≡ o → cond (is_eq o) (Some e.1) (reading_at es key) ≡ Some there → (reading_at es key ≡ Some there → Whole key there es) → Whole key there (e ∷ es)
+    by Less is n rest = absurd (none-some there (sym (none_behind key es (all_above key e.0 es is (both_left _ _ sorted))) ∙ n))
+    by Equal is n rest =
+        let same : key ≡ e.0 = exact_keys key e.0 is in
+        record {
+          lows = [];
+          highs = es;
+          whole = λ i. (sym same i, same_Some e.1 there n i) ∷ es;
+          low = All-nil (IsBelow key);
+          high = all_higher key e.0 es same (both_left _ _ sorted);
+        }
+    by Greater is n rest =
+        let deeper = rest n in
+        record {
+          lows = e ∷ deeper.lows;
+          highs = deeper.highs;
+          whole = ap (λ l. e ∷ l) deeper.whole;
+          low = All-cons (IsBelow key) e deeper.lows is deeper.low;
+          high = deeper.high;
+        }
+
+module _ (known : PointRow) (slot : ℕ) (there : Reading) (table : Readings) (sorted : AreByKey table) (found : reading_at table (known.number, slot) ≡ Some there) where
+  stands : Whole (known.number, slot) there table
+  stands = whole_of (known.number, slot) there table sorted found
+
+  lower : All (IsLower known slot) stands.lows
+  lower = All-weaker (IsBelow (known.number, slot)) (IsLower known slot) (λ row is own. lower_is known.number slot row.0 is own) stands.lows stands.low
+
+  higher : All (IsHigher known slot) stands.highs
+  higher = All-weaker (IsAbove (known.number, slot)) (IsHigher known slot) (λ row is own. higher_is known.number slot row.0 is own) stands.highs stands.high
+
+  numbers_below : numbers_before known slot table ≡ counted_numbers known stands.lows
+  numbers_below =
+      let row : Key × Reading = ((known.number, slot), there) in
+      ap (numbers_before known slot) stands.whole
+      ∙ before_parts known slot stands.lows (row ∷ stands.highs) lower
+      (All-cons (IsNotLower known slot) row stands.highs (λ own. omega arith) (All-weaker (IsHigher known slot) (IsNotLower known slot) (λ row is own. let above = is own in omega arith) stands.highs higher))
+
+  numbers_above : numbers_after known slot table ≡ counted_numbers known stands.highs
+  numbers_above =
+      let row : Key × Reading = ((known.number, slot), there) in
+      ap (numbers_after known slot) stands.whole
+      ∙ ap (λ l. numbers_after known slot l) (append_one stands.lows row stands.highs)
+      ∙ after_parts known slot (stands.lows ++ row ∷ []) stands.highs
+      (All-append (IsNotHigher known slot) stands.lows (row ∷ []) (All-weaker (IsLower known slot) (IsNotHigher known slot) (λ row is own. let below = is own in omega arith) stands.lows lower)
+      (All-cons (IsNotHigher known slot) row [] (λ own. omega arith) (All-nil (IsNotHigher known slot)))) higher
+
+  -- the point's numbers where a reading stands in the slot
+  numbers_of_parts : (reading : Reading) → counted_numbers known (stands.lows ++ ((known.number, slot), reading) ∷ stands.highs)
+      ≡ numbers_before known slot table ++ cons_option (reading_number known.point reading) (numbers_after known slot table)
+  numbers_of_parts reading =
+      counted-append known stands.lows (((known.number, slot), reading) ∷ stands.highs)
+      ∙ ap (λ o. counted_numbers known stands.lows ++ cons_option o (counted_numbers known stands.highs)) (own_number known slot reading)
+      ∙ ap (λ l. l ++ cons_option (reading_number known.point reading) (counted_numbers known stands.highs)) (sym numbers_below)
+      ∙ ap (λ l. numbers_before known slot table ++ cons_option (reading_number known.point reading) l) (sym numbers_above)
+
+  pub numbers_there : counted_numbers known table ≡ numbers_before known slot table ++ cons_option (reading_number known.point there) (numbers_after known slot table)
+  numbers_there = ap (counted_numbers known) stands.whole ∙ numbers_of_parts there
+
+  -- and where another is written over it
+  pub numbers_over : (reading : Reading) → counted_numbers known (with_row (known.number, slot) reading table)
+      ≡ numbers_before known slot table ++ cons_option (reading_number known.point reading) (numbers_after known slot table)
+  numbers_over reading =
+      let key : Key = (known.number, slot) in
+      ap (λ l. counted_numbers known (with_row key reading l)) stands.whole
+      ∙ ap (counted_numbers known) (put_after key_cmp key reading stands.lows ((key, there) ∷ stands.highs) stands.low ∙ ap (λ l. stands.lows ++ l) (put_same key reading there stands.highs))
+      ∙ numbers_of_parts reading
 
 -- a reading of another point gives the point no number
 pub numbers_of_other : (known : PointRow) (key : Key) (reading : Reading) (table : Readings) → key.0 ≢ known.number

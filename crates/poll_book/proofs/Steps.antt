@@ -7,7 +7,7 @@ use Rattle.std.proofs.lemmas.Bool.{cases_lt}
 use Rattle.std.proofs.lemmas.List.{take_more}
 use Rattle.std.proofs.lemmas.List.Elements.{filter_map-append}
 use Rattle.poll_book.specs.declared.history.SlotRow.{SlotRow}
-use Rattle.poll_book.specs.Totals.{first_of, last_of, reading_number, repaired, step_across, step_from, steps, steps_by_way}
+use Rattle.poll_book.specs.Totals.{first_of, last_of, reading_number, removed, repaired, step_across, step_from, steps, steps_by_way}
 use Rattle.poll_book.specs.Histories.{counted_in}
 use Rattle.point_list.specs.declared.point.Point.{Point}
 
@@ -106,6 +106,22 @@ stays_or_rises roll xs n ys v w lower higher bv bn bw =
     subst (λ o. steps roll (xs ++ n ∷ ys) + step_across roll (Some v) o ≡ steps roll (xs ++ ys) + steps_by_way roll (Some v) n o) higher
     (subst (λ o. steps roll (xs ++ n ∷ ys) + step_across roll o (first_of ys) ≡ steps roll (xs ++ ys) + steps_by_way roll o n (first_of ys)) lower (steps_insert roll xs n ys)) in
     elim (by_way roll v n w bv bn bw) [ inl same ↦ inl (omega arith) | inr more ↦ inr (omega arith) ]
+
+-- a step between two sides is at most the roll
+across_bound : (roll : ℕ) (before after : Option ℕ) → step_across roll before after ≤ roll
+across_bound roll None after = omega arith
+across_bound roll (Some v) None = omega arith
+across_bound roll (Some v) (Some w) = let less = mod-lt (w + (roll + 1) - v) {m = roll + 1} (omega arith) in omega arith
+
+-- the sum without a number is the sum from which it is removed
+pub steps_removed : (roll : ℕ) (xs : List ℕ) (n : ℕ) (ys : List ℕ) → steps roll (xs ++ n ∷ ys) + (roll + 1) ≤ 2 ^ 127 - 1
+    → steps roll (xs ++ ys) ≡ removed (steps roll (xs ++ n ∷ ys)) (last_of xs) n (first_of ys) roll
+steps_removed roll xs n ys room =
+    exactly (steps roll (xs ++ n ∷ ys)) (steps roll (xs ++ ys)) (step_across roll (last_of xs) (first_of ys)) (steps_by_way roll (last_of xs) n (first_of ys)) roll
+    (steps_insert roll xs n ys) (across_within roll xs ys) (across_bound roll (last_of xs) (first_of ys)) room
+  where
+    exactly : (new old out put roll : ℕ) → new + out ≡ old + put → out ≤ old → out ≤ roll → new + (roll + 1) ≤ 2 ^ 127 - 1 → old ≡ min (new - put + out) (2 ^ 127 - 1)
+    exactly new old out put roll same within bound room = omega arith
 
 -- each step is at most the roll
 pub steps_bound : (roll : ℕ) (xs : List ℕ) → steps roll xs ≤ length xs * roll

@@ -1,5 +1,5 @@
--- The tables of an office. Readings, settings and requests are finite maps: the list of the rows in the order of their keys.
-use Rattle.std.specs.Prelude.{ℕ, Bool, T, ◌&&◌, ◌==◌, nat_le, List, [], ◌∷◌, filter, Option, is_none}
+-- The tables of an office. Readings, voids, settings and requests are finite maps: the list of the rows in the order of their keys.
+use Rattle.std.specs.Prelude.{ℕ, Bool, T, not, ◌&&◌, ◌==◌, nat_le, List, [], ◌∷◌, map, filter, Option, is_none, is_some, ⊤}
 use Rattle.std.specs.Ordering.{nat_cmp, ordering_then}
 use Rattle.std.specs.declared.cmp.Ordering.{Ordering}
 use Rattle.std.specs.FinMap.Entries as rows
@@ -47,6 +47,25 @@ is_between point from to key = key.0 == point && nat_le from key.1 && nat_le key
 abbrev pub readings_between : ℕ → ℕ → ℕ → Readings → Readings
 readings_between point from to table = filter (λ row. is_between point from to row.0) table
 
+-- the slots of counters that don't count, each as a point's number and a slot: the list of the pairs in this order
+abbrev pub Voids : Type 0
+Voids = List (Key × ⊤)
+
+-- the slot of a point is voided
+abbrev pub is_void : Voids → Key → Bool
+is_void voids key = is_some (rows.find key_cmp key voids)
+
+-- voids with the pair put in
+abbrev pub with_void : Key → Voids → Voids
+with_void key voids = rows.put key_cmp key tt voids
+
+-- a reading, which doesn't count in a slot that is voided
+abbrev pub marked_one : Voids → Key × Reading → Key × Reading
+marked_one voids row = (row.0, record { words = row.1.words; counted = not (is_void voids row.0) && row.1.counted })
+
+abbrev pub marked : Voids → Readings → Readings
+marked voids table = map (marked_one voids) table
+
 -- a stored total for each counter, by the counters' numbers: the list of their rows in this order
 abbrev pub Sums : Type 0
 Sums = List (ℕ × ℕ)
@@ -67,13 +86,14 @@ with_sums (row ∷ added) table = with_sum row.0 row.1 (with_sums added table)
 pub record Tables : Type 0 where
   pub points : List PointRow
   pub readings : Readings
+  pub voids : Voids
   pub totals : Sums
   pub settings : Settings
   pub requests : Requests
   pub connections : ℕ
 
 abbrev pub no_tables : Tables
-no_tables = record { points = []; readings = []; totals = []; settings = []; requests = []; connections = 0 }
+no_tables = record { points = []; readings = []; voids = []; totals = []; settings = []; requests = []; connections = 0 }
 
 -- what is held in the one is held in the other
 abbrev pub Within : (Tables → Type 0) → (Tables → Type 0) → Type 0

@@ -1,13 +1,12 @@
 -- Which readings count, and how far a counter went by them.
-use Rattle.std.specs.Prelude.{ℕ, ◌+◌, ◌-◌, ◌%◌, ◌^◌, Bool, true, false, ◌&&◌, if◌then◌else◌, ◌==◌, nat_le, nat_lt, min, List, [], ◌∷◌, map, filter, filter_map, length, slice_get, Option, Some, None, is_some, unwrap_or, pos, negsuc}
+use Rattle.std.specs.Prelude.{ℕ, ℤ, ◌+◌, ◌-◌, ◌%◌, ◌^◌, Bool, true, false, ◌&&◌, if◌then◌else◌, ◌==◌, nat_le, nat_lt, min, List, [], ◌∷◌, map, filter, filter_map, length, slice_get, Option, Some, None, is_some, unwrap_or, pos, negsuc}
 use Rattle.std.specs.List.{last_or}
 use Rattle.sunspec.specs.PointType.{row}
-use Rattle.sunspec.specs.Value.{value, register_sum}
+use Rattle.sunspec.specs.Value.{number_in, value, register_sum}
+use Rattle.sunspec.specs.WordOrder.{arranged}
 use Rattle.sunspec.specs.declared.point_type.PointType.{PointType}
 use Rattle.sunspec.specs.declared.point_type.Content.{Content}
 use Rattle.sunspec.specs.declared.point_type.Content.TheVariants.{Signed, Unsigned, Address, Bit, Text}
-use Rattle.sunspec.specs.declared.value.Value.{Value}
-use Rattle.sunspec.specs.declared.value.Value.TheVariants.{Number, Unimplemented, Text as TextValue}
 use Rattle.point_list.specs.declared.point.Point.{Point}
 use Rattle.point_list.specs.declared.point.Role.{Role}
 use Rattle.point_list.specs.declared.point.Role.TheVariants.{Gauge, Counter, Setting}
@@ -32,17 +31,16 @@ is_sum_of Text sum = true
 abbrev pub are_registers : PointType → List ℕ → Bool
 are_registers kind words = length words == (row kind).registers && is_sum_of (row kind).content (register_sum words)
 
--- a value that is a number from 0 to the roll; texts and unimplemented values have none
-abbrev pub number_within : ℕ → Value → Option ℕ
-number_within roll (Number (pos n)) = if nat_le n roll then Some n else None
-number_within roll (Number (negsuc n)) = None
-number_within roll (TextValue text) = None
-number_within roll Unimplemented = None
+-- a number from 0 to the roll
+abbrev pub number_within : ℕ → Option ℤ → Option ℕ
+number_within roll (Some (pos n)) = if nat_le n roll then Some n else None
+number_within roll (Some (negsuc n)) = None
+number_within roll None = None
 
--- the number of a counter's registers, if it counts
+-- the number of a counter's registers, as they came, if it counts; texts and unimplemented values have none
 abbrev pub counted_number : Point → List ℕ → Option ℕ
 counted_number point words =
-    if is_counter point.role && are_registers point.kind words then number_within point.roll (value point.kind words) else None
+    if is_counter point.role && are_registers point.kind words then number_within point.roll (number_in (value point.kind (arranged point.order words))) else None
 
 abbrev pub is_counted : Point → List ℕ → Bool
 is_counted point words = is_some (counted_number point words)
@@ -113,3 +111,8 @@ steps_by_way roll before value after = step_across roll before (Some value) + st
 -- steps by way of the value are put in. It stays from 0 to the greatest total
 abbrev pub repaired : ℕ → Option ℕ → ℕ → Option ℕ → ℕ → ℕ
 repaired total before value after roll = min (total - step_across roll before after + steps_by_way roll before value after) (2 ^ 127 - 1)
+
+-- a total without the value between two sides: the two steps by way of it are taken out, and then the step
+-- between the sides is put in. It stays from 0 to the greatest total
+abbrev pub removed : ℕ → Option ℕ → ℕ → Option ℕ → ℕ → ℕ
+removed total before value after roll = min (total - steps_by_way roll before value after + step_across roll before after) (2 ^ 127 - 1)

@@ -17,6 +17,10 @@ fn copy_of_body(alloc: Global, body: &Body) -> Result<Body, AllocError>
             point: point.clone()?,
             value: *value,
         },
+        Body::Void { point, slot } => Body::Void {
+            point: point.clone()?,
+            slot: *slot,
+        },
     })
 }
 

@@ -3,10 +3,11 @@ ghost use Rattle.poll_book.specs.Totals as counting;
 
 use crate::rows::Reading;
 use point_list::{Point, Role};
-use sunspec::{Value, read_value};
+use sunspec::read_number;
 
 /// The number of a reading that counts for its point's total: the point is a counter, the registers
-/// are as its type has them, they don't mean unimplemented, and the number is at most the roll.
+/// are as its type has them, they don't mean unimplemented in its order of words, and the number is at
+/// most the roll.
 #[tactic(auto, unfolding(sunspec::specs::PointType::row))]
 pub fn counted_number(point: &Point, words: &[u16]) -> Option<u64>
     ensures number { result ≡ counting.counted_number point.now words.now }
@@ -18,8 +19,8 @@ pub fn counted_number(point: &Point, words: &[u16]) -> Option<u64>
     if !point.kind.is_sized() || !point.kind.has_registers(words) {
         return None;
     }
-    match read_value(&point.kind, words) {
-        Value::Number(number) if 0 <= number && number <= point.roll as i128 => Some(number as u64),
+    match read_number(&point.kind, point.order, words) {
+        Some(number) if 0 <= number && number <= point.roll as i128 => Some(number as u64),
         _ => None,
     }
 }
@@ -75,5 +76,22 @@ pub fn repaired(total: u128, before: Option<u64>, value: u64, after: Option<u64>
     without
         .saturating_add(first)
         .saturating_add(second)
+        .min(GREATEST)
+}
+
+/// A point's total without the value between the nearest values before and after it: the two steps by way
+/// of the value are taken out, and then the step between these is put in. A side that is missing gives no
+/// step. The total stays from 0 to 2^127 - 1.
+pub fn removed(total: u128, before: Option<u64>, value: u64, after: Option<u64>, roll: u64) -> u128
+    requires before { IfSome before (λ number. number ≤ roll) }
+    requires value { value ≤ roll }
+    requires after { IfSome after (λ number. number ≤ roll) }
+    ensures { result ≡ counting.removed total before value after roll }
+{
+    let first = step_across(before, Some(value), roll) as u128;
+    let second = step_across(Some(value), after, roll) as u128;
+    total
+        .saturating_sub(first + second)
+        .saturating_add(step_across(before, after, roll) as u128)
         .min(GREATEST)
 }

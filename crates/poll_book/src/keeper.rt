@@ -1,8 +1,8 @@
 ghost use Rattle.poll_book.specs.declared.fault.StoreFault.{StoreFault};
-ghost use Rattle.std.specs.Prelude.{◌≡◌, ◌⊎◌, ◌<◌, ◌≤◌, ◌^◌, ℕ, All, IfSome, IfErr, IfOk, OnOk, OnErr, is_some, option_map};
+ghost use Rattle.std.specs.Prelude.{◌≡◌, ◌⊎◌, ◌<◌, ◌≤◌, ◌^◌, ℕ, All, IfSome, IfErr, IfOk, OnOk, OnErr, is_some, length, option_map};
 ghost use Rattle.poll_book.specs.Fault.{CountsRefusal, IsCountedOn};
 ghost use Rattle.poll_book.specs.Looks.{CountsRows};
-ghost use Rattle.poll_book.specs.Tables.{Tables, Within, reading_at, readings_between};
+ghost use Rattle.poll_book.specs.Tables.{Tables, Within, is_void, reading_at, readings_between};
 ghost use Rattle.poll_book.specs.Orders.{as_setting, last_order, oldest_waiting, setting_at};
 ghost use Rattle.poll_book.specs.Requests.{request_at};
 ghost use Rattle.poll_book.specs.Changes.{IsNew, applied, as_rows};
@@ -50,6 +50,17 @@ pub trait Neighbours {
     fn has_reading(&mut self, point: &PointRow, slot: u32) -> Result<bool, StoreFault>
         ensures value { is_clean self.new → (kept : Tables) → holds self.old kept
             → IfOk result (λ has. has ≡ is_some (reading_at kept.readings (point.now.number, slot))) }
+        ensures cause { IfErr result (λ fault. may_refuse fault) }
+        ensures counted { CountsRefusal (refused self.old) (refused self.new) result }
+        ensures looked { IsCountedOn (looked self.old) (looked self.new) }
+        ensures same { Within (holds self.old) (holds self.new) }
+        ensures clean { is_clean self.new → is_clean self.old }
+        ensures crash { is_clean self.new → Within (may_leave self.new) (may_leave self.old) };
+
+    /// Whether a slot of a point is voided.
+    fn voided(&mut self, point: &PointRow, slot: u32) -> Result<bool, StoreFault>
+        ensures value { is_clean self.new → (kept : Tables) → holds self.old kept
+            → IfOk result (λ is. is ≡ is_void kept.voids (point.now.number, slot)) }
         ensures cause { IfErr result (λ fault. may_refuse fault) }
         ensures counted { CountsRefusal (refused self.old) (refused self.new) result }
         ensures looked { IsCountedOn (looked self.old) (looked self.new) }
@@ -181,6 +192,18 @@ pub trait Keeper: Neighbours {
     fn orders(&mut self) -> Result<u32, StoreFault>
         ensures value { Self.is_clean self.new → (kept : Tables) → Self.holds self.old kept
             → IfOk result (λ orders. orders ≡ last_order kept.settings) }
+        ensures cause { IfErr result (λ fault. Self.may_refuse fault) }
+        ensures counted { CountsRefusal (Self.refused self.old) (Self.refused self.new) result }
+        ensures looked { Self.looked self.new ≡ Self.looked self.old }
+        ensures same { Within (Self.holds self.old) (Self.holds self.new) }
+        ensures clean { Self.is_clean self.new → Self.is_clean self.old }
+        ensures crash { Self.is_clean self.new
+            → Within (Self.may_leave self.new) (Self.may_leave self.old) };
+
+    /// How many slots of points are voided.
+    fn voids(&mut self) -> Result<u64, StoreFault>
+        ensures value { Self.is_clean self.new → (kept : Tables) → Self.holds self.old kept
+            → IfOk result (λ voids. voids ≡ length kept.voids) }
         ensures cause { IfErr result (λ fault. Self.may_refuse fault) }
         ensures counted { CountsRefusal (Self.refused self.old) (Self.refused self.new) result }
         ensures looked { Self.looked self.new ≡ Self.looked self.old }

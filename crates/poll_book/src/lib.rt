@@ -23,14 +23,19 @@ mod recording;
 mod requests;
 mod rows;
 mod totals;
+mod voiding;
+mod voids;
 mod words;
 
 pub use caller::{Caller, Key};
-pub use counting::{counted_number, repaired, step_between};
+pub use counting::{counted_number, removed, repaired, step_between};
 pub use fault::StoreFault;
 pub use keeper::{Keeper, Neighbours};
 pub use mem_keeper::MemKeeper;
 pub use recording::record;
 pub use requests::{Body, Outcome, Reason, Request, RequestFault, RequestRow};
-pub use rows::{Change, OrderState, PointRow, Reading, ReadingRow, Setting, SettingRow, TotalRow};
+pub use rows::{
+    Change, OrderState, PointRow, Reading, ReadingRow, Setting, SettingRow, TotalRow, VoidRow,
+};
+pub use voiding::void_one;
 pub use words::Words;

@@ -104,6 +104,11 @@ impl Neighbours for MemKeeper {
         Ok(self.tables.has_reading(point.number, slot))
     }
 
+    fn voided(&mut self, point: &PointRow, slot: u32) -> Result<bool, StoreFault> {
+        count_look(&mut self.lookups);
+        Ok(self.tables.voided(point.number, slot))
+    }
+
     fn before(&mut self, point: &PointRow, slot: u32) -> Result<Option<u64>, StoreFault> {
         count_look(&mut self.lookups);
         Ok(self.tables.before(point, slot))
@@ -168,6 +173,10 @@ impl Keeper for MemKeeper {
 
     fn orders(&mut self) -> Result<u32, StoreFault> {
         Ok(self.tables.orders())
+    }
+
+    fn voids(&mut self) -> Result<u64, StoreFault> {
+        Ok(self.tables.voids())
     }
 
     fn connections(&mut self) -> Result<u32, StoreFault> {

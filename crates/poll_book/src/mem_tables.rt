@@ -1,5 +1,5 @@
 //! Tables in memory.
-ghost use Rattle.std.specs.Prelude.{◌≡◌, ◌≤◌, ◌<◌, ◌^◌, ℕ, All, IfOk, IfSome, OnErr, OnOk, is_some, option_map};
+ghost use Rattle.std.specs.Prelude.{◌≡◌, ◌≤◌, ◌<◌, ◌^◌, ℕ, All, IfOk, IfSome, OnErr, OnOk, is_some, length, option_map};
 ghost use Rattle.poll_book.specs.Tables as table;
 ghost use Rattle.poll_book.specs.Tables.{no_tables, readings_between};
 ghost use Rattle.poll_book.specs.Changes.{applied, as_rows};
@@ -21,6 +21,7 @@ use crate::points::add_points;
 use crate::requests::Request;
 use crate::rows::{Change, PointRow, Reading, ReadingRow, Setting, SettingRow, TotalRow};
 use crate::totals::{begin_totals, put_totals, stored_total};
+use crate::voids::{Voids, is_void, put_void, take_void};
 use std::alloc::{AllocError, Global};
 use std::collections::BTreeMap;
 use std::marker::Model;
@@ -34,6 +35,7 @@ pub(crate) struct MemTables {
     // How many of the first points are numbered on from 1.
     counted: usize,
     histories: Vec<History>,
+    voids: Voids,
     totals: Vec<TotalRow>,
     orders: Vec<SettingRow>,
     marks: Vec<Mark>,
@@ -54,6 +56,7 @@ impl Model for MemTables {
     ghost view = { λ k. record {
       points = k.points.items;
       readings = readings_of k.histories.items;
+      voids = k.voids.entries;
       totals = as_sums k.totals.items;
       settings = settings_of k.orders.items;
       requests = k.requests.entries;
@@ -72,6 +75,7 @@ impl MemTables {
             points: Vec::new(alloc),
             counted: 0,
             histories: Vec::new(alloc),
+            voids: BTreeMap::new(alloc),
             totals: Vec::new(alloc),
             orders: Vec::new(alloc),
             marks: Vec::new(alloc),
@@ -94,6 +98,20 @@ impl MemTables {
         ensures { result ≡ is_some (table.reading_at self.now.readings (point, slot)) }
     {
         has_slot(slots_in(&self.histories, point), slot)
+    }
+
+    /// Whether a slot of a point is voided.
+    pub(crate) fn voided(&self, point: u32, slot: u32) -> bool
+        ensures { result ≡ table.is_void self.now.voids (point, slot) }
+    {
+        is_void(&self.voids, point, slot)
+    }
+
+    /// How many slots of points are voided.
+    pub(crate) fn voids(&self) -> u64
+        ensures { result ≡ length self.now.voids }
+    {
+        self.voids.len() as u64
     }
 
     /// The value of the nearest counted reading of a point before a slot, if there is one.
@@ -202,7 +220,11 @@ impl MemTables {
         self.points.reserve(points.len())?;
         self.totals.reserve(points.len() + totals.len())?;
         self.orders.reserve(1)?;
-        put_request(&mut self.requests, request)?;
+        let void = put_void(&mut self.voids, change.void)?;
+        if let Err(error) = put_request(&mut self.requests, request) {
+            take_void(&mut self.voids, void);
+            return Err(error);
+        }
         // From here on nothing can be refused.
         self.counted = add_points(&mut self.points, self.counted, points);
         begin_totals(&mut self.totals, points);

@@ -1,6 +1,7 @@
-ghost use Rattle.std.specs.Prelude.{◌≡◌, ◌≤◌, ◌<◌, ◌+◌, ◌*◌, ◌∷◌, ◌++◌, [], None, Some, IfOk, OnOk, vec_len, option_map, option_to_list, option_and_then, length};
+ghost use Rattle.std.specs.Prelude.{◌≡◌, ◌≤◌, ◌<◌, ◌+◌, ◌*◌, ◌∷◌, ◌++◌, [], None, Some, if◌then◌else◌, IfOk, OnOk, IfSome, vec_len, option_map, option_to_list, option_and_then, length};
 ghost use Rattle.poll_book.specs.declared.rows.Reading.{Reading as AReading};
-ghost use Rattle.poll_book.specs.Tables.{AreByKey, Tables, Within, new_rows, reading_at, sum_at, with_row};
+ghost use Rattle.poll_book.specs.Tables.{AreByKey, Tables, Within, is_void, marked, new_rows, reading_at, sum_at, with_row};
+ghost use Rattle.poll_book.specs.Totals as counting;
 ghost use Rattle.poll_book.specs.Totals.{reading_number, total};
 ghost use Rattle.poll_book.specs.Changes.{HaveTotals, as_row, as_rows, as_sum, as_sums, keyed, new_sums};
 ghost use Rattle.poll_book.specs.Fault.{Accounts};
@@ -10,6 +11,7 @@ use crate::counting::{counted_number, repaired};
 use crate::fault::StoreFault;
 use crate::keeper::Neighbours;
 use crate::rows::{Change, PointRow, ReadingRow, TotalRow};
+use crate::words::Words;
 use mb_pdu::Registers;
 use point_list::Items;
 use std::alloc::{AllocError, Global};
@@ -42,6 +44,27 @@ fn total_with<N: Neighbours>(
     })
 }
 
+/// The number of a point's registers, if they count in the slot.
+fn counted_in<N: Neighbours>(
+    keeper: &mut N,
+    point: &PointRow,
+    slot: u32,
+    words: &[u16],
+) -> Result<Option<u64>, StoreFault>
+    ensures value { N.is_clean keeper.new → (kept : Tables) → N.holds keeper.old kept
+        → IfOk result (λ value. value ≡ (if is_void kept.voids (point.now.number, slot) then None else counting.counted_number point.now.point words.now)) }
+    ensures bound { IfOk result (λ value. IfSome value (λ number. number ≤ point.now.point.roll)) }
+    ensures cause { Accounts N.may_refuse (N.refused keeper.old) (N.refused keeper.new) result }
+    ensures looks { IsRaisedAtMost 1 (N.looked keeper.old) (N.looked keeper.new) }
+    ensures same { Within (N.holds keeper.old) (N.holds keeper.new) }
+    ensures clean { N.is_clean keeper.new → N.is_clean keeper.old }
+    ensures crash { N.is_clean keeper.new → Within (N.may_leave keeper.new) (N.may_leave keeper.old) }
+{
+    let value = counted_number(&point.point, words);
+    let is_void = value.is_some() && keeper.voided(point, slot)?;
+    Ok(if is_void { None } else { value })
+}
+
 /// A reading that a keeper lacks, with the total that changes by it.
 #[derive(Drop)]
 struct Lacking {
@@ -60,12 +83,12 @@ fn lacking_reading<N: Neighbours>(
     requires not_empty { 0 < length words.now }
     requires short { length words.now ≤ 125 }
     ensures reading { N.is_clean keeper.new → (kept : Tables) → N.holds keeper.old kept
-        → IfOk result (λ found. option_to_list (option_map (λ it. as_row it.reading) found) ≡ new_rows kept.readings (keyed slot ((point.now, words.now) ∷ []))) }
+        → IfOk result (λ found. option_to_list (option_map (λ it. as_row it.reading) found) ≡ new_rows kept.readings (marked kept.voids (keyed slot ((point.now, words.now) ∷ [])))) }
     ensures total { N.is_clean keeper.new → (kept : Tables) → N.holds keeper.old kept → AreByKey kept.readings
         → HaveTotals kept ((point.now, words.now) ∷ [])
-        → IfOk result (λ found. option_to_list (option_map as_sum (option_and_then (λ it. it.total) found)) ≡ new_sums kept.readings slot ((point.now, words.now) ∷ [])) }
+        → IfOk result (λ found. option_to_list (option_map as_sum (option_and_then (λ it. it.total) found)) ≡ new_sums kept.voids kept.readings slot ((point.now, words.now) ∷ [])) }
     ensures cause { Accounts N.may_refuse (N.refused keeper.old) (N.refused keeper.new) result }
-    ensures looks { IsRaisedAtMost 4 (N.looked keeper.old) (N.looked keeper.new) }
+    ensures looks { IsRaisedAtMost 5 (N.looked keeper.old) (N.looked keeper.new) }
     ensures same { Within (N.holds keeper.old) (N.holds keeper.new) }
     ensures clean { N.is_clean keeper.new → N.is_clean keeper.old }
     ensures crash { N.is_clean keeper.new → Within (N.may_leave keeper.new) (N.may_leave keeper.old) }
@@ -73,12 +96,18 @@ fn lacking_reading<N: Neighbours>(
     if keeper.has_reading(point, slot)? {
         return Ok(None);
     }
-    let total = match counted_number(&point.point, words) {
+    let value = counted_in(keeper, point, slot, words)?;
+    let total = match value {
         Some(value) => Some(total_with(keeper, point, slot, value)?),
         None => None,
     };
     Ok(Some(Lacking {
-        reading: ReadingRow::new(alloc, point, slot, words)?,
+        reading: ReadingRow {
+            point: point.number,
+            slot,
+            words: Words::new(alloc, words)?,
+            counted: value.is_some(),
+        },
         total,
     }))
 }
@@ -104,8 +133,8 @@ fn push_found(
 }
 
 /// The change that a reply makes: of these points with their registers the readings of those that have
-/// none in the slot, in their order, and the totals that change by them. It makes at most four look-ups
-/// a point.
+/// none in the slot, in their order, and the totals that change by them. In a slot that is voided they don't
+/// count. It makes at most five look-ups a point.
 pub fn record<N: Neighbours>(
     alloc: Global,
     keeper: &mut N,
@@ -113,14 +142,14 @@ pub fn record<N: Neighbours>(
     slot: u32,
 ) -> Result<Change, StoreFault>
     ensures readings { N.is_clean keeper.new → (kept : Tables) → N.holds keeper.old kept
-        → IfOk result (λ change. as_rows change.readings ≡ new_rows kept.readings (keyed slot covered.now)) }
+        → IfOk result (λ change. as_rows change.readings ≡ new_rows kept.readings (marked kept.voids (keyed slot covered.now))) }
     ensures totals { N.is_clean keeper.new → (kept : Tables) → N.holds keeper.old kept → AreByKey kept.readings
         → HaveTotals kept covered.now
-        → IfOk result (λ change. as_sums change.totals ≡ new_sums kept.readings slot covered.now) }
-    ensures alone { IfOk result (λ change. change ≡ record { points = []; readings = change.readings; totals = change.totals; setting = None; request = None; connections = None }) }
+        → IfOk result (λ change. as_sums change.totals ≡ new_sums kept.voids kept.readings slot covered.now) }
+    ensures alone { IfOk result (λ change. change ≡ record { points = []; readings = change.readings; totals = change.totals; void = None; setting = None; request = None; connections = None }) }
     ensures few { IfOk result (λ change. length change.readings ≤ length covered.now) }
     ensures cause { Accounts N.may_refuse (N.refused keeper.old) (N.refused keeper.new) result }
-    ensures looks { IsRaisedAtMost (4 * length covered.now) (N.looked keeper.old) (N.looked keeper.new) }
+    ensures looks { IsRaisedAtMost (5 * length covered.now) (N.looked keeper.old) (N.looked keeper.new) }
     ensures same { Within (N.holds keeper.old) (N.holds keeper.new) }
     ensures clean { N.is_clean keeper.new → N.is_clean keeper.old }
     ensures crash { N.is_clean keeper.new → Within (N.may_leave keeper.new) (N.may_leave keeper.old) }

@@ -10,6 +10,8 @@ pub enum Body {
     List(Items<u8>),
     /// That a point is set to a value, by the point's name. The value isn't scaled.
     Order { point: Text, value: i128 },
+    /// That a slot of a counter doesn't count for its total, by the point's name.
+    Void { point: Text, slot: u32 },
 }
 
 /// What is wrong with a request.
@@ -19,7 +21,7 @@ pub enum RequestFault {
     List(ListFault),
     /// A point of this name is known with another definition.
     PointDiffers,
-    /// No point of the ordered name is known.
+    /// No point of the name is known.
     UnknownPoint,
     /// The ordered point's role isn't setting.
     NotASetting,
@@ -27,6 +29,10 @@ pub enum RequestFault {
     OutOfRange,
     /// 1,000,000 orders exist.
     TooManyOrders,
+    /// The point's role isn't counter.
+    NotACounter,
+    /// 1,000,000 slots are voided, and this isn't one of them.
+    TooManyVoids,
 }
 
 impl fmt::Display for RequestFault {
@@ -43,6 +49,8 @@ impl fmt::Display for RequestFault {
             RequestFault::NotASetting => f.write_str("not a setting"),
             RequestFault::OutOfRange => f.write_str("out of range"),
             RequestFault::TooManyOrders => f.write_str("too many orders"),
+            RequestFault::NotACounter => f.write_str("not a counter"),
+            RequestFault::TooManyVoids => f.write_str("too many voids"),
         }
     }
 }
@@ -66,6 +74,8 @@ pub enum Outcome {
     Loaded(u32),
     /// The order of this number was accepted.
     Ordered(u32),
+    /// This slot was voided, or had been before.
+    Voided(u32),
     /// Nothing was taken.
     RefusedFor(Reason),
 }

@@ -1,8 +1,7 @@
-use crate::counting::counted_number;
 use crate::requests::RequestRow;
 use crate::words::Words;
 use point_list::{Items, Point};
-use std::alloc::{AllocError, Global};
+use std::alloc::Global;
 
 /// A known point. Points are numbered from 1, in the order in which they were accepted.
 #[derive(Clone, Copy, Debug, PartialEq, Eq)]
@@ -29,41 +28,20 @@ pub struct ReadingRow {
     pub counted: bool,
 }
 
-impl ReadingRow {
-    ghost use Rattle.std.specs.Prelude.{◌≡◌, ◌≤◌, ◌<◌, length, IfOk};
-    ghost use Rattle.poll_book.specs.Totals.{is_counted};
-
-    /// The reading that registers of a point, 1 to 125, are in a slot.
-    pub fn new(
-        alloc: Global,
-        point: &PointRow,
-        slot: u32,
-        words: &[u16],
-    ) -> Result<ReadingRow, AllocError>
-        requires not_empty { 0 < length words.now }
-        requires short { length words.now ≤ 125 }
-        ensures { IfOk result (λ row. row ≡ record {
-          point = point.now.number;
-          slot = slot;
-          words = words.now;
-          counted = is_counted point.now.point words.now;
-        }) }
-    {
-        Ok(ReadingRow {
-            point: point.number,
-            slot,
-            words: Words::new(alloc, words)?,
-            counted: counted_number(&point.point, words).is_some(),
-        })
-    }
-}
-
 /// The total of a counter, with its key, the number of the point.
 #[derive(Clone, Copy, Debug, PartialEq, Eq)]
 pub struct TotalRow {
     pub point: u32,
     /// How far the counter went by its counted readings, 0 to 2^127 - 1.
     pub total: u128,
+}
+
+/// A slot of a counter that doesn't count for its total.
+#[derive(Clone, Copy, Debug, PartialEq, Eq)]
+pub struct VoidRow {
+    /// The number of the point.
+    pub point: u32,
+    pub slot: u32,
 }
 
 /// How an order stands.
@@ -99,14 +77,15 @@ pub struct SettingRow {
     pub state: OrderState,
 }
 
-/// Rows that are written together, each under its key: points, readings and totals, an order that is new
-/// or settled or none, a request or none, and a new connection number or none. A counter that is accepted
-/// has the total 0 without a row of its own.
+/// Rows that are written together, each under its key: points, readings and totals, a slot that is voided or
+/// none, an order that is new or settled or none, a request or none, and a new connection number or none. A
+/// counter that is accepted has the total 0 without a row of its own.
 #[derive(Debug, Drop)]
 pub struct Change {
     pub points: Items<PointRow>,
     pub readings: Items<ReadingRow>,
     pub totals: Items<TotalRow>,
+    pub void: Option<VoidRow>,
     pub setting: Option<SettingRow>,
     pub request: Option<RequestRow>,
     pub connections: Option<u32>,
@@ -117,12 +96,13 @@ impl Change {
 
     /// A change of nothing.
     pub fn none(alloc: Global) -> Change
-        ensures { result ≡ record { points = []; readings = []; totals = []; setting = None; request = None; connections = None } }
+        ensures { result ≡ record { points = []; readings = []; totals = []; void = None; setting = None; request = None; connections = None } }
     {
         Change {
             points: Items::from_vec(Vec::new(alloc)),
             readings: Items::from_vec(Vec::new(alloc)),
             totals: Items::from_vec(Vec::new(alloc)),
+            void: None,
             setting: None,
             request: None,
             connections: None,

@@ -29,7 +29,19 @@ fn search(totals: &[TotalRow], point: u32) -> Result<usize, usize>
     totals.binary_search_by_key(&point, |row| row.point)
 }
 
-/// Where the total of a point stands, or where it would go. A point after all others is found at once.
+/// Whether the total of a point stands at a place.
+fn stands_at(totals: &[TotalRow], point: u32, place: usize) -> bool
+    requires { IsRising total_point totals.now }
+    ensures { IsTrue result → IsAt total_point totals.now point place }
+{
+    match totals.get(place) {
+        Some(row) => row.point == point,
+        None => false,
+    }
+}
+
+/// Where the total of a point stands, or where it would go. A point after all others is found at once, and so
+/// is one before which all points are counters.
 fn total_place(totals: &[TotalRow], point: u32) -> Result<usize, usize>
     requires { IsRising total_point totals.now }
     ensures found { IfOk result (IsAt total_point totals.now point) }
@@ -37,6 +49,10 @@ fn total_place(totals: &[TotalRow], point: u32) -> Result<usize, usize>
 {
     if is_last(totals, point) {
         return Err(totals.len());
+    }
+    let guess = (point as usize).saturating_sub(1);
+    if stands_at(totals, point, guess) {
+        return Ok(guess);
     }
     search(totals, point)
 }

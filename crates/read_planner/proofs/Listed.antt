@@ -1,5 +1,5 @@
 -- The points of a list's rows can be read.
-use Rattle.std.proofs.Common.{◌≡◌, ◌+◌, ◌<◌, ◌≤◌, ℕ, zero, suc, Bool, true, false, cond, List, [], ◌∷◌, ◌++◌, length, map, get_or, All, Option, Some, None, refl, subst, arith}
+use Rattle.std.proofs.Common.{◌≡◌, ◌+◌, ◌≤◌, ℕ, Bool, true, false, cond, List, [], ◌∷◌, ◌++◌, length, map, get_or, All, Option, Some, None, refl, subst, arith}
 use Rattle.std.specs.Prelude.{nat_le, ◌&&◌, ◌==◌}
 use Rattle.std.proofs.lemmas.Bool.{and_parts, leb-true}
 use Rattle.std.proofs.lemmas.List.Elements.{All-map}
@@ -7,18 +7,21 @@ use Rattle.std.proofs.lemmas.Option.{cond_some, none-some, same_Some}
 use Rattle.mb_pdu.specs.declared.table.Table.{Table}
 use Rattle.mb_pdu.specs.declared.table.Table.TheVariants.{Coil, Discrete, Input, Holding}
 use Rattle.sunspec.specs.declared.point_type.PointType.{PointType}
-use Rattle.sunspec.specs.declared.point_type.PointType.TheVariants.{Int16, Uint16, Acc16, Enum16, Bitfield16, Sunssf, Int32, Uint32, Acc32, Enum32, Bitfield32, Int64, Uint64, Acc64, Ipaddr, Str, Bit}
+use Rattle.sunspec.specs.declared.point_type.PointType.TheVariants.{Str}
 use Rattle.sunspec.specs.PointType.{IsSized, resized, row}
 use Rattle.sunspec.specs.Digits.{number_within}
 use Rattle.point_list.specs.declared.error.ListFault.{ListFault}
 use Rattle.point_list.specs.declared.point.ListRow.{ListRow}
 use Rattle.point_list.specs.declared.point.Point.{Point}
 use Rattle.point_list.specs.Columns.{Record, field, ◌then◌, sized, unsized}
-use Rattle.point_list.specs.Lists.{AreRows, Check, Says, SayRows, address_in, ends_in_time, fault_below, first_failed, meaning_checks, name_of_type_in, place_checks, type_in, whole_checks}
+use Rattle.point_list.specs.Edition.{Edition}
+use Rattle.point_list.specs.Lists.{AreRows, Check, Says, address_in, ends_in_time, fault_below, first_failed, meaning_checks, name_of_type_in, place_checks, type_in, whole_checks}
 use Rattle.point_list.specs.Resolving.{first_misplaced, point_placed}
 use Rattle.point_list.specs.Sites.{IsSound}
 use Rattle.point_list.specs.declared.site.Site.{Site}
 use Rattle.point_list.proofs.Placing.{none_misplaced, placed_inside}
+use Rattle.point_list.proofs.Rows.{row_said}
+use Rattle.sunspec.proofs.Table.{some_registers}
 use Rattle.read_planner.specs.Place.{CanBeRead, size_in}
 
 -- ---- types have a size
@@ -51,27 +54,6 @@ type_fits r k e = by (name_of_type_in r) e
     by None e = absurd (cc)
     by (Some kind) e = sized_fits kind (field r 5) k e
 
--- and have a register at least
-some_registers : (kind : PointType) → IsSized kind → 1 ≤ (row kind).registers
-unfolding row
-some_registers (Str registers) sized = sized.0
-some_registers Int16 sized = omega arith
-some_registers Uint16 sized = omega arith
-some_registers Acc16 sized = omega arith
-some_registers Enum16 sized = omega arith
-some_registers Bitfield16 sized = omega arith
-some_registers Sunssf sized = omega arith
-some_registers Int32 sized = omega arith
-some_registers Uint32 sized = omega arith
-some_registers Acc32 sized = omega arith
-some_registers Enum32 sized = omega arith
-some_registers Bitfield32 sized = omega arith
-some_registers Int64 sized = omega arith
-some_registers Uint64 sized = omega arith
-some_registers Acc64 sized = omega arith
-some_registers Ipaddr sized = omega arith
-some_registers Bit sized = omega arith
-
 -- ---- a faultless record's point ends in time
 
 passes : (b : Bool) (x : Option (ListFault × ℕ)) (f : ListFault × ℕ) → cond b x (Some f) ≡ None → (b ≡ true) × (x ≡ None)
@@ -82,10 +64,10 @@ none_behind : (a b : List Check) → first_failed (a ++ b) ≡ None → first_fa
 none_behind [] b h = h
 none_behind (c ∷ cs) b h = none_behind cs b (passes c.passes (first_failed (cs ++ b)) (c.fault, c.column) h).1
 
-ends : (known : List ℕ → Bool) (names : List (List ℕ)) (r : Record) → fault_below known names r ≡ None → ends_in_time (address_in r) (type_in r) ≡ true
+ends : (columns : ℕ) (known : List ℕ → Bool) (names : List (List ℕ)) (r : Record) → fault_below columns known names r ≡ None → ends_in_time (address_in r) (type_in r) ≡ true
 unfolding fault_below
-ends known names r h =
-    let behind = none_behind (meaning_checks r) (whole_checks names r) (none_behind (place_checks known (length names) r) (meaning_checks r ++ whole_checks names r) h) in
+ends columns known names r h =
+    let behind = none_behind (meaning_checks r) (whole_checks names r) (none_behind (place_checks columns known (length names) r) (meaning_checks r ++ whole_checks names r) h) in
     (passes (ends_in_time (address_in r) (type_in r)) _ _ behind).0
 
 in_table : (table : Table) (registers : ℕ) → 1 ≤ registers → size_in table registers ≤ registers
@@ -101,44 +83,34 @@ readable point is last =
     record { sized = is; inside = omega (arith, last, size) }
 
 -- the point of a faultless record ends by the last address, whatever table it is in
-said_ends : (known : List ℕ → Bool) (names : List (List ℕ)) (r : Record) (point : Point) → fault_below known names r ≡ None → Says r point
+said_ends : (columns : ℕ) (known : List ℕ → Bool) (names : List (List ℕ)) (r : Record) (point : Point) → fault_below columns known names r ≡ None → Says r point
     → IsSized point.kind × (point.address + (row point.kind).registers ≤ 65536)
-said_ends known names r point none says =
+said_ends columns known names r point none says =
     let P : Option ℕ → Type 0 = λ address. ends_in_time address (type_in r) ≡ true in
     let Q : Option PointType → Type 0 = λ kind. ends_in_time (Some point.address) kind ≡ true in
-    let in_time : ends_in_time (Some point.address) (Some point.kind) ≡ true = subst Q says.kind (subst P says.address (ends known names r none)) in
+    let in_time : ends_in_time (Some point.address) (Some point.kind) ≡ true = subst Q says.kind (subst P says.address (ends columns known names r none)) in
     (type_fits r point.kind says.kind, leb-true (point.address + (row point.kind).registers) 65536 in_time)
 
 -- the point that a faultless record says can be read
-said_fits : (known : List ℕ → Bool) (names : List (List ℕ)) (r : Record) (point : Point) → fault_below known names r ≡ None → Says r point → CanBeRead point
-said_fits known names r point none says =
-    let fits = said_ends known names r point none says in
+said_fits : (columns : ℕ) (known : List ℕ → Bool) (names : List (List ℕ)) (r : Record) (point : Point) → fault_below columns known names r ≡ None → Says r point → CanBeRead point
+said_fits columns known names r point none says =
+    let fits = said_ends columns known names r point none says in
     readable point fits.0 fits.1
 
 -- ---- rows
 
-row_said : (number : ℕ) (body : List Record) (rows : List ListRow) → SayRows number body rows → (k : ℕ) (d : ListRow) → k < length rows
-    → (k < length body) × Says (get_or body k []) (get_or rows k d).point
-row_said number [] [] say k d lt = absurd (omega (arith, lt))
-row_said number [] (x ∷ xs) say k d lt = absurd say
-row_said number (r ∷ rs) [] say k d lt = absurd say
-row_said number (r ∷ rs) (x ∷ xs) say zero d lt = (omega arith, say.0.point)
-row_said number (r ∷ rs) (x ∷ xs) say (suc k) d lt =
-    let later = row_said (number + 1) rs xs say.1 k d (omega (arith, lt)) in
-    (omega (arith, later.0), later.1)
-
-pub listed : (known : List ℕ → Bool) (list : List Record) (rows : List ListRow) → AreRows known list rows → All (λ (x : ListRow). CanBeRead x.point) rows
-listed known list rows are = λ k d lt.
+pub listed : (edition : Edition) (known : List ℕ → Bool) (list : List Record) (rows : List ListRow) → AreRows edition known list rows → All (λ (x : ListRow). CanBeRead x.point) rows
+listed edition known list rows are = λ k d lt.
     let said = row_said 2 are.body rows are.say k d lt in
-    said_fits known _ (get_or are.body k []) (get_or rows k d).point (are.faultless k said.0) said.1
+    said_fits (length are.first) known _ (get_or are.body k []) (get_or rows k d).point (are.faultless k said.0) said.1
 
 -- ---- points placed by model
 
-pub listed_placed : (site : Site) (known : List ℕ → Bool) (list : List Record) (rows : List ListRow) → IsSound site → AreRows known list rows
+pub listed_placed : (edition : Edition) (site : Site) (known : List ℕ → Bool) (list : List Record) (rows : List ListRow) → IsSound site → AreRows edition known list rows
     → first_misplaced site rows ≡ None → All CanBeRead (map (point_placed site) rows)
-listed_placed site known list rows sound are none =
+listed_placed edition site known list rows sound are none =
     All-map CanBeRead (point_placed site) rows (λ k d lt.
     let said = row_said 2 are.body rows are.say k d lt in
     let row : ListRow = get_or rows k d in
-    let fits = said_ends known _ (get_or are.body k []) row.point (are.faultless k said.0) said.1 in
+    let fits = said_ends (length are.first) known _ (get_or are.body k []) row.point (are.faultless k said.0) said.1 in
     readable (point_placed site row) fits.0 (placed_inside site row sound (none_misplaced site rows none k d lt) fits.1))

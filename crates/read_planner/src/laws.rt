@@ -2,6 +2,7 @@
 ghost use Rattle.std.specs.Prelude.{◌≡◌, ℕ, List, All, Bool, None, map};
 ghost use Rattle.point_list.specs.declared.point.ListRow.{ListRow};
 ghost use Rattle.point_list.specs.Columns.{Record};
+ghost use Rattle.point_list.specs.Edition.{Edition};
 ghost use Rattle.point_list.specs.Lists.{AreRows};
 ghost use Rattle.point_list.specs.Resolving.{first_misplaced, point_placed};
 ghost use Rattle.point_list.specs.Sites.{IsSound};
@@ -20,7 +21,9 @@ pub fn one_plan()
 /// The points of a list's rows, as `read_list` gives them, are points that `plan` takes, and so they are at the
 /// addresses that `resolve` gives them.
 pub fn listed_points()
-    ensures rows { (known : List ℕ → Bool) (list : List Record) (rows : List ListRow) → AreRows known list rows → All (λ (x : ListRow). CanBeRead x.point) rows }
-    ensures points { (site : Site) (known : List ℕ → Bool) (list : List Record) (rows : List ListRow) → IsSound site → AreRows known list rows
+    ensures rows { (edition : Edition) (known : List ℕ → Bool) (list : List Record) (rows : List ListRow)
+        → AreRows edition known list rows → All (λ (x : ListRow). CanBeRead x.point) rows }
+    ensures points { (edition : Edition) (site : Site) (known : List ℕ → Bool) (list : List Record) (rows : List ListRow)
+        → IsSound site → AreRows edition known list rows
         → first_misplaced site rows ≡ None → All CanBeRead (map (point_placed site) rows) }
 {}

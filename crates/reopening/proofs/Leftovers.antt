@@ -14,7 +14,7 @@ use Rattle.office_store.specs.Kept.{IsHeld, IsOffice, MayLeave, StandFor}
 use Rattle.office_core.specs.declared.event.EventAnswer.{EventAnswer}
 use Rattle.office_core.specs.History.{Happening, History, after, tables}
 use Rattle.office_core.specs.Leavings.{IsOfRefused, LeftBy, happened}
-use Rattle.office_core.proofs.BySlot.{readings_sorted}
+use Rattle.office_core.proofs.BySlot.{kept_sorted}
 use Rattle.office_core.proofs.CrashLeavings.{left_less, only_these}
 use Rattle.reopening.specs.Leftover.{IsLeftOf}
 
@@ -38,7 +38,7 @@ no_history = record no_tables { readings = twice ∷ twice ∷ [] }
 
 never : (h : History) → no_history ≡ tables h → ⊥
 unfolding twice
-never h is = let sorted : T (rows.is_sorted key_cmp no_history.readings) = subst (λ (t : Tables). T (rows.is_sorted key_cmp t.readings)) (sym is) (readings_sorted h) in sorted
+never h is = let sorted : T (rows.is_sorted key_cmp no_history.readings) = subst (λ (t : Tables). T (rows.is_sorted key_cmp t.readings)) (sym is) (kept_sorted h) in sorted
 
 -- What a crash left, if it can be decided whether it is an office's, is one's, and stands for a history of the run.
 pub left_of : (before : History) (rest : List Happening) (told : List EventAnswer) (may may' : Tables → Type 0) (db : Trees) → IsOffice db ⊎ (IsOffice db → ⊥)

@@ -48,7 +48,7 @@ module _ (found new : State) (left : IsTrue found.is_open → IsBareOrEmpty foun
   is_empty row shown = elim (left (shown_open found new (row ∷ []) shown)) [ inl bare ↦ absurd (bare_shows found new (row ∷ []) bare shown) | inr held ↦ held ]
 
   -- What isn't opened is no office, or the store failed.
-  pub refusal : (error : StoreError) → (error ≡ BadVersion → (row : Row) × Shown version_text [] found new (row ∷ []) × (number_of (column row 0) ≢ Some 1))
+  pub refusal : (error : StoreError) → (error ≡ BadVersion → (row : Row) × Shown version_text [] found new (row ∷ []) × (number_of (column row 0) ≢ Some 2))
       → (error ≡ NotOffice → Shown version_text [] found new [] ⊎ ((cause : Error) × FailsToQuery version_text [] found new cause × (fault_of cause ≡ Other)))
       → (error ≡ Store Other → IsTrue found.in_transaction ⊎ ((rows : List Row) × Shown version_text [] found new rows × (2 ≤ length rows)))
       → ((fault : StoreFault) → error ≡ Store fault → fault ≢ Other → (cause : Error) × FailsToQuery version_text [] found new cause × (fault_of cause ≡ fault)) → found.in_transaction ≡ false

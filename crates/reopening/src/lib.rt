@@ -5,6 +5,7 @@ ghost use Rattle.std.specs.Prelude.{◌≡◌, [], ◌∷◌, List, false, IfErr
 ghost use Rattle.sqlite.specs.Held.{state};
 ghost use Rattle.sqlite.specs.State.{HasCleanDisk};
 ghost use Rattle.poll_book.specs.Tables.{Tables, no_tables};
+ghost use Rattle.office_store.specs.Earlier.{WasHeld};
 ghost use Rattle.office_store.specs.Kept.{Holds, IsHeld, MayLeave};
 ghost use Rattle.office_store.specs.Keepers.{IsKeptBy, connection_of};
 ghost use Rattle.office_core.specs.History.{Happening, History, Restart, tables};
@@ -15,7 +16,7 @@ ghost use Rattle.reopening.specs.Leftover.{IsLeftOf};
 ghost use Rattle.reopening.specs.Making.{IsBareOrEmpty, IsLeftByMaking, IsRefusal};
 
 use office_core::{Event, EventAnswer, Office, OfficeError};
-use office_store::{SqlKeeper, StoreError, create, laws};
+use office_store::{SqlKeeper, StoreError, create, laws, migrate};
 use point_list::Site;
 use sqlite::{Alter, Connection};
 use std::alloc::Global;
@@ -122,4 +123,26 @@ pub fn create_and_reopen<S: Alter + Drop>(
         Ok(keeper) => Ok(Office::new(alloc, keeper, site)),
         Err(error) => Err(error),
     }
+}
+
+/// Makes an office's tables of those of version 1, and opens an office over them, if it fits the site.
+///
+/// It stands for what the earlier tables stood for, followed by a restart, and a crash leaves that.
+pub fn migrate_and_open<S: Alter + Drop>(
+    alloc: Global,
+    mut connection: Connection<S>,
+    site: Site,
+) -> Option<Office<SqlKeeper<S>>>
+    requires sound { IsSound site }
+    requires idle { connection.in_transaction ≡ false }
+    ensures stands { IfSome result (λ office. HasCleanDisk (state S.Store (connection_of (keeper_of office))) → (before : History)
+        → WasHeld (state S.Store connection) (tables before) → Stands office (Restart site ∷ before)) }
+    ensures leaves { IfSome result (λ office. HasCleanDisk (state S.Store (connection_of (keeper_of office))) → (before : History)
+        → WasHeld (state S.Store connection) (tables before) → (left : Tables) → MayLeave (state S.Store (connection_of (keeper_of office))) left → left ≡ tables before) }
+{
+    laws::stands_once();
+    if migrate(&mut connection).is_err() {
+        return None;
+    }
+    over(alloc, connection, site)
 }

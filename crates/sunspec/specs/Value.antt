@@ -1,5 +1,5 @@
 -- What registers mean (SunSpec Device Information Model, point types).
-use Rattle.std.specs.Prelude.{◌≡◌, ◌≤◌, ◌<◌, ℕ, ◌+◌, ◌-◌, ◌*◌, ◌^◌, ℤ, pos, ◌-ℤ◌, List, [], ◌∷◌, All, length, nat_lt, ◌==◌, if◌then◌else◌}
+use Rattle.std.specs.Prelude.{◌≡◌, ◌≤◌, ◌<◌, ℕ, ◌+◌, ◌-◌, ◌*◌, ◌^◌, ℤ, pos, ◌-ℤ◌, List, [], ◌∷◌, All, length, nat_lt, ◌==◌, Option, Some, None, if◌then◌else◌}
 use Rattle.std.specs.List.{before_first}
 use Rattle.mb_pdu.specs.Packing.{words_text}
 use Rattle.sunspec.specs.PointType.{row, bits_of, is_unimplemented}
@@ -35,6 +35,12 @@ meant content bits words = Number (number_meant content bits (register_sum words
 -- what registers of a type mean
 abbrev pub value : PointType → List ℕ → Value
 value kind words = if is_unimplemented (row kind).unimplemented (register_sum words) then Unimplemented else meant (row kind).content (bits_of kind) words
+
+-- the number that a value is, if it is one
+abbrev pub number_in : Value → Option ℤ
+number_in (Number n) = Some n
+number_in Unimplemented = None
+number_in (TextValue text) = None
 
 -- as many registers as the type has; a cell holds 0 or 1
 pub record AreRegistersOf (kind : PointType) (words : List ℕ) : Type 0 where

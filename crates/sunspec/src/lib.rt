@@ -29,5 +29,5 @@ pub use point_type::{Content, PointType, Row, UnknownType};
 pub use scaled::scaled_text;
 pub use shown::{printable, shown_ordered, shown_text, value_text};
 pub use source::{RegisterSource, SourceFault};
-pub use value::{Value, read_ordered, read_value};
+pub use value::{Value, read_number, read_ordered, read_value};
 pub use word_order::{NoOrder, WordOrder};

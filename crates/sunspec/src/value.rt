@@ -1,8 +1,8 @@
-ghost use Rattle.std.specs.Prelude.{◌≡◌, ◌≤◌, ◌<◌, ◌^◌, ◌*◌, ◌==◌, if◌then◌else◌, length, position, take};
+ghost use Rattle.std.specs.Prelude.{reverse, ◌≡◌, ◌≤◌, ◌<◌, ◌^◌, ◌*◌, ◌==◌, if◌then◌else◌, length, position, take};
 ghost use Rattle.std.specs.List.{before_first, list_all};
 ghost use Rattle.mb_pdu.specs.Packing.{words_text};
 ghost use Rattle.sunspec.specs.PointType.{IsSized, bits};
-ghost use Rattle.sunspec.specs.Value.{AreRegistersOf, number_meant, register_sum, text_meant, value};
+ghost use Rattle.sunspec.specs.Value.{AreRegistersOf, number_in, number_meant, register_sum, text_meant, value};
 ghost use Rattle.sunspec.specs.WordOrder.{arranged};
 
 use crate::fixed_text::ShortText;
@@ -58,6 +58,38 @@ pub fn read_ordered(kind: &PointType, order: WordOrder, words: &[u16]) -> Value
             read_value(kind, words.as_slice())
         }
     }
+}
+
+/// The number that registers of a type mean which are sent in an order; `None` where they mean a text, and
+/// where they say that the device doesn't have the point. `read_ordered` gives more, and takes the room of a text.
+pub fn read_number(kind: &PointType, order: WordOrder, words: &[u16]) -> Option<i128>
+    requires sized { IsSized kind.now }
+    requires registers { AreRegistersOf kind.now words.now }
+    ensures { result ≡ number_in (value kind.now (arranged order words.now)) }
+{
+    let row = kind.row();
+    if let Content::Text = row.content {
+        return None;
+    }
+    let sum = match order {
+        WordOrder::Big => register_sum_of(words),
+        WordOrder::Swapped => swapped_sum(words),
+    };
+    if row.is_unimplemented(sum) {
+        return None;
+    }
+    Some(number_of(row.content, row.bits(), sum))
+}
+
+// Out of line, since most registers come in the usual order and need no room to be turned round in.
+#[inline(never)]
+fn swapped_sum(words: &[u16]) -> u64
+    requires some { 0 < length words.now }
+    requires few { length words.now ≤ 4 }
+    ensures { result ≡ register_sum (reverse words.now) }
+{
+    let words = swapped(words);
+    register_sum_of(words.as_slice())
 }
 
 // A string is not implemented where all registers are zero.

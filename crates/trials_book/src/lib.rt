@@ -1,5 +1,5 @@
-//! Tests of queries and their replies, of what a keeper in memory gives back, of orders and requests in it,
-//! and of the values on either side of a slot.
+//! Tests of queries and their replies, of what a keeper in memory gives back, of orders, requests and
+//! voids in it, and of the values on either side of a slot.
 #![tactic(auto)]
 
 #[cfg(test)]
@@ -16,3 +16,5 @@ mod requests;
 mod storing;
 #[cfg(test)]
 mod texts;
+#[cfg(test)]
+mod voids;

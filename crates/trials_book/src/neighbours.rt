@@ -36,7 +36,7 @@ fn nearest(trial: &Trial<'_>) -> Result<(), StoreFault> {
         let found = sides(&mut keeper, &counter, slot)?;
         trial.told(&slot, &found, &(before, after));
     }
-    trial.told(&"lookups", &keeper.lookups(), &21);
+    trial.told(&"lookups", &keeper.lookups(), &23);
     Ok(())
 }
 

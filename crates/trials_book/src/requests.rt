@@ -3,7 +3,7 @@ use crate::storing::apply;
 use point_list::{Items, Text};
 use poll_book::{
     Body, Caller, Change, Keeper, Key, MemKeeper, OrderState, Outcome, RequestRow, SettingRow,
-    StoreFault, Words,
+    StoreFault, VoidRow, Words,
 };
 use std::alloc::Global;
 use std::test::Fail;
@@ -16,16 +16,26 @@ fn named(caller: &str, key: &str) -> Result<(Caller, Key), StoreFault> {
     }
 }
 
-/// A list of three bytes, or an order.
-fn body_of(alloc: Global, outcome: Outcome) -> Result<Body, StoreFault> {
-    if let Outcome::Ordered(_) = outcome {
-        let point = Text::from_string("limit".to_string(alloc)?);
-        return Ok(Body::Order { point, value: 7 });
-    }
-    Ok(Body::List(Items::from_vec(vec![in alloc; 1, 2, 3]?)))
+fn text(alloc: Global, name: &str) -> Result<Text, StoreFault> {
+    Ok(Text::from_string(name.to_string(alloc)?))
 }
 
-/// Puts a request of this outcome, and the order that it may be.
+/// A list of three bytes, an order or a void.
+fn body_of(alloc: Global, outcome: Outcome) -> Result<Body, StoreFault> {
+    Ok(match outcome {
+        Outcome::Ordered(_) => Body::Order {
+            point: text(alloc, "limit")?,
+            value: 7,
+        },
+        Outcome::Voided(slot) => Body::Void {
+            point: text(alloc, "energy")?,
+            slot,
+        },
+        _ => Body::List(Items::from_vec(vec![in alloc; 1, 2, 3]?)),
+    })
+}
+
+/// Puts a request of this outcome, and the order or the void that it may be.
 fn ask(
     alloc: Global,
     keeper: &mut MemKeeper,
@@ -40,13 +50,17 @@ fn ask(
         body,
         outcome,
     });
-    if let Outcome::Ordered(number) = outcome {
-        change.setting = Some(SettingRow {
-            number,
-            point: 1,
-            words: Words::new(alloc, &[1, 2, 3, 4, 5])?,
-            state: OrderState::Waiting,
-        });
+    match outcome {
+        Outcome::Ordered(number) => {
+            change.setting = Some(SettingRow {
+                number,
+                point: 1,
+                words: Words::new(alloc, &[1, 2, 3, 4, 5])?,
+                state: OrderState::Waiting,
+            });
+        }
+        Outcome::Voided(slot) => change.void = Some(VoidRow { point: 1, slot }),
+        _ => {}
     }
     apply(keeper, &change)
 }
@@ -68,8 +82,10 @@ fn keys(trial: &Trial<'_>) -> Result<(), StoreFault> {
     let mut keeper = MemKeeper::new(trial.alloc());
     ask(trial.alloc(), &mut keeper, named("ems", "k1")?, Loaded(3))?;
     ask(trial.alloc(), &mut keeper, named("desk", "k1")?, Ordered(1))?;
+    ask(trial.alloc(), &mut keeper, named("desk", "k2")?, Voided(9))?;
     for (caller, key, outcome) in [
         ("ems", "k1", Some(Loaded(3))),
+        ("desk", "k2", Some(Voided(9))),
         ("desk", "k1", Some(Ordered(1))),
         ("ems", "k2", None),
         ("k1", "ems", None),
@@ -85,39 +101,62 @@ fn keys_are_of_their_callers(rt: HostRuntime) -> Result<(), Fail> {
     Ok(twice!(rt, keys)?)
 }
 
-/// Expects how many orders there are, and what became of a request.
+/// Expects how many orders there are and how many voids, and what became of a request.
 fn is_kept(
     trial: &Trial<'_>,
     keeper: &mut MemKeeper,
     key: &str,
-    orders: u32,
+    (orders, voids): (u32, u64),
     outcome: Option<Outcome>,
 ) -> Result<(), StoreFault> {
     let told = (
         keeper.orders()?,
+        keeper.voids()?,
         outcome_of(trial.alloc(), keeper, "ems", key)?,
     );
-    trial.told(&key, &told, &(orders, outcome));
+    trial.told(&key, &told, &(orders, voids, outcome));
     Ok(())
 }
 
-/// A refused order is put once more, and before it there is neither it nor its request.
+/// Puts a request, once more where it was refused: then there is neither it nor its order or void.
+fn ask_again(
+    trial: &Trial<'_>,
+    keeper: &mut MemKeeper,
+    key: &str,
+    outcome: Outcome,
+) -> Result<(), StoreFault> {
+    let asked = named("ems", key)?;
+    let (orders, voids) = (keeper.orders()?, keeper.voids()?);
+    if let Err(fault) = ask(trial.alloc(), keeper, asked, outcome) {
+        trial.told(&key, &fault, &StoreFault::Memory);
+        is_kept(trial, keeper, key, (orders, voids), None)?;
+        ask(trial.alloc(), keeper, asked, outcome)?;
+    }
+    Ok(())
+}
+
+/// Orders and voids, of which one slot comes twice, with how many there are then.
+const REQUESTS: &[(&str, Outcome, u32, u64)] = &[
+    ("a", Outcome::Ordered(1), 1, 0),
+    ("b", Outcome::Voided(7), 1, 1),
+    ("c", Outcome::Ordered(2), 2, 1),
+    ("d", Outcome::Voided(3), 2, 2),
+    ("e", Outcome::Voided(7), 2, 2),
+    ("f", Outcome::Ordered(3), 3, 2),
+];
+
 fn refusals(trial: &Trial<'_>) -> Result<(), StoreFault> {
     let mut keeper = MemKeeper::new(trial.alloc());
-    for (number, key) in [(1, "a"), (2, "b"), (3, "c"), (4, "d"), (5, "e")] {
-        let (asked, ordered) = (named("ems", key)?, Outcome::Ordered(number));
-        if let Err(fault) = ask(trial.alloc(), &mut keeper, asked, ordered) {
-            trial.told(&key, &fault, &StoreFault::Memory);
-            is_kept(trial, &mut keeper, key, number - 1, None)?;
-            ask(trial.alloc(), &mut keeper, asked, ordered)?;
-        }
-        is_kept(trial, &mut keeper, key, number, Some(ordered))?;
+    for (key, outcome, orders, voids) in REQUESTS {
+        ask_again(trial, &mut keeper, key, *outcome)?;
+        let after = (*orders, *voids);
+        is_kept(trial, &mut keeper, key, after, Some(*outcome))?;
     }
     Ok(())
 }
 
 /// Run under `rt try --test --fail-alloc N`, this one sees each growth refused in turn.
 #[test]
-fn a_refusal_leaves_neither_order_nor_request(rt: HostRuntime) -> Result<(), Fail> {
+fn a_refusal_leaves_neither_order_nor_void_nor_request(rt: HostRuntime) -> Result<(), Fail> {
     Ok(twice!(rt, refusals)?)
 }

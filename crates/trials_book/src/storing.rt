@@ -4,10 +4,11 @@ use mb_pdu::{Registers, Table};
 use point_list::{Label, Name, Point, Role};
 use poll_book::{
     Change, Keeper, MemKeeper, Neighbours, PointRow, ReadingRow, StoreFault, Words, record,
+    void_one,
 };
 use std::alloc::{AllocError, Global};
 use std::fmt::Debug;
-use sunspec::PointType;
+use sunspec::{PointType, WordOrder};
 use telling::Trial;
 
 /// Expects a value as `Debug` shows it.
@@ -43,6 +44,7 @@ pub(crate) fn point(
             scale: 0,
             role,
             roll,
+            order: WordOrder::Big,
         },
     })
 }
@@ -82,6 +84,18 @@ pub(crate) fn store(
         return Err(StoreFault::Other);
     };
     let change = record(alloc, keeper, &[(*point, registers)], slot)?;
+    apply(keeper, &change)?;
+    Ok(change.readings.as_slice().len())
+}
+
+/// Voids a slot of the point, and says how many readings were taken out of its total.
+pub(crate) fn void(
+    alloc: Global,
+    keeper: &mut MemKeeper,
+    point: &PointRow,
+    slot: u32,
+) -> Result<usize, StoreFault> {
+    let change = void_one(alloc, keeper, point, slot)?;
     apply(keeper, &change)?;
     Ok(change.readings.as_slice().len())
 }

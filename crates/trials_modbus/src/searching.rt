@@ -4,7 +4,7 @@ use point_list::{Label, Name, Point, Role};
 use read_planner::{can_be_read, plan};
 use std::alloc::{AllocError, Global};
 use std::test::Fail;
-use sunspec::PointType;
+use sunspec::{PointType, WordOrder};
 use telling::{Trial, twice};
 
 /// A point's table, its first address and its type.
@@ -122,6 +122,7 @@ fn point((table, address, kind): Spot) -> Option<Point> {
         scale: 0,
         role: Role::Gauge,
         roll: 0,
+        order: WordOrder::Big,
     })
 }
 

@@ -4,7 +4,7 @@ use mb_pdu::{Span, Table};
 use office_core::{Event, EventAnswer, Office, OfficeError};
 use office_net::{DrillStep, drill};
 use office_plays::builders::{MEMORY, office_after, shown, text};
-use office_plays::steps::Happens::{self, Load, Open, Order};
+use office_plays::steps::Happens::{self, Load, Open, Order, Void};
 use office_plays::steps::{push, total};
 use poll_book::MemKeeper;
 use poll_match::Conn;
@@ -106,6 +106,7 @@ const SEVERAL: &[Happens] = &[
         "e,m1,holding,107,uint16,,,counter,9999\ng,m1,holding,108,int16,,,gauge,\nlim,m1,holding,40,uint16,,,setting,\n",
     ),
     Order("k1", "lim", 80),
+    Void("v1", "e", 3),
     Open("roof"),
 ];
 

@@ -1,5 +1,5 @@
 //! Events drawn by chance, of which most come to something.
-use crate::model::{Asked, Book, Brought, Happened, Query, Read, Reply, Wanted};
+use crate::model::{Asked, Book, Brought, Happened, Query, Read, Reply, Wanted, written_by};
 use office_core::OfficeError;
 use std::alloc::Global;
 
@@ -58,14 +58,26 @@ fn draw_brought(chance: &mut Chance, query: Option<&Query>) -> Brought {
     };
     match (query.asked, chance.below(10)) {
         (Asked::Read { .. }, 0) => Brought::Exception(3, 2),
-        (Asked::Write { .. }, 0 | 1 | 2) => Brought::Exception(6, draw_code(chance)),
+        (Asked::Write { has_many, .. }, 0 | 1 | 2) => {
+            Brought::Exception(written_by(has_many), draw_code(chance))
+        }
         (_, 1) => Brought::Other,
         (Asked::Read { read, .. }, 2) => {
             Brought::Words(draw_number(chance), read.quantity.saturating_add(1))
         }
         (Asked::Read { read, .. }, _) => Brought::Words(draw_number(chance), read.quantity),
-        (Asked::Write { address, value, .. }, 3) => Brought::Echo(address, value ^ 1),
-        (Asked::Write { address, value, .. }, _) => Brought::Echo(address, value),
+        (
+            Asked::Write {
+                address,
+                number,
+                has_many,
+                ..
+            },
+            place,
+        ) => {
+            let other = if place == 3 { 1 } else { 0 };
+            Brought::Echo(written_by(has_many), address, number ^ other)
+        }
     }
 }
 
@@ -89,17 +101,39 @@ fn draw_arrival(alloc: Global, chance: &mut Chance, book: &Book) -> Result<Happe
     }))
 }
 
+/// Mostly of a counter.
+fn draw_void(chance: &mut Chance) -> Happened {
+    let name = match chance.below(10) {
+        0 => "a",
+        1 => "z",
+        2 | 3 => "g",
+        4 | 5 => "h",
+        _ => "e",
+    };
+    Happened::Request {
+        key: chance.below(24) as u32,
+        wanted: Wanted::Void(name, chance.below(SLOTS as u16) as u32),
+    }
+}
+
 fn draw_wanted(chance: &mut Chance) -> Wanted {
-    let name = match chance.below(6) {
+    let name = match chance.below(10) {
         0 => "a",
         1 => "z",
         2 => "t",
+        3 | 4 | 5 => "u",
+        6 | 7 => "v",
         _ => "s",
+    };
+    let value = match chance.below(16) {
+        0 => 65535,
+        1 => u32::MAX,
+        2 => 305_419_896,
+        _ => chance.below(3) as u32,
     };
     match chance.below(3) {
         0 => Wanted::List(chance.below(4) as u32),
-        1 if chance.below(8) == 0 => Wanted::Value(name, 65535),
-        _ => Wanted::Value(name, chance.below(3) as u32),
+        _ => Wanted::Value(name, value),
     }
 }
 
@@ -116,8 +150,8 @@ fn draw_ask(chance: &mut Chance, book: &Book) -> Happened {
         conn: draw_conn(chance, book),
         read: Read {
             slot: chance.below(SLOTS as u16) as u32,
-            start: 105u16.wrapping_add(chance.below(5)),
-            quantity: 1u16.wrapping_add(chance.below(8)),
+            start: 105u16.wrapping_add(chance.below(6)),
+            quantity: 2u16.wrapping_add(chance.below(14)),
         },
     }
 }
@@ -150,13 +184,14 @@ pub(crate) fn draw(
         1 => return Ok(Happened::Open(0)),
         _ => {}
     }
-    match chance.below(40) {
+    match chance.below(43) {
         0..7 => Ok(draw_request(chance)),
         7 => Ok(Happened::Open(chance.below(3) as u32)),
         8 => Ok(Happened::Open(0)),
         9 => Ok(Happened::Restart),
         10..18 => Ok(draw_ask(chance, book)),
         18..23 => Ok(draw_send(chance, book)),
+        40..43 => Ok(draw_void(chance)),
         _ => draw_arrival(alloc, chance, book),
     }
 }

@@ -4,7 +4,7 @@ use office_plays::builders::{
     BARE, MEMORY, TWO, begun, events_of, office_after, office_over, shown,
 };
 use office_plays::refusing::Refusing;
-use office_plays::steps::Happens::{self, Arrive, Ask, Load, Open, Order, Send};
+use office_plays::steps::Happens::{self, Arrive, Ask, Load, Open, Order, Send, Void};
 use office_plays::steps::{answered, has_words, is_refused, opened, state, take, take_happening};
 use poll_book::StoreFault::{self, Disk, Full, Memory, Other};
 use poll_book::{MemKeeper, OrderState};
@@ -24,10 +24,15 @@ pub(crate) const HAPPENINGS: &[Happens] = &[
     Open("roof"),
     Ask(1, "m1", 5, (3, 107, 3)),
     Ask(1, "m1", 4, (3, 107, 3)),
+    Void("v1", "e", 4),
     Arrive(1, 0, 17, THREE),
     Arrive(1, 0, 17, THREE),
     Load("l2", "c,m1,holding,109,uint16,,,gauge,\n"),
     Arrive(1, 1, 17, OTHERS),
+    Void("v2", "e", 5),
+    Void("v2", "e", 5),
+    Void("v3", "e", 5),
+    Void("v4", "a", 5),
     Ask(1, "m1", 5, (3, 107, 3)),
     Arrive(1, 2, 17, &[0x83, 2]),
     Ask(1, "m1", 5, (3, 107, 3)),

@@ -1,20 +1,20 @@
 //! An office beside the slow model.
 use crate::draws::{Chance, SLOTS, draw};
 use crate::events::event_of;
-use crate::model::{Book, Given, Happened, Placed, Row, total};
-use office_core::{Arrival, EventAnswer, Office, OfficeError};
+use crate::model::{Book, Happened, Placed, Row};
+use office_core::{Arrival, EventAnswer, Office, OfficeError, RequestAnswer, ShownReading};
 use office_plays::builders::office_over;
 use office_plays::steps::{rows, state, take, total as total_of};
 use office_plays::tables::text_of;
 use point_list::Role;
-use poll_book::{Keeper, MemKeeper, PointRow, ReadingRow};
+use poll_book::{Keeper, MemKeeper, Outcome, PointRow};
 use std::test::Fail;
 use store_plays::stored;
 use telling::{Trial, twice};
 
 const HISTORIES: u64 = 150;
 
-const EVENTS: u32 = 40;
+const EVENTS: u32 = 43;
 
 /// The keys under which anything is drawn.
 const KEYS: &[&str] = &[
@@ -22,19 +22,17 @@ const KEYS: &[&str] = &[
     "k15", "k16", "k17", "k18", "k19", "k20", "k21", "k22", "k23", "k30",
 ];
 
-/// Expects that a reading was given, and that its words follow on its first.
-fn is_given(trial: &Trial<'_>, given: &[Given], point: usize, row: &Row, reading: &ReadingRow) {
+/// Expects that a reading was given with these words, and that it is marked where its slot is voided.
+fn is_given(trial: &Trial<'_>, book: &Book, point: usize, row: &Row, shown: &ShownReading) {
+    let reading = &shown.reading;
     let words = reading.words.as_slice();
-    let first = words.first().copied().unwrap_or(0);
-    let expected = Given {
-        point,
-        slot: reading.slot,
-        first,
-    };
-    trial.told(reading, &given.contains(&expected), &true);
+    let given = book.reading(point, reading.slot);
+    trial.told(reading, &given.is_some(), &true);
+    trial.told(reading, &shown.voided, &book.is_voided(point, reading.slot));
     trial.told(reading, &words.len(), &(row.registers as usize));
-    for (word, offset) in words.iter().zip(0u16..125) {
-        trial.told(reading, word, &first.wrapping_add(offset));
+    for (word, place) in words.iter().zip(0u16..125) {
+        let expected = given.map(|given| given.word(place));
+        trial.told(reading, &Some(*word), &expected);
     }
 }
 
@@ -42,18 +40,19 @@ fn is_given(trial: &Trial<'_>, given: &[Given], point: usize, row: &Row, reading
 fn is_kept<K: Keeper>(
     trial: &Trial<'_>,
     office: &mut Office<K>,
-    given: &[Given],
+    book: &Book,
     point: usize,
     row: &Row,
 ) -> Result<(), OfficeError> {
     let readings = rows(office, row.name, 0, u32::MAX)?.ok_or(OfficeError::NoRead)?;
-    let count = given
+    let count = book
+        .given
         .iter()
         .filter(|reading| reading.point == point)
         .count();
     trial.told(&row.name, &readings.len(), &count);
     for reading in &readings {
-        is_given(trial, given, point, row, reading);
+        is_given(trial, book, point, row, reading);
     }
     Ok(())
 }
@@ -66,7 +65,7 @@ fn are_totals<K: Keeper>(
 ) -> Result<(), OfficeError> {
     for (point, row) in book.known.iter().enumerate() {
         let sum = if row.role == Role::Counter {
-            Some(total(&book.given, point, SLOTS))
+            Some(book.total(point, row, SLOTS))
         } else {
             None
         };
@@ -105,16 +104,31 @@ fn are_tables<K: Keeper>(
 ) -> Result<(), OfficeError> {
     are_named(trial, office.points(), &book.known);
     for (point, row) in book.known.iter().enumerate() {
-        is_kept(trial, office, &book.given, point, row)?;
+        is_kept(trial, office, book, point, row)?;
     }
     are_ordered(trial, office, &book.orders)
 }
 
-/// How many frames were taken, and how many of them were normal replies to orders.
-#[derive(Drop)]
+/// How many frames were taken, how many of them were normal replies to orders, how many voids were taken, and of points
+/// with the least significant register first how many readings there are, and how many orders were done.
+#[derive(Clone, Copy, Debug)]
 struct Taken {
     arrived: u32,
     settled: u32,
+    voided: u32,
+    readings: usize,
+    orders: usize,
+}
+
+/// Whether a void was taken that is the first request under its key.
+fn is_void(told: &EventAnswer) -> bool {
+    matches!(
+        told,
+        EventAnswer::Request(RequestAnswer::Kept {
+            first: true,
+            outcome: Outcome::Voided(_),
+        })
+    )
 }
 
 impl Taken {
@@ -123,6 +137,14 @@ impl Taken {
         let settled = matches!(told, EventAnswer::Arrived(Arrival::Settled));
         self.arrived = self.arrived.saturating_add(u32::from(arrived));
         self.settled = self.settled.saturating_add(u32::from(settled));
+        self.voided = self.voided.saturating_add(u32::from(is_void(told)));
+    }
+
+    /// Counts what a history came to.
+    fn count_swapped(&mut self, book: &Book) {
+        let (readings, orders) = book.swapped();
+        self.readings = self.readings.saturating_add(readings);
+        self.orders = self.orders.saturating_add(orders);
     }
 }
 
@@ -159,6 +181,9 @@ fn go<K: Keeper>(
             are_tables(trial, office, book)?;
         }
     }
+    if let Some(taken) = taken {
+        taken.count_swapped(book);
+    }
     Ok(())
 }
 
@@ -190,15 +215,19 @@ fn histories(trial: &Trial<'_>) -> Result<(), OfficeError> {
     let mut taken = Taken {
         arrived: 0,
         settled: 0,
+        voided: 0,
+        readings: 0,
+        orders: 0,
     };
     for seed in 0..HISTORIES {
         let stored = tables_after(trial, stored(alloc)?, seed, None)?;
         let kept = tables_after(trial, MemKeeper::new(alloc), seed, Some(&mut taken))?;
         trial.told(&seed, &stored, &kept);
     }
-    let Taken { arrived, settled } = taken;
-    let are_many = arrived > 250 && settled > 25;
-    trial.told(&(arrived, settled), &are_many, &true);
+    let are_many = taken.arrived > 250 && taken.settled > 25 && taken.voided > 100;
+    trial.told(&taken, &are_many, &true);
+    let are_swapped = taken.readings > 100 && taken.orders > 10;
+    trial.told(&taken, &are_swapped, &true);
     Ok(())
 }
 

@@ -1,6 +1,6 @@
 //! Tests of an office that data can't say: memory that is refused, a keeper that refuses, the edge of the window of
-//! queries, and generated histories beside a slow model, which works out each answer and each table anew from all that
-//! happened, over a keeper in memory and over a database.
+//! queries, voided slots, and generated histories beside a slow model, which works out each answer and each table anew
+//! from all that happened, over a keeper in memory and over a database.
 #![tactic(auto)]
 
 #[cfg(test)]
@@ -17,3 +17,5 @@ mod histories;
 mod memory;
 #[cfg(test)]
 mod model;
+#[cfg(test)]
+mod voids;

@@ -8,32 +8,39 @@ use poll_book::{OrderState, Outcome, Reason, RequestFault};
 use poll_match::Conn;
 use std::alloc::Global;
 
-/// A point of device m1 in the holding registers. A counter rolls after 999.
+/// A point of device m1 in the holding registers, of which a counter has a roll. That of one register is a uint16,
+/// that of two a uint32, that of four a uint64.
 #[derive(Clone, Copy, PartialEq)]
 pub(crate) struct Row {
     pub(crate) name: &'static str,
     pub(crate) address: u16,
     pub(crate) registers: u16,
     pub(crate) role: Role,
+    pub(crate) roll: u64,
+    /// Whether its first register has the least significant bits.
+    pub(crate) is_swapped: bool,
 }
 
 #[derive(Clone, Copy, Debug)]
 pub(crate) enum Brought {
-    /// So many registers, the first of which has this number, and each next one more.
+    /// So many registers that follow from this number, as `register` says.
     Words(u16, u16),
-    /// The write of one register again, by its address and its number.
-    Echo(u16, u16),
+    /// Of a function: the write of a register again, by its address and its number, or of several, by the first and
+    /// how many.
+    Echo(u8, u16, u16),
     /// An exception to a function, with its code.
     Exception(u8, u8),
     /// A reply to another function.
     Other,
 }
 
-/// What a caller asks for: a list by its number, of which there are four, or a value for a point.
+/// What a caller asks for: a list by its number, of which there are four, a value for a point, or that a slot of a
+/// point doesn't count.
 #[derive(Clone, Copy, Debug, PartialEq)]
 pub(crate) enum Wanted {
     List(u32),
     Value(&'static str, u32),
+    Void(&'static str, u32),
 }
 
 /// A read of so many registers, for a slot.
@@ -71,23 +78,58 @@ fn point(name: &'static str, address: u16, registers: u16, role: Role) -> Row {
         address,
         registers,
         role,
+        roll: 0,
+        is_swapped: false,
     }
 }
 
-/// The rows of a list. The last list has a fault of its own besides.
-pub(crate) fn rows_of(list: u32) -> [Row; 4] {
+/// A counter that begins again behind this number.
+fn counter(name: &'static str, address: u16, registers: u16, roll: u64) -> Row {
+    Row {
+        roll,
+        ..point(name, address, registers, Role::Counter)
+    }
+}
+
+fn swapped(row: Row) -> Row {
+    Row {
+        is_swapped: true,
+        ..row
+    }
+}
+
+/// The rows of a list. The last list has a fault of its own besides. Where a counter begins again is among the numbers
+/// that come. Of two lists the point g differs in its order alone.
+pub(crate) fn rows_of(list: u32) -> [Row; 7] {
     let a = point("a", 107, 1, Role::Gauge);
     let c = point("c", 109, 1, Role::Gauge);
-    let e = point("e", 110, 1, Role::Counter);
+    let e = counter("e", 110, 1, 999);
     let f = point("f", 111, 2, Role::Gauge);
+    let g = counter("g", 113, 2, 33_000_000);
+    let h = swapped(counter("h", 115, 4, 141_000_000_000_000_000));
+    let i = swapped(point("i", 109, 2, Role::Gauge));
     let s = point("s", 40, 1, Role::Setting);
     let t = point("t", 112, 1, Role::Setting);
+    let u = swapped(point("u", 50, 2, Role::Setting));
+    let v = swapped(point("v", 54, 4, Role::Setting));
     match list {
-        0 => [a, point("b", 108, 1, Role::Gauge), c, s],
-        1 => [e, a, f, t],
-        2 => [f, point("b", 113, 1, Role::Gauge), c, s],
-        _ => [a, e, c, t],
+        0 => [a, point("b", 108, 1, Role::Gauge), c, s, swapped(g), u, i],
+        1 => [e, a, f, t, h, v, u],
+        2 => [g, point("b", 113, 1, Role::Gauge), c, s, f, e, a],
+        _ => [a, e, c, t, s, f, g],
     }
+}
+
+/// Whether a list has the column for orders of registers.
+pub(crate) fn has_orders(list: u32) -> bool {
+    list < 2
+}
+
+/// The register at an offset of a reply whose first one has this number. Half of it stands at odd offsets, so that a
+/// number of several registers is another one in another order, and goes other steps.
+pub(crate) fn register(number: u16, offset: u16) -> u16 {
+    let half = if offset % 2 == 0 { number } else { number / 2 };
+    half.wrapping_add(offset)
 }
 
 pub(crate) fn is_faulty(list: u32) -> bool {
@@ -105,8 +147,8 @@ struct Request {
 /// What is written for an order, and how it stands.
 #[derive(Clone, Copy)]
 pub(crate) struct Placed {
-    address: u16,
-    value: u16,
+    pub(crate) row: Row,
+    value: u32,
     pub(crate) state: OrderState,
 }
 
@@ -117,11 +159,13 @@ pub(crate) enum Asked {
         read: Read,
         known: usize,
     },
-    /// The place of an order, and what is written for it.
+    /// The place of an order, and what comes back: the first address, and the register that is written there, or how
+    /// many are.
     Write {
         order: usize,
         address: u16,
-        value: u16,
+        number: u16,
+        has_many: bool,
     },
 }
 
@@ -133,12 +177,34 @@ pub(crate) struct Query {
     is_answered: bool,
 }
 
-/// A reading: the place of its point, its slot, the first register's number.
-#[derive(Clone, Copy, PartialEq)]
+/// A reading: the place of its point, its slot, the number of its reply and the offset there.
+#[derive(Clone, Copy)]
 pub(crate) struct Given {
     pub(crate) point: usize,
     pub(crate) slot: u32,
-    pub(crate) first: u16,
+    number: u16,
+    offset: u16,
+}
+
+impl Given {
+    /// One of its registers.
+    pub(crate) fn word(self, place: u16) -> u16 {
+        register(self.number, self.offset.wrapping_add(place))
+    }
+
+    /// The number that registers of a row mean.
+    fn value(self, row: &Row) -> u64 {
+        let mut value = 0u64;
+        for place in 0..row.registers {
+            let word = if row.is_swapped {
+                self.word(row.registers.saturating_sub(place).saturating_sub(1))
+            } else {
+                self.word(place)
+            };
+            value = (value << 16) | u64::from(word);
+        }
+        value
+    }
 }
 
 /// All that happened.
@@ -151,6 +217,8 @@ pub(crate) struct Book {
     lines: Vec<Option<u32>>,
     queries: Vec<Query>,
     pub(crate) given: Vec<Given>,
+    /// The place of a point and a slot that doesn't count for it.
+    voids: Vec<(usize, u32)>,
 }
 
 fn differs(known: &[Row], row: &Row) -> bool {
@@ -166,14 +234,14 @@ fn refused(fault: RequestFault, row: u32, column: u8) -> Outcome {
 /// What becomes of a list by the points that are known.
 fn list_outcome(known: &[Row], list: u32) -> Outcome {
     if is_faulty(list) {
-        return refused(RequestFault::List(ListFault::UnknownDevice), 6, 2);
+        return refused(RequestFault::List(ListFault::UnknownDevice), 9, 2);
     }
-    for (row, number) in rows_of(list).iter().zip([2, 3, 4, 5]) {
+    for (row, number) in rows_of(list).iter().zip(2u32..9) {
         if differs(known, row) {
             return refused(RequestFault::PointDiffers, number, 1);
         }
     }
-    Outcome::Loaded(4)
+    Outcome::Loaded(7)
 }
 
 fn covers(read: Read, row: &Row) -> bool {
@@ -185,42 +253,68 @@ fn fits(asked: Asked, brought: Brought) -> bool {
     match (asked, brought) {
         (Asked::Read { read, .. }, Brought::Words(_, count)) => count == read.quantity,
         (Asked::Read { .. }, Brought::Exception(function, _)) => function == 3,
-        (Asked::Write { .. }, Brought::Exception(function, _)) => function == 6,
-        (Asked::Write { address, value, .. }, Brought::Echo(at, number)) => {
-            at == address && number == value
+        (Asked::Write { has_many, .. }, Brought::Exception(function, _)) => {
+            function == written_by(has_many)
         }
+        (
+            Asked::Write {
+                address,
+                number,
+                has_many,
+                ..
+            },
+            Brought::Echo(function, at, there),
+        ) => function == written_by(has_many) && at == address && there == number,
         _ => false,
     }
 }
 
+/// The function that writes a register, or several.
+pub(crate) fn written_by(has_many: bool) -> u8 {
+    if has_many { 16 } else { 6 }
+}
+
 /// How far a counter went from one number to the next.
-fn step(before: u16, after: u16) -> u16 {
+fn step(before: u64, after: u64, roll: u64) -> u64 {
     if after >= before {
         after - before
     } else {
-        after.saturating_add(1000 - before.min(1000))
+        after
+            .saturating_add(1)
+            .saturating_add(roll.saturating_sub(before))
     }
 }
 
-/// The number of a counter in a slot, where it counts.
-fn number_in(given: &[Given], point: usize, slot: u32) -> Option<u16> {
-    given
-        .iter()
-        .find(|reading| reading.point == point && reading.slot == slot && reading.first <= 999)
-        .map(|reading| reading.first)
+/// The registers of a number in an order's point, as bytes.
+fn bytes_of(alloc: Global, row: &Row, value: u32) -> Result<Vec<u8>, OfficeError> {
+    let mut bytes = Vec::new(alloc);
+    for place in 0..row.registers {
+        let behind = if row.is_swapped {
+            place
+        } else {
+            row.registers.saturating_sub(place).saturating_sub(1)
+        };
+        let word = match behind {
+            0 => value % 65536,
+            1 => value / 65536,
+            _ => 0,
+        };
+        bytes.extend_from_slice(&((word % 65536) as u16).to_be_bytes())?;
+    }
+    Ok(bytes)
 }
 
-/// A counter's total, of slots below so many.
-pub(crate) fn total(given: &[Given], point: usize, slots: u32) -> u128 {
-    let mut sum = 0u64;
-    let mut last = None;
-    for slot in 0..slots {
-        if let Some(number) = number_in(given, point, slot) {
-            sum = sum.saturating_add(step(last.unwrap_or(number), number) as u64);
-            last = Some(number);
-        }
+/// The unit that writes a number for an order.
+fn writing(alloc: Global, row: &Row, value: u32) -> Result<Vec<u8>, OfficeError> {
+    let registers = bytes_of(alloc, row, value)?;
+    let [high, low] = row.address.to_be_bytes();
+    let mut unit = Vec::from_slice(alloc, &[written_by(row.registers > 1), high, low])?;
+    if row.registers > 1 {
+        let count = (row.registers % 128) as u8;
+        unit.extend_from_slice(&[0, count, count.wrapping_mul(2)])?;
     }
-    sum as u128
+    unit.extend_from_slice(&registers)?;
+    Ok(unit)
 }
 
 impl Book {
@@ -232,7 +326,54 @@ impl Book {
             lines: Vec::new(alloc),
             queries: Vec::new(alloc),
             given: Vec::new(alloc),
+            voids: Vec::new(alloc),
         }
+    }
+
+    pub(crate) fn is_voided(&self, point: usize, slot: u32) -> bool {
+        self.voids.contains(&(point, slot))
+    }
+
+    /// The reading of a point in a slot.
+    pub(crate) fn reading(&self, point: usize, slot: u32) -> Option<Given> {
+        self.given
+            .iter()
+            .find(|given| given.point == point && given.slot == slot)
+            .copied()
+    }
+
+    /// The number of a counter in a slot, but for one that is too great for it, and where the slot is voided.
+    fn number_in(&self, point: usize, row: &Row, slot: u32) -> Option<u64> {
+        let value = self.reading(point, slot)?.value(row);
+        if value > row.roll || self.is_voided(point, slot) {
+            return None;
+        }
+        Some(value)
+    }
+
+    /// The total of a counter, of slots below so many.
+    pub(crate) fn total(&self, point: usize, row: &Row, slots: u32) -> u128 {
+        let mut sum = 0u128;
+        let mut last = None;
+        for slot in 0..slots {
+            if let Some(number) = self.number_in(point, row, slot) {
+                let further = step(last.unwrap_or(number), number, row.roll);
+                sum = sum.saturating_add(u128::from(further));
+                last = Some(number);
+            }
+        }
+        sum
+    }
+
+    /// How many readings of swapped points there are, and how many orders for such that were done.
+    pub(crate) fn swapped(&self) -> (usize, usize) {
+        let readings = self.given.iter().filter(|given| self
+            .known
+            .get(given.point)
+            .is_some_and(|row| row.is_swapped));
+        let orders = self.orders.iter().filter(|placed| placed.row.is_swapped
+            && placed.state == OrderState::Done);
+        (readings.count(), orders.count())
     }
 
     /// How many connections were made.
@@ -263,16 +404,32 @@ impl Book {
         if row.role != Role::Setting {
             return refused(RequestFault::NotASetting, 0, 0);
         }
-        if value >= 65535 {
+        let is_out = match row.registers {
+            1 => value >= 65535,
+            2 => value == u32::MAX,
+            _ => false,
+        };
+        if is_out {
             return refused(RequestFault::OutOfRange, 0, 0);
         }
         Outcome::Ordered((self.orders.len() % 65536) as u32 + 1)
+    }
+
+    fn void_outcome(&self, name: &str, slot: u32) -> Outcome {
+        let Some(row) = self.known.iter().find(|row| row.name == name) else {
+            return refused(RequestFault::UnknownPoint, 0, 0);
+        };
+        if row.role != Role::Counter {
+            return refused(RequestFault::NotACounter, 0, 0);
+        }
+        Outcome::Voided(slot)
     }
 
     fn outcome(&self, wanted: Wanted) -> Outcome {
         match wanted {
             Wanted::List(list) => list_outcome(&self.known, list),
             Wanted::Value(name, value) => self.order_outcome(name, value),
+            Wanted::Void(name, slot) => self.void_outcome(name, slot),
         }
     }
 
@@ -290,17 +447,28 @@ impl Book {
             return Ok(());
         };
         let placed = Placed {
-            address: row.address,
-            value: (value % 65536) as u16,
+            row: *row,
+            value,
             state: OrderState::Waiting,
         };
         push(&mut self.orders, placed)
+    }
+
+    fn add_void(&mut self, name: &str, slot: u32) -> Result<(), OfficeError> {
+        let Some(point) = self.known.iter().position(|row| row.name == name) else {
+            return Ok(());
+        };
+        if self.is_voided(point, slot) {
+            return Ok(());
+        }
+        push(&mut self.voids, (point, slot))
     }
 
     fn add(&mut self, wanted: Wanted, outcome: Outcome) -> Result<(), OfficeError> {
         match (wanted, outcome) {
             (Wanted::List(list), Outcome::Loaded(_)) => self.add_points(list),
             (Wanted::Value(name, value), Outcome::Ordered(_)) => self.add_order(name, value),
+            (Wanted::Void(name, slot), Outcome::Voided(_)) => self.add_void(name, slot),
             _ => Ok(()),
         }
     }
@@ -353,8 +521,13 @@ impl Book {
         (count % 65536) as u16
     }
 
-    /// The answer to a query, which is kept.
-    fn make_query(&mut self, conn: u32, asked: Asked) -> Result<EventAnswer, OfficeError> {
+    /// The answer to a query of this unit, which is kept.
+    fn make_query(
+        &mut self,
+        conn: u32,
+        asked: Asked,
+        unit: &[u8],
+    ) -> Result<EventAnswer, OfficeError> {
         let number = self.count(conn);
         let query = Query {
             conn,
@@ -362,14 +535,7 @@ impl Book {
             is_answered: false,
         };
         push(&mut self.queries, query)?;
-        let (function, first, second) = match asked {
-            Asked::Read { read, .. } => (3, read.start, read.quantity),
-            Asked::Write { address, value, .. } => (6, address, value),
-        };
-        let [high, low] = first.to_be_bytes();
-        let [above, below] = second.to_be_bytes();
-        let sent = frame(number, 17, &[function, high, low, above, below])?;
-        Ok(EventAnswer::Query(sent))
+        Ok(EventAnswer::Query(frame(number, 17, unit)?))
     }
 
     fn ask(&mut self, conn: u32, read: Read) -> Result<EventAnswer, OfficeError> {
@@ -378,7 +544,10 @@ impl Book {
             None => OfficeError::NoConnection,
             Some(0) if some => {
                 let known = self.known.len();
-                return self.make_query(conn, Asked::Read { read, known });
+                let [high, low] = read.start.to_be_bytes();
+                let [above, below] = read.quantity.to_be_bytes();
+                let asked = Asked::Read { read, known };
+                return self.make_query(conn, asked, &[3, high, low, above, below]);
             }
             Some(0) => OfficeError::NoRead,
             Some(_) => OfficeError::WrongLine,
@@ -393,6 +562,28 @@ impl Book {
             .position(|placed| placed.state == OrderState::Waiting)
     }
 
+    /// Sends the order at a place.
+    fn write(
+        &mut self,
+        conn: u32,
+        order: usize,
+        placed: Placed,
+    ) -> Result<EventAnswer, OfficeError> {
+        let has_many = placed.row.registers > 1;
+        let asked = Asked::Write {
+            order,
+            address: placed.row.address,
+            number: if has_many {
+                placed.row.registers
+            } else {
+                (placed.value % 65536) as u16
+            },
+            has_many,
+        };
+        let unit = writing(*self.orders.allocator(), &placed.row, placed.value)?;
+        self.make_query(conn, asked, &unit)
+    }
+
     fn send(&mut self, conn: u32, order: u32) -> Result<EventAnswer, OfficeError> {
         let place = (order as usize).wrapping_sub(1);
         let placed = self.orders.get(place).copied();
@@ -402,16 +593,25 @@ impl Book {
             (Some(0), Some(placed)) if placed.state != OrderState::Waiting => OfficeError::Settled,
             (Some(0), Some(_)) if self.oldest() != Some(place) => OfficeError::NotNext,
             (Some(0), Some(placed)) => {
-                let asked = Asked::Write {
-                    order: place,
-                    address: placed.address,
-                    value: placed.value,
-                };
-                return self.make_query(conn, asked);
+                return self.write(conn, place, placed);
             }
             (Some(_), Some(_)) => OfficeError::WrongLine,
         };
         Ok(EventAnswer::Refused(refusal))
+    }
+
+    /// What a reply to a read gives to the point at a place, if the read covers it and nothing is there.
+    fn given_at(&self, read: Read, point: usize, number: u16) -> Option<Given> {
+        let row = self.known.get(point)?;
+        if !covers(read, row) || self.reading(point, read.slot).is_some() {
+            return None;
+        }
+        Some(Given {
+            point,
+            slot: read.slot,
+            number,
+            offset: row.address.wrapping_sub(read.start),
+        })
     }
 
     /// Adds what the first reply to a read gives, but for what is there, and counts it.
@@ -419,16 +619,10 @@ impl Book {
         let Asked::Read { read, known } = asked else {
             return Ok(0);
         };
-        let slot = read.slot;
         let mut count = 0u32;
-        for (point, row) in self.known.iter().take(known).enumerate() {
-            let is_there = self
-                .given
-                .iter()
-                .any(|there| there.point == point && there.slot == slot);
-            if covers(read, row) && !is_there {
-                let first = number.wrapping_add(row.address.wrapping_sub(read.start));
-                push(&mut self.given, Given { point, slot, first })?;
+        for point in 0..known.min(self.known.len()) {
+            if let Some(given) = self.given_at(read, point, number) {
+                push(&mut self.given, given)?;
                 count = count.saturating_add(1);
             }
         }

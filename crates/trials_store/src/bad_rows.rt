@@ -45,7 +45,8 @@ enum Comes {
 
 use Comes::{Opening, Readings, Reply, Total};
 
-/// What makes a row wrong, what makes it right again, and who comes upon it.
+/// What makes a row wrong, what makes it right again, and who comes upon it. The last rows tell of the second point,
+/// which has one register, of the string, and of a point that isn't there, that they are swapped.
 const CASES: &[(&str, &str, &[Comes])] = &[
     (
         "UPDATE point SET len = 0 WHERE number = 3",
@@ -106,6 +107,21 @@ const CASES: &[(&str, &str, &[Comes])] = &[
         "UPDATE total SET value = x'80000000000000000000000000000000' WHERE point = 1",
         "UPDATE total SET value = x'00000000000000000000000000000000' WHERE point = 1",
         &[Total, Reply],
+    ),
+    (
+        "INSERT INTO swapped(point) VALUES (2)",
+        "DELETE FROM swapped",
+        &[Opening],
+    ),
+    (
+        "INSERT INTO swapped(point) VALUES (3)",
+        "DELETE FROM swapped",
+        &[Opening],
+    ),
+    (
+        "DROP TABLE swapped; CREATE TABLE swapped(point INTEGER PRIMARY KEY) STRICT; INSERT INTO swapped(point) VALUES (9)",
+        "DELETE FROM swapped",
+        &[Opening],
     ),
 ];
 

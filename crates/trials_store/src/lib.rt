@@ -1,6 +1,6 @@
-//! What an office over a database keeps: which databases and sites open, what a stop at each write
-//! leaves, files that are full, that fail once, and that have a damaged byte; rows that no office writes;
-//! readings that are written together; the totals that are stored.
+//! What an office over a database keeps: which databases and sites open, what a stop at each write leaves, also where
+//! tables of version 1 are moved; files that are full, that fail once, and that have a damaged byte; rows that no
+//! office writes; readings that are written together; the totals that are stored.
 #![tactic(auto)]
 
 #[cfg(test)]
@@ -9,6 +9,8 @@ mod bad_rows;
 mod damage;
 #[cfg(test)]
 mod disks;
+#[cfg(test)]
+mod migrating;
 #[cfg(test)]
 mod opening;
 #[cfg(test)]

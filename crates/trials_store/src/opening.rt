@@ -1,4 +1,5 @@
 //! Which databases are an office's, and which sites an office is opened with.
+use crate::migrating::moved;
 use office_core::OfficeError;
 use office_plays::builders::{BARE, MEMORY, begun, event_of, office_over};
 use office_plays::steps::Happens::{self, Load};
@@ -44,9 +45,10 @@ const OTHERS: &[(bool, &[&str], StoreError)] = &[
     (true, CHANGED, StoreError::BadVersion),
 ];
 
-pub(crate) fn run(connection: &mut Connection<MemStore>, sql: &str) -> Result<(), OfficeError> {
-    match connection.execute(sql, &[]) {
-        Ok(_) => Ok(()),
+/// Runs statements with `;` between them.
+pub(crate) fn run<S: Alter>(connection: &mut Connection<S>, sql: &str) -> Result<(), OfficeError> {
+    match connection.execute_batch(sql) {
+        Ok(()) => Ok(()),
         Err(Error::SqliteFailure(ErrorCode::OutOfMemory)) => Err(MEMORY),
         Err(_) => Err(OfficeError::Store(StoreFault::Other)),
     }
@@ -68,7 +70,17 @@ fn refused(
     }
 }
 
-/// What has these statements behind it isn't opened, as often as it is tried.
+/// It isn't moved to another version either, for the same reason.
+fn is_unmoved(
+    trial: &Trial<'_>,
+    connection: &mut Connection<MemStore>,
+    expected: StoreError,
+) -> Result<(), OfficeError> {
+    trial.told(&"unmoved", &moved(connection)?, &Err(expected));
+    Ok(())
+}
+
+/// What has these statements behind it isn't opened, as often as it is tried, nor moved.
 fn are_refused(
     trial: &Trial<'_>,
     is_made: bool,
@@ -82,7 +94,8 @@ fn are_refused(
     for sql in statements {
         run(&mut connection, sql)?;
     }
-    let connection = refused(trial, connection, expected)?;
+    let mut connection = refused(trial, connection, expected)?;
+    is_unmoved(trial, &mut connection, expected)?;
     refused(trial, connection, expected)?;
     Ok(())
 }

@@ -6,7 +6,9 @@ use crate::plays::{
 };
 use office_core::{EventAnswer, Office, OfficeError};
 use office_plays::builders::{MEMORY, event_of, office_over};
-use office_plays::steps::Happens::{self, Arrive, Ask, Load, Open, Order, Restart, Send};
+use office_plays::steps::Happens::{
+    self, Arrive, Ask, Load, LoadOrdered, Open, Order, Restart, Send, Void,
+};
 use office_plays::steps::{opened, push, take};
 use office_plays::tables::text_of;
 use office_store::{SqlKeeper, StoreError};
@@ -19,7 +21,7 @@ use std::test::Fail;
 use store_plays::begin;
 use telling::{Trial, twice};
 
-const HAPPENINGS: &[Happens] = &[
+pub(crate) const HAPPENINGS: &[Happens] = &[
     Load("l1", POINTS),
     Order("k1", "lim", 80),
     Open("roof"),
@@ -32,7 +34,12 @@ const HAPPENINGS: &[Happens] = &[
     Restart,
     Order("k2", "lim", 90),
     Open("roof"),
+    Void("v1", "a", 5),
+    LoadOrdered("l2", "w,m1,holding,120,uint32,,,gauge,,swapped\n"),
 ];
+
+/// How many of these are of today's tables alone: what came before them could happen over tables of version 1.
+pub(crate) const NEW: usize = 2;
 
 const PLAYING: Playing = Playing {
     is_new: false,
@@ -41,9 +48,9 @@ const PLAYING: Playing = Playing {
 };
 
 /// The keys of its requests.
-const KEYS: &[&str] = &["l1", "k1", "k2"];
+pub(crate) const KEYS: &[&str] = &["l1", "k1", "k2", "v1", "l2"];
 
-fn take_first<K: Keeper>(
+pub(crate) fn take_first<K: Keeper>(
     alloc: Global,
     office: &mut Office<K>,
     count: usize,
@@ -62,7 +69,7 @@ fn twin_after(alloc: Global, count: usize) -> Result<Office<MemKeeper>, OfficeEr
 }
 
 /// Its tables as text.
-fn tables_after(alloc: Global, count: usize) -> Result<String, OfficeError> {
+pub(crate) fn tables_after(alloc: Global, count: usize) -> Result<String, OfficeError> {
     text_of(alloc, &mut twin_after(alloc, count)?.into_keeper(), KEYS)
 }
 
@@ -87,7 +94,7 @@ fn asked_again<K: Keeper>(
 ) -> Result<(Vec<EventAnswer>, u32), OfficeError> {
     let mut answers = Vec::new(alloc);
     for happens in HAPPENINGS {
-        if let Load(..) | Order(..) = happens {
+        if let Load(..) | Order(..) | Void(..) | LoadOrdered(..) = happens {
             push(&mut answers, take(office, &event_of(alloc, happens)?)?)?;
         }
     }
@@ -140,15 +147,23 @@ fn goes_on<K: Keeper>(
     are_answered(trial, office)
 }
 
-/// Each of the two counters has a row in the table of totals.
-fn have_totals<S: Alter>(
+/// How many rows a table has in the end: of totals two, one for each counter.
+const ROWS: &[(&str, usize)] = &[
+    ("SELECT point FROM total", 2),
+    ("SELECT point FROM void", 1),
+    ("SELECT point FROM swapped", 1),
+];
+
+fn have_rows<S: Alter>(
     trial: &Trial<'_>,
     connection: &mut Connection<S>,
 ) -> Result<(), OfficeError> {
-    let Ok(rows) = connection.query_all("SELECT point FROM total", &[]) else {
-        return Err(MEMORY);
-    };
-    trial.told(&"totals", &rows.len(), &2);
+    for (query, count) in ROWS {
+        let Ok(rows) = connection.query_all(query, &[]) else {
+            return Err(MEMORY);
+        };
+        trial.told(query, &rows.len(), count);
+    }
     Ok(())
 }
 
@@ -223,12 +238,12 @@ impl Task for GoingOn {
     ) -> Result<(Option<Reached>, S), OfficeError> {
         let keeper = self.begun(trial, self.kept(trial, connection)?)?;
         let mut connection = keeper.into_connection();
-        have_totals(trial, &mut connection)?;
+        have_rows(trial, &mut connection)?;
         Ok((self.reached, connection.into_store()))
     }
 }
 
-type Stopped = Files<Fuse<Memory>>;
+pub(crate) type Stopped = Files<Fuse<Memory>>;
 
 /// Does a task with the database that a stop left, opened anew.
 fn reopened<T: Task>(trial: &Trial<'_>, files: &Stopped, task: &T) -> Result<(), OfficeError> {
@@ -237,12 +252,34 @@ fn reopened<T: Task>(trial: &Trial<'_>, files: &Stopped, task: &T) -> Result<(),
     Ok(())
 }
 
-/// Expects what both outcomes of a stop leave: all that was written, and only what was flushed.
-fn are_left(trial: &Trial<'_>, files: &mut Stopped, going_on: &GoingOn) -> Result<(), OfficeError> {
-    reopened(trial, files, going_on)?;
+/// Does a task with what both outcomes of a stop leave: all that was written, and only what was flushed.
+pub(crate) fn are_left<T: Task>(
+    trial: &Trial<'_>,
+    files: &mut Stopped,
+    task: &T,
+) -> Result<(), OfficeError> {
+    reopened(trial, files, task)?;
     files.log.crash();
     files.db.crash();
-    reopened(trial, files, going_on)
+    reopened(trial, files, task)
+}
+
+/// Does a task with copies of files, of which one fails after so many calls. The log is copied into the database
+/// file after so many frames.
+pub(crate) fn stopped<T: Task>(
+    trial: &Trial<'_>,
+    files: &Files<Memory>,
+    (which, calls): (Which, u64),
+    task: &T,
+    frames: usize,
+) -> Result<(Option<Reached>, Stopped), OfficeError> {
+    let (log, db) = which.both(calls, u64::MAX);
+    let files = copies(trial.alloc(), &files.log, &files.db)?;
+    let files = Files {
+        log: Fuse::new(files.log, log),
+        db: Fuse::new(files.db, db),
+    };
+    done_on(trial, files, options(64, frames), task)
 }
 
 /// Stops an office after so many calls of a file, and expects what this leaves. Tells whether it was stopped.
@@ -250,17 +287,10 @@ fn is_stopped(
     trial: &Trial<'_>,
     files: &Files<Memory>,
     playing: &Playing,
-    which: Which,
-    calls: u64,
+    stop: (Which, u64),
 ) -> Result<bool, OfficeError> {
-    let (log, db) = which.both(calls, u64::MAX);
-    let files = copies(trial.alloc(), &files.log, &files.db)?;
-    let files = Files {
-        log: Fuse::new(files.log, log),
-        db: Fuse::new(files.db, db),
-    };
-    // The log is copied into the database file every few commits, so that both are written.
-    let (reached, mut files) = done_on(trial, files, options(64, 8), playing)?;
+    // The log is copied every few commits, so that both files are written.
+    let (reached, mut files) = stopped(trial, files, stop, playing, 8)?;
     let going_on = GoingOn {
         is_new: playing.is_new,
         reached,
@@ -279,7 +309,7 @@ fn are_stops(
 ) -> Result<(), OfficeError> {
     let mut stops = 0u64;
     for calls in 0..u64::MAX {
-        if !is_stopped(trial, files, playing, which, calls)? {
+        if !is_stopped(trial, files, playing, (which, calls))? {
             break;
         }
         stops = stops.saturating_add(1);

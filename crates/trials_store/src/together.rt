@@ -4,7 +4,7 @@ use office_core::OfficeError;
 use office_plays::builders::office_after;
 use office_plays::steps::Happens::{self, Load};
 use point_list::Items;
-use poll_book::{Change, Keeper, MemKeeper, PointRow, ReadingRow, StoreFault};
+use poll_book::{Change, Keeper, MemKeeper, PointRow, ReadingRow, StoreFault, Words};
 use std::alloc::Global;
 use std::test::Fail;
 use store_plays::stored;
@@ -41,9 +41,12 @@ const CASES: &[(usize, usize, usize, &str)] = &[
 fn change_of(alloc: Global, points: &[PointRow], counted: bool) -> Result<Change, StoreFault> {
     let mut readings = Vec::new(alloc);
     for point in points {
-        let mut reading = ReadingRow::new(alloc, point, 3, &[700])?;
-        reading.counted = counted;
-        readings.push(reading)?;
+        readings.push(ReadingRow {
+            point: point.number,
+            slot: 3,
+            words: Words::new(alloc, &[700])?,
+            counted,
+        })?;
     }
     Ok(Change {
         readings: Items::from_vec(readings),

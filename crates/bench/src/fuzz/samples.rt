@@ -27,6 +27,8 @@ pub const CALLS: &[&[u8]] = &[
     b"GET /points/e/readings/0/9 HTTP/1.0\r\n\r\n",
     b"GET /callers/ann/orders/k1 HTTP/1.1\r\n\r\n",
     b"PUT /callers/ann/orders/k1 HTTP/1.1\r\nContent-Length: 26\r\n\r\n{\"point\":\"lim\",\"value\":80}",
+    b"GET /callers/ann/voids/v1 HTTP/1.1\r\nHost: a\r\n\r\n",
+    b"PUT /callers/ann/voids/v1 HTTP/1.1\r\nContent-Length: 22\r\n\r\n{\"point\":\"e\",\"slot\":2}",
     b"PUT /callers/ann/lists/l1 HTTP/1.1\r\nContent-Length: 89\r\n\r\nname,device,table,address,type,length,scale,role,roll\ne,m1,holding,107,uint16,,,counter,\n",
 ];
 
@@ -34,6 +36,7 @@ pub const LISTS: &[&[u8]] = &[
     b"name,device,table,address,type,length,scale,role,roll\ne,m1,holding,107,uint16,,,counter,\nlim,m1,holding,40,uint16,,,setting,\n",
     b"\xEF\xBB\xBFname,device,table,address,type,length,scale,role,roll\r\n\"e\",m1,holding,m103+24,acc32,,-2,counter,99999\r\ns,m2,input,9,string,8,,gauge,\r\n",
     b"name,device,table,address,type,length,scale,role,roll\nb,m2,coil,0,bit,1,0,setting,\nd,m2,discrete,65535,bit,,,gauge,\n",
+    b"name,device,table,address,type,length,scale,role,roll,words\ne,m1,holding,107,uint32,,,counter,,swapped\nlim,m1,holding,40,int64,,,setting,,big\ns,m2,input,9,string,8,,gauge,,\n",
 ];
 
 pub const SITES: &[&[u8]] = &[
@@ -47,7 +50,7 @@ pub const IMAGES: &[&[u8]] = &[
 ];
 
 pub const SCRIPTS: &[&[u8]] = &[
-    b"device m1 roof 17\npoint e,m1,holding,107,uint16,,,counter,\nopen roof\nask 1 m1 1 3 107 1\nreply 1 00 00 00 00 00 05 11 03 02 FD E8\nrestart\n",
+    b"device m1 roof 17\npoint e,m1,holding,107,uint16,,,counter,\nopen roof\nask 1 m1 1 3 107 1\nreply 1 00 00 00 00 00 05 11 03 02 FD E8\nvoid v1 e 1\nrestart\n",
     b"device m1 roof 17\npoint lim,m1,holding,40,uint16,,,setting,\norder k1 lim 80\nopen roof\nsend 1 1\nreply 1 00 00 00 00 00 06 11 06 00 28 00 50\n# end\n",
 ];
 
@@ -57,6 +60,8 @@ pub const WORDS: &[&[u8]] = &[
     b"order --store f --site s --caller ann --key k1 lim -- -5",
     b"report --store f --site s e 1 2",
     b"serve --store f --site s --port 8080 --count 1 --timeout 9",
+    b"void --store f --site s --caller ann --key v1 e 12",
+    b"migrate --store f --timeout 9",
     b"sim --image i --port 5020",
     b"discover --site s m1",
     b"help poll",

@@ -3,7 +3,7 @@ use crate::fuzz::dice::{Dice, change};
 use crate::fuzz::{Came, Trouble};
 use crate::pace::granted;
 use office_plays::builders::office_after;
-use office_plays::steps::Happens::{self, Arrive, Ask, Load, Open, Order, Send};
+use office_plays::steps::Happens::{self, Arrive, Ask, Load, LoadOrdered, Open, Order, Send, Void};
 use poll_book::{Keeper, PointRow};
 use sqlite::{Alter, Connection, FileStore, Files, Options};
 use sqlite_disk::{Disk, Memory};
@@ -29,6 +29,8 @@ const HAPPENINGS: &[Happens] = &[
     Arrive(1, 0, 17, &[3, 2, 0x02, 0x2B]),
     Ask(1, "m1", 6, (3, 107, 1)),
     Arrive(1, 1, 17, &[3, 2, 0x03, 0x2B]),
+    Void("v1", "a", 6),
+    LoadOrdered("l2", "w,m1,holding,120,uint32,,,counter,,swapped\n"),
     Send(1, 1),
     Arrive(1, 2, 17, &[6, 0, 40, 0, 80]),
 ];
@@ -84,6 +86,7 @@ fn is_told<K: Keeper>(alloc: Global, keeper: &mut K, point: &PointRow) -> bool {
     keeper.total(point).is_ok()
         && keeper.before(point, 6).is_ok()
         && keeper.after(point, 5).is_ok()
+        && keeper.voided(point, 6).is_ok()
         && keeper.readings(alloc, point, 0, u32::MAX).is_ok()
 }
 
@@ -103,6 +106,7 @@ fn looked<K: Keeper>(alloc: Global, keeper: &mut K) -> Came {
     let told = are_told(alloc, keeper)
         && keeper.setting(1).is_ok()
         && keeper.oldest_waiting("m1").is_ok()
+        && keeper.voids().is_ok()
         && keeper.connections().is_ok();
     if told { Came::Value } else { Came::Refused }
 }

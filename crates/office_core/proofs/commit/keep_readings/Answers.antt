@@ -1,6 +1,8 @@
-use Rattle.std.proofs.Common.{◌≡◌, ◌⊎◌, inl, inr, ◌∙◌, subst}
-use Rattle.poll_book.specs.Changes.{keyed}
+use Rattle.std.proofs.Common.{◌≡◌, ◌⊎◌, inl, inr, length, sym, ap, ◌∙◌, subst}
+use Rattle.std.proofs.lemmas.List.{length-map}
+use Rattle.poll_book.specs.Changes.{as_row, keyed}
 use Rattle.office_core.specs.Keeping.{with_given}
+use Rattle.office_core.proofs.Marks.{count_marked}
 use Rattle.office_core.proofs.Newness.{IsReplied, applied_replied, left_refused, new_replied, totals_had}
 use Rattle.office_core.proofs.commit.keep_readings.Goals as goal
 
@@ -54,3 +56,13 @@ returns-in_err-write-clause-leaves g c clean kept h counted are left m =
       | inr made ↦ inr (made ∙ applied_replied change kept slot covered is counted are)
     ] in
     left_refused may kept (with_given (keyed slot covered) kept) left c.from_residual-in_err-write.result c.from_residual-in_err-write.ensures.0 lost
+
+pub returns-clause-count : goal.returns-clause-count
+returns-clause-count g c clean kept h =
+    ap length c.as_slice.ensures ∙ sym (length-map c.in_ok-change.change.readings as_row) ∙ ap length (c.in_ok-change.ensures.readings (c.write.ensures.clean clean) kept h)
+    ∙ count_marked kept.voids kept.readings (keyed c.args.slot c.args.covered.now)
+
+pub returns-then-count-eq0-clause-count : goal.returns-then-count-eq0-clause-count
+returns-then-count-eq0-clause-count g c clean kept h =
+    sym c.if-count-eq0.true ∙ ap length c.as_slice.ensures ∙ sym (length-map c.in_ok-change.change.readings as_row)
+    ∙ ap length (c.in_ok-change.ensures.readings clean kept h) ∙ count_marked kept.voids kept.readings (keyed c.args.slot c.args.covered.now)

@@ -2,7 +2,7 @@ use Rattle.std.proofs.Common.{◌∙◌, Option, sym, ap}
 use Rattle.std.specs.Int.{w128}
 use Rattle.std.proofs.lemmas.Int.{to_z-of_z}
 use Rattle.poll_book.specs.declared.rows.PointRow.{PointRow}
-use Rattle.office_core.specs.Registers.{registers_of}
+use Rattle.office_core.specs.Registers.{registers_for}
 use Rattle.office_core.specs.Orders as order
 use Rattle.office_core.proofs.Ordering.{no_setting, no_registers, no_number}
 use Rattle.office_core.proofs.orders.place_order.Goals as goal
@@ -20,16 +20,16 @@ returns-in_default-role c =
       row = c.refused-in_default-role.ensures.row ∙ ap (order.ordering_row orders) (sym is);
     }
 
-pub returns-in_default-registers_of-clause-outcome : goal.returns-in_default-registers_of-clause-outcome
-returns-in_default-registers_of-clause-outcome c =
+pub returns-in_default-registers_for-clause-outcome : goal.returns-in_default-registers_for-clause-outcome
+returns-in_default-registers_for-clause-outcome c =
     let orders = c.args.orders in
     let is = ap (λ (o : Option PointRow). order.ordering_of orders o c.args.value) c.in-Some.is
-    ∙ no_registers orders c.in-Some.known c.args.value c.in-Setting.is (sym c.in_default-registers_of.is ∙ c.registers_of.ensures ∙ ap (registers_of c.in-Some.known.point.kind) (to_z-of_z w128 c.args.value c.ranges.value)) in
-    c.refused-in_default-registers_of.ensures.outcome orders ∙ ap (order.ordered orders) (sym is)
+    ∙ no_registers orders c.in-Some.known c.args.value c.in-Setting.is (sym c.in_default-registers_for.is ∙ c.registers_for.ensures ∙ ap (registers_for c.in-Some.known.point) (to_z-of_z w128 c.args.value c.ranges.value)) in
+    c.refused-in_default-registers_for.ensures.outcome orders ∙ ap (order.ordered orders) (sym is)
 
 pub returns-then-orders-ge-MOST-clause-outcome : goal.returns-then-orders-ge-MOST-clause-outcome
 returns-then-orders-ge-MOST-clause-outcome c =
     let orders = c.args.orders in
     let is = ap (λ (o : Option PointRow). order.ordering_of orders o c.args.value) c.in-Some.is
-    ∙ no_number orders c.in-Some.known c.args.value c.in-Some-registers_of.registers c.in-Setting.is (sym c.in-Some-registers_of.is ∙ c.registers_of.ensures ∙ ap (registers_of c.in-Some.known.point.kind) (to_z-of_z w128 c.args.value c.ranges.value)) c.if-orders-ge-MOST.true in
+    ∙ no_number orders c.in-Some.known c.args.value c.in-Some-registers_for.registers c.in-Setting.is (sym c.in-Some-registers_for.is ∙ c.registers_for.ensures ∙ ap (registers_for c.in-Some.known.point) (to_z-of_z w128 c.args.value c.ranges.value)) c.if-orders-ge-MOST.true in
     c.refused-then-orders-ge-MOST.ensures.outcome orders ∙ ap (order.ordered orders) (sym is)

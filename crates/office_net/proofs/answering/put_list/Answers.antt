@@ -1,4 +1,5 @@
 use Rattle.std.proofs.Common.{inl, refl}
+use Rattle.point_list.specs.Edition.{Second}
 use Rattle.office_core.specs.History.{Load}
 use Rattle.office_core.specs.Offices.{CauseFrom}
 use Rattle.office_http.specs.Meanings.{load}
@@ -14,5 +15,5 @@ returns-in-Err-clause-goes g c = λ clean.
     let key = c.args.key.now in
     let list = c.args.list.now in
     let e = c.in-Err.error in
-    inl (misses (Follows old) (Follows new) (MayLeave old) (MayLeave new) (load caller key list) (Load caller key list) refl e
+    inl (misses (Follows old) (Follows new) (MayLeave old) (MayLeave new) (load caller key list) (Load Second caller key list) refl e
     (of_store (CauseFrom old new) e c.in-Err.ensures.cause) (c.in-Err.ensures.went clean))

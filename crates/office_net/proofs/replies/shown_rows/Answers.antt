@@ -12,6 +12,6 @@ loop-row-preserved c = λ form are.
     let point = c.args.point.now in
     let row = c.row-item.result in
     let more : take (i + 1) rows ≡ take i rows ++ row ∷ [] = take_more rows i row c.loop-row-test.true ∙ ap (λ e. take i rows ++ e ∷ []) (sym c.row-item.is) in
-    let registers : AreRegistersOf point.kind row.words = subst (λ r. AreRegistersOf point.kind r.words) (sym c.row-item.is) (registers_at point rows i row c.loop-row-test.true are) in
+    let registers : AreRegistersOf point.kind row.reading.words = subst (λ r. AreRegistersOf point.kind r.reading.words) (sym c.row-item.is) (registers_at point rows i row c.loop-row-test.true are) in
     shown_more point c.loop-row.shown.items c.push.new.self.items c.in_ok-shown_of.field-0 (take i rows) (take (i + 1) rows) row c.in_ok-push.ensures.items more
     (c.loop-row.invariant form are) (c.in_ok-shown_of.ensures form registers)

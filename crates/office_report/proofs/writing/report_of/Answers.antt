@@ -1,9 +1,9 @@
 use Rattle.std.proofs.Common.{ap, ◌∙◌, sym, subst}
-use Rattle.std.specs.Prelude.{string_bytes}
-use Rattle.poll_book.specs.Changes.{as_rows}
+use Rattle.std.specs.Prelude.{map, string_bytes}
 use Rattle.office_core.specs.Fitting.{AreOf}
 use Rattle.office_core.specs.Offices.{Shows, readings_of}
-use Rattle.office_report.specs.Reports.{report_lines}
+use Rattle.office_core.specs.Showing.{as_shown}
+use Rattle.office_report.specs.Reports.{report_lines, rows_of}
 use Rattle.office_report.proofs.Reported.{report_is, still_stands}
 use Rattle.office_report.proofs.writing.report_of.Goals as goal
 
@@ -17,5 +17,5 @@ returns-clause-text g c = λ clean before stands legal.
     (c.in-Some.ensures before stands) (c.fitting_tables.ensures before legal)
     (subst (Shows (readings_of before name c.args.from c.args.to)) c.in-Some-2.is (c.in_ok-rows.ensures.value mid before stands))
     (c.in_ok-total.ensures.value clean before after)
-    (λ form are. c.in_ok-report.ensures form (subst (λ rows. AreOf point (as_rows rows)) (sym c.deref.ensures.value) are)
-    ∙ ap (λ rows. report_lines point (as_rows rows) c.in_ok-total.total) c.deref.ensures.value)
+    (λ form are. c.in_ok-report.ensures form (subst (λ rows. AreOf point (rows_of (map as_shown rows))) (sym c.deref.ensures.value) are)
+    ∙ ap (λ rows. report_lines point (map as_shown rows) c.in_ok-total.total) c.deref.ensures.value)

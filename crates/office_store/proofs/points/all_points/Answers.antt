@@ -1,19 +1,13 @@
-use Rattle.std.proofs.Common.{[]}
-use Rattle.sqlite.specs.Held.{state}
-use Rattle.office_store.specs.Texts.{points_text}
-use Rattle.office_store.proofs.Asking.{after_ok}
-use Rattle.office_store.proofs.Queries.{points_is_query}
-use Rattle.office_store.proofs.ByNumber as by
+use Rattle.std.proofs.Common.{ap, map, ◌∙◌}
+use Rattle.office_store.specs.Swaps.{as_swap}
+use Rattle.office_store.proofs.Merging.{merged}
 use Rattle.office_store.proofs.points.all_points.Goals as goal
 
-pub ask-requires-clause-query : goal.ask-requires-clause-query
-ask-requires-clause-query g c = points_is_query
-
-pub returns-in-Ok-clause-value : goal.returns-in-Ok-clause-value
-returns-in-Ok-clause-value g c clean kept holds =
-    let old = state g.S.Store c.args.connection.now in
-    let new = state g.S.Store c.ask.new.connection in
-    let rows = c.in-Ok.rows.items in
-    let shown = c.in-Ok.ensures.rows clean in
-    let held = holds (c.ask.ensures.keeps.clean clean) (after_ok points_text [] old new points_is_query rows shown).0.was_open in
-    by.all_points old new kept held rows shown c.all_of.result (rw c.deref.ensures.value at c.all_of.ensures)
+pub returns-clause-value : goal.returns-clause-value
+returns-clause-value g c clean kept holds =
+    let before = c.all_swaps.ensures.keeps.clean clean in
+    let plains = c.deref.ensures.value ∙ c.in_ok-points.ensures.value before kept holds in
+    let held = c.plain_points.ensures.keeps.holds kept holds in
+    let numbers = ap (map as_swap) c.deref-2.ensures.value ∙ c.in_ok-swaps.ensures.value clean kept held in
+    let told = c.with_swaps.ensures in
+    merged c.with_swaps.result kept.points c.deref.result.now c.deref-2.result.now (c.in_ok-points.ensures.in_order before kept holds) plains numbers told.plain told.swaps

@@ -16,4 +16,4 @@ returns-in-Ok-clause-value g c clean kept holds =
     let rows = c.in-Ok.rows.items in
     let shown = c.in-Ok.ensures.rows clean in
     let held = holds (c.ask.ensures.keeps.clean clean) (after_ok waiting_text [] old new waiting_is_query rows shown).0.was_open in
-    all_waiting old new kept held rows shown c.all_of.result (rw c.deref.ensures.value at c.all_of.ensures)
+    all_waiting old new kept held rows shown c.all_of.result (rw c.deref.ensures.value at c.all_of.ensures.shown)

@@ -31,4 +31,4 @@ returns-in-len1-clause-value g c clean kept holds =
     let shown = rw c.params-to_sql.ensures at (c.in-Ok.ensures.rows clean) in
     let held = holds (c.ask.ensures.keeps.clean clean) (after_ok setting_text (given c.args.number) old new setting_is_query rows shown).0.was_open in
     let all = only rows c.as_slice.result.now row c.as_slice.ensures.value c.in-len1.len_at_least c.in-len1.len_below c.row-item.is in
-    one_setting c.args.number old new kept held row [] (subst (Shown setting_text (given c.args.number) old new) all shown) (as_setting c.in_ok-found-in-len1.found) c.in_ok-found-in-len1.ensures
+    one_setting c.args.number old new kept held row [] (subst (Shown setting_text (given c.args.number) old new) all shown) (as_setting c.in_ok-found-in-len1.found) c.in_ok-found-in-len1.ensures.shown

@@ -26,12 +26,12 @@ loop-record-preserved c =
     let items = rw pushed at c.push.ensures.items in
     let good : is_ok c.add.result ≡ true = search rules in
     let added = rw c.field_of.ensures at (on_ok c.add.result good c.add.ensures) in
-    let few = few_names (has_text c.args.devices.now) (names_of rows) (fields_of x) judged.0 in
+    let few = few_names c.args.columns (has_text c.args.devices.now) (names_of rows) (fields_of x) judged.0 in
     record {
       number = omega arith;
       count = rw items (omega (arith, length-append rows (y ∷ [])));
       few = omega (arith, few, length-map rows (λ (z : ListRow). z.point.name));
-      faultless = below_more _ _ inv.faultless (more_faultless (has_text c.args.devices.now) body i x (names_of rows) _ lt c.record-item.is inv.named judged.0);
+      faultless = below_more _ _ inv.faultless (more_faultless c.args.columns (has_text c.args.devices.now) body i x (names_of rows) _ lt c.record-item.is inv.named judged.0);
       say = rw items (more_rows body i c.loop-record.number x rows y lt c.record-item.is inv.number inv.say judged.1);
       named = rw items (more_names body i x rows y lt c.record-item.is inv.named judged.1.point);
       known = λ text. rw items (

@@ -11,7 +11,7 @@ invariant-loop-record l = record {
   number : l.number ≡ l.record-index + 2;
   count : length l.rows.items ≡ l.record-index;
   few : l.record-index ≤ 10000;
-  faultless : FaultlessBelow (has_text l.devices) (map fields_of l.body) l.record-index;
+  faultless : FaultlessBelow l.columns (has_text l.devices) (map fields_of l.body) l.record-index;
   say : SayRows 2 (take l.record-index (map fields_of l.body)) l.rows.items;
   named : names_of l.rows.items ≡ names_in (take l.record-index (map fields_of l.body));
   known : (text : List ℕ) → has_text l.names text ≡ list_any (λ name. bytes_eq text name) (names_of l.rows.items);

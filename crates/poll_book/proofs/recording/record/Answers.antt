@@ -6,7 +6,7 @@ use Rattle.poll_book.specs.declared.rows.PointRow.{PointRow}
 use Rattle.poll_book.specs.declared.rows.Reading.{Reading}
 use Rattle.poll_book.specs.declared.rows.TotalRow.{TotalRow}
 use Rattle.poll_book.specs.declared.recording.Lacking.{Lacking}
-use Rattle.poll_book.specs.Tables.{Key, new_rows, sum_at}
+use Rattle.poll_book.specs.Tables.{Key, marked, new_rows, sum_at}
 use Rattle.poll_book.specs.Totals.{is_counter, total}
 use Rattle.poll_book.specs.Changes.{as_row, as_sum, keyed, new_sums}
 use Rattle.poll_book.proofs.Covered.{rows_more, sums_more}
@@ -32,15 +32,15 @@ loop-entry-preserved g c =
       readings = λ clean kept holds.
           c.in_ok-push_found.ensures.readings
           ∙ ap (λ l. l ++ rows_found) (inv.readings (it.clean clean) kept holds)
-          ∙ ap (λ l. new_rows kept.readings (keyed slot (take i covered)) ++ l) (c.in_ok-found.ensures.reading clean kept (inv.same kept holds))
-          ∙ rows_more kept.readings slot covered i one more;
+          ∙ ap (λ l. new_rows kept.readings (marked kept.voids (keyed slot (take i covered))) ++ l) (c.in_ok-found.ensures.reading clean kept (inv.same kept holds))
+          ∙ rows_more kept.voids kept.readings slot covered i one more;
       totals = λ clean kept holds sorted stored.
           let Stored = λ (x : PointRow × List ℕ). is_counter x.0.point.role ≡ true → sum_at kept.totals x.0.number ≡ Some (total x.0 kept.readings) in
           let own : Stored one = subst Stored (sym here) (subst Stored (sym c.entry-item.is) (stored i entry (omega (arith, c.loop-entry-test.true)))) in
           c.in_ok-push_found.ensures.totals
           ∙ ap (λ l. l ++ sums_found) (inv.totals (it.clean clean) kept holds sorted stored)
-          ∙ ap (λ l. new_sums kept.readings slot (take i covered) ++ l) (c.in_ok-found.ensures.total clean kept (inv.same kept holds) sorted (All-cons Stored one [] own (All-nil Stored)))
-          ∙ sums_more kept.readings slot covered i one more;
+          ∙ ap (λ l. new_sums kept.voids kept.readings slot (take i covered) ++ l) (c.in_ok-found.ensures.total clean kept (inv.same kept holds) sorted (All-cons Stored one [] own (All-nil Stored)))
+          ∙ sums_more kept.voids kept.readings slot covered i one more;
       few = omega (arith, inv.few, c.in_ok-push_found.ensures.few);
       looks = (omega (arith, inv.looks.0, it.looks.0), omega (arith, inv.looks.1, it.looks.1));
       same = λ kept holds. it.same kept (inv.same kept holds);

@@ -1,4 +1,5 @@
 use Rattle.std.proofs.Common.{◌≡◌, ◌∙◌, inl, true, false, List, ◌++◌, None, length, refl, sym, ap, subst, arith, length-append}
+use Rattle.point_list.specs.Edition.{Second}
 use Rattle.poll_book.specs.declared.rows.Change.{Change}
 use Rattle.poll_book.specs.declared.rows.PointRow.{PointRow}
 use Rattle.poll_book.specs.declared.requests.Body.TheVariants as body
@@ -30,15 +31,15 @@ returns-clause-goes g c clean =
     let new : Tables → Type 0 = holds c.commit.new.keeper in
     let known = office.points.items in
     let list = c.args.list.now in
-    let more = added (length known) (loading office.site known list) in
-    let told = outcome (loading office.site known list) in
-    let is_told : c.in_ok-outcome.outcome ≡ told = c.in_ok-outcome.ensures.outcome ∙ ap (λ (l : List PointRow). outcome (loading office.site l list)) c.deref.ensures.value in
-    let is_more : c.in_ok-outcome.points.items ≡ more = c.in_ok-outcome.ensures.added ∙ ap (λ (l : List PointRow). added (length l) (loading office.site l list)) c.deref.ensures.value in
+    let more = added (length known) (loading Second office.site known list) in
+    let told = outcome (loading Second office.site known list) in
+    let is_told : c.in_ok-outcome.outcome ≡ told = c.in_ok-outcome.ensures.outcome ∙ ap (λ (l : List PointRow). outcome (loading Second office.site l list)) c.deref.ensures.value in
+    let is_more : c.in_ok-outcome.points.items ≡ more = c.in_ok-outcome.ensures.added ∙ ap (λ (l : List PointRow). added (length l) (loading Second office.site l list)) c.deref.ensures.value in
     let request : RequestRow = record { caller = c.args.caller.now; key = c.args.key.now; body = body.List list; outcome = told } in
     let is_request : c.in_ok-request.request ≡ request = c.in_ok-request.ensures ∙ (λ i. record request { outcome = is_told i }) in
     let change : c.request_change-change.result ≡ asked_change more None request = c.request_change-change.ensures ∙ (λ i. asked_change (is_more i) None (is_request i)) in
     let numbered : (kept : Tables) → known ≡ kept.points → AreNumbered (length kept.points) more =
-    λ kept copy. subst (λ (l : List PointRow). AreNumbered (length l) more) copy (numbered_added (length known) (loading office.site known list)) in
+    λ kept copy. subst (λ (l : List PointRow). AreNumbered (length l) more) copy (numbered_added (length known) (loading Second office.site known list)) in
     let longer : c.add_points.new.points.items ≡ known ++ more =
     c.add_points.ensures ∙ (λ i. c.reserve.ensures.items i ++ (c.as_slice.ensures ∙ ap (λ (x : Change). x.points) change) i) in
     subst (Goes (λ before. StandsFor old office.site known office.matcher before × (request_at (requests before) (c.args.caller.now, c.args.key.now) ≡ None))
@@ -64,15 +65,15 @@ returns-clause-leaves g c clean =
     let may' : Tables → Type 0 = g.K.Neighbours.may_leave c.commit.new.keeper in
     let known = office.points.items in
     let list = c.args.list.now in
-    let more = added (length known) (loading office.site known list) in
-    let told = outcome (loading office.site known list) in
-    let is_told : c.in_ok-outcome.outcome ≡ told = c.in_ok-outcome.ensures.outcome ∙ ap (λ (l : List PointRow). outcome (loading office.site l list)) c.deref.ensures.value in
-    let is_more : c.in_ok-outcome.points.items ≡ more = c.in_ok-outcome.ensures.added ∙ ap (λ (l : List PointRow). added (length l) (loading office.site l list)) c.deref.ensures.value in
+    let more = added (length known) (loading Second office.site known list) in
+    let told = outcome (loading Second office.site known list) in
+    let is_told : c.in_ok-outcome.outcome ≡ told = c.in_ok-outcome.ensures.outcome ∙ ap (λ (l : List PointRow). outcome (loading Second office.site l list)) c.deref.ensures.value in
+    let is_more : c.in_ok-outcome.points.items ≡ more = c.in_ok-outcome.ensures.added ∙ ap (λ (l : List PointRow). added (length l) (loading Second office.site l list)) c.deref.ensures.value in
     let request : RequestRow = record { caller = c.args.caller.now; key = c.args.key.now; body = body.List list; outcome = told } in
     let is_request : c.in_ok-request.request ≡ request = c.in_ok-request.ensures ∙ (λ i. record request { outcome = is_told i }) in
     let change : c.request_change-change.result ≡ asked_change more None request = c.request_change-change.ensures ∙ (λ i. asked_change (is_more i) None (is_request i)) in
     let numbered : (kept : Tables) → known ≡ kept.points → AreNumbered (length kept.points) more =
-    λ kept copy. subst (λ (l : List PointRow). AreNumbered (length l) more) copy (numbered_added (length known) (loading office.site known list)) in
+    λ kept copy. subst (λ (l : List PointRow). AreNumbered (length l) more) copy (numbered_added (length known) (loading Second office.site known list)) in
     leaves_unused holds may may' office.site known office.matcher (c.args.caller.now, c.args.key.now) office.site (known ++ more) office.matcher (Load c.args.caller.now c.args.key.now list)
     (answer.Request (Kept true c.in_ok-outcome.outcome)) (answer.Request (Kept true told)) false refl refl
     (λ at. loaded_goes (At holds at) office.site known office.matcher c.args.caller.now c.args.key.now list (Left may may' at false)
@@ -89,15 +90,15 @@ returns-in_err-commit-clause-leaves g c clean =
     let may' : Tables → Type 0 = g.K.Neighbours.may_leave c.commit.new.keeper in
     let known = office.points.items in
     let list = c.args.list.now in
-    let more = added (length known) (loading office.site known list) in
-    let told = outcome (loading office.site known list) in
-    let is_told : c.in_ok-outcome.outcome ≡ told = c.in_ok-outcome.ensures.outcome ∙ ap (λ (l : List PointRow). outcome (loading office.site l list)) c.deref.ensures.value in
-    let is_more : c.in_ok-outcome.points.items ≡ more = c.in_ok-outcome.ensures.added ∙ ap (λ (l : List PointRow). added (length l) (loading office.site l list)) c.deref.ensures.value in
+    let more = added (length known) (loading Second office.site known list) in
+    let told = outcome (loading Second office.site known list) in
+    let is_told : c.in_ok-outcome.outcome ≡ told = c.in_ok-outcome.ensures.outcome ∙ ap (λ (l : List PointRow). outcome (loading Second office.site l list)) c.deref.ensures.value in
+    let is_more : c.in_ok-outcome.points.items ≡ more = c.in_ok-outcome.ensures.added ∙ ap (λ (l : List PointRow). added (length l) (loading Second office.site l list)) c.deref.ensures.value in
     let request : RequestRow = record { caller = c.args.caller.now; key = c.args.key.now; body = body.List list; outcome = told } in
     let is_request : c.in_ok-request.request ≡ request = c.in_ok-request.ensures ∙ (λ i. record request { outcome = is_told i }) in
     let change : c.request_change-change.result ≡ asked_change more None request = c.request_change-change.ensures ∙ (λ i. asked_change (is_more i) None (is_request i)) in
     let numbered : (kept : Tables) → known ≡ kept.points → AreNumbered (length kept.points) more =
-    λ kept copy. subst (λ (l : List PointRow). AreNumbered (length l) more) copy (numbered_added (length known) (loading office.site known list)) in
+    λ kept copy. subst (λ (l : List PointRow). AreNumbered (length l) more) copy (numbered_added (length known) (loading Second office.site known list)) in
     let e = refused_store c.in_err-commit.field-0.0 in
     leaves_unused holds may may' office.site known office.matcher (c.args.caller.now, c.args.key.now) office.site (known ++ more) office.matcher (Load c.args.caller.now c.args.key.now list)
     (told_so c.from_residual-in_err-commit.result) (answer.Request (Kept true told)) true

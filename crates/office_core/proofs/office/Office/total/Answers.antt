@@ -4,7 +4,7 @@ use Rattle.std.specs.Str.{bytes_eq}
 use Rattle.poll_book.specs.declared.rows.PointRow.{PointRow}
 use Rattle.poll_book.specs.Tables.{Sums, sum_at}
 use Rattle.poll_book.specs.Totals as totals
-use Rattle.office_core.specs.History.{History, points, readings, tables, total}
+use Rattle.office_core.specs.History.{History, points, kept_readings, tables, total}
 use Rattle.office_core.specs.Loads.{known_named}
 use Rattle.office_core.specs.Offices.{total_at}
 use Rattle.office_core.proofs.Elements.{found_in}
@@ -19,7 +19,7 @@ stored_is before name known found counts =
     let copy = counted_tables before in
     let there = found_in (λ (point : PointRow). bytes_eq point.point.name name) (points before) known found in
     let stored : sum_at (tables before).totals known.number ≡ Some (total before known) =
-    ap (λ (l : Sums). sum_at l known.number) copy.totals ∙ stored_sum (points before) (readings before) known copy.points there counts in
+    ap (λ (l : Sums). sum_at l known.number) copy.totals ∙ stored_sum (points before) (kept_readings before) known copy.points there counts in
     ap (λ o. Some (unwrap_or o 0)) stored
     ∙ sym (ap (λ b. cond b (Some (total before known)) None) counts)
     ∙ sym (ap (total_at before) found)

@@ -23,8 +23,17 @@ invariant_of-self-in_err-reserve-2 c = record {
   right = rw c.reserve.ensures.items c.self.invariant.right;
 }
 
-pub invariant_of-self-in_err-put_request : goal.invariant_of-self-in_err-put_request
-invariant_of-self-in_err-put_request c = record {
+pub invariant_of-self-in_err-void : goal.invariant_of-self-in_err-void
+invariant_of-self-in_err-void c = record {
+  counted = rw c.reserve.ensures.items c.self.invariant.counted;
+  ordered = c.staged.ensures.ordered;
+  by_point = rw c.reserve-2.ensures.items c.self.invariant.by_point;
+  rising = rw c.reserve-3.ensures.items c.self.invariant.rising;
+  right = rw (c.reserve.ensures.items, c.reserve-3.ensures.items) c.self.invariant.right;
+}
+
+pub invariant_of-self-in-Err : goal.invariant_of-self-in-Err
+invariant_of-self-in-Err c = record {
   counted = rw c.reserve.ensures.items c.self.invariant.counted;
   ordered = c.staged.ensures.ordered;
   by_point = rw c.reserve-2.ensures.items c.self.invariant.by_point;

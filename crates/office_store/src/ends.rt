@@ -1,0 +1,152 @@
+//! Where the readings of points end: it is asked for once, and followed as readings come, so that a slot behind the
+//! end, as that of a new reading is, needs no statement.
+
+ghost use Rattle.std.specs.Prelude.{◌≡◌, ◌<◌, ◌≤◌, false, true, All, IfOk, IfSome, is_some};
+ghost use Rattle.sqlite.specs.Held.{state};
+ghost use Rattle.sqlite.specs.State.{HasCleanDisk};
+ghost use Rattle.poll_book.specs.Changes.{as_rows};
+ghost use Rattle.poll_book.specs.Tables.{Key, Readings, Tables, reading_at, with_rows};
+ghost use Rattle.poll_book.specs.Totals.{value_after};
+ghost use Rattle.office_store.specs.Ends.{AreEnds, HasEnds, IsEndOf, IsWithin, end_at};
+ghost use Rattle.office_store.specs.Kept.{Holds, Keeps};
+
+use crate::readings;
+use poll_book::{PointRow, ReadingRow, StoreFault};
+use sqlite::{Alter, Connection};
+use std::alloc::Global;
+
+/// A slot for each point, by the points' numbers, that all its readings stand before: 0 where it has none, and nothing
+/// where it isn't known.
+#[derive(Drop)]
+pub(crate) struct Ends {
+    known: Vec<Option<u64>>,
+}
+
+impl Ends {
+    /// Nothing is known.
+    pub(crate) fn new(alloc: Global) -> Ends
+        ensures { (table : Readings) → AreEnds result.known.items table }
+    {
+        Ends {
+            known: Vec::new(alloc),
+        }
+    }
+
+    /// The end of a point, if it is known.
+    fn at(&self, point: u32) -> Option<u64>
+        ensures { result ≡ end_at self.now.known.items point }
+    {
+        match self.known.get(point as usize) {
+            Some(end) => *end,
+            None => None,
+        }
+    }
+
+    /// Remembers the end of a point, unless memory is refused to it.
+    fn note(&mut self, point: u32, end: u64)
+        ensures { (key : Key) → IsWithin self.old.known.items key → (key.0 ≡ point → key.1 < end) → IsWithin self.new.known.items key }
+    {
+        let place = point as usize;
+        while self.known.len() <= place {
+            if self.known.push(None).is_err() {
+                return;
+            }
+        }
+        self.known[place] = Some(end);
+    }
+
+    /// Moves the end of a reading's point behind it.
+    fn raise(&mut self, point: u32, slot: u32)
+        ensures same { (key : Key) → IsWithin self.old.known.items key → IsWithin self.new.known.items key }
+        ensures within { IsWithin self.new.known.items (point, slot) }
+    {
+        if let Some(end) = self.at(point) {
+            self.known[point as usize] = Some(end.max(u64::from(slot) + 1));
+        }
+    }
+
+    /// Moves the ends of readings' points behind them.
+    fn raise_all(&mut self, readings: &[ReadingRow])
+        ensures same { (key : Key) → IsWithin self.old.known.items key → IsWithin self.new.known.items key }
+        ensures within { AreEnds self.new.known.items (as_rows readings.now) }
+    {
+        for row in readings {
+            self.raise(row.point, row.slot);
+        }
+    }
+
+    /// Follows the readings of a change, if it was written.
+    pub(crate) fn follow(&mut self, readings: &[ReadingRow], is_written: bool)
+        ensures written { is_written ≡ true → (table : Readings) → AreEnds self.old.known.items table → AreEnds self.new.known.items (with_rows (as_rows readings.now) table) }
+        ensures same { is_written ≡ false → self.new ≡ self.old }
+    {
+        if is_written {
+            self.raise_all(readings);
+        }
+    }
+}
+
+/// The end of a point, which is asked for if it isn't known.
+fn end_of<S: Alter>(
+    connection: &mut Connection<S>,
+    ends: &mut Ends,
+    point: u32,
+) -> Result<u64, StoreFault>
+    requires { connection.old.in_transaction ≡ false }
+    ensures value { HasCleanDisk (state S.Store connection.new) → (kept : Tables) → Holds (state S.Store connection.old) kept
+        → HasEnds (state S.Store connection.old) ends.old.known.items kept → IfOk result (λ end. IsEndOf point end kept.readings) }
+    ensures same { (kept : Tables) → Holds (state S.Store connection.old) kept → HasEnds (state S.Store connection.old) ends.old.known.items kept
+        → HasEnds (state S.Store connection.new) ends.new.known.items kept }
+    ensures keeps { Keeps (state S.Store connection.old) (state S.Store connection.new) }
+    ensures idle { connection.new.in_transaction ≡ false }
+{
+    if let Some(end) = ends.at(point) {
+        return Ok(end);
+    }
+    let end = readings::end_of(connection, point)?;
+    ends.note(point, end);
+    Ok(end)
+}
+
+/// Whether a point has a reading in a slot. Behind its end it has none.
+pub(crate) fn has_reading<S: Alter>(
+    connection: &mut Connection<S>,
+    ends: &mut Ends,
+    point: u32,
+    slot: u32,
+) -> Result<bool, StoreFault>
+    requires { connection.old.in_transaction ≡ false }
+    ensures value { HasCleanDisk (state S.Store connection.new) → (kept : Tables) → Holds (state S.Store connection.old) kept
+        → HasEnds (state S.Store connection.old) ends.old.known.items kept → IfOk result (λ has. has ≡ is_some (reading_at kept.readings (point, slot))) }
+    ensures same { (kept : Tables) → Holds (state S.Store connection.old) kept → HasEnds (state S.Store connection.old) ends.old.known.items kept
+        → HasEnds (state S.Store connection.new) ends.new.known.items kept }
+    ensures keeps { Keeps (state S.Store connection.old) (state S.Store connection.new) }
+    ensures idle { connection.new.in_transaction ≡ false }
+{
+    let end = end_of(connection, ends, point)?;
+    if end <= u64::from(slot) {
+        return Ok(false);
+    }
+    readings::has_reading(connection, point, slot)
+}
+
+/// The value of the nearest counted reading of a point after a slot, if there is one. None stands behind its end.
+pub(crate) fn value_after<S: Alter>(
+    alloc: Global,
+    connection: &mut Connection<S>,
+    ends: &Ends,
+    point: &PointRow,
+    slot: u32,
+) -> Result<Option<u64>, StoreFault>
+    requires { connection.old.in_transaction ≡ false }
+    ensures value { HasCleanDisk (state S.Store connection.new) → (kept : Tables) → Holds (state S.Store connection.old) kept
+        → HasEnds (state S.Store connection.old) ends.now.known.items kept → IfOk result (λ found. found ≡ value_after point.now slot kept.readings) }
+    ensures bound { IfOk result (λ found. IfSome found (λ number. number ≤ point.now.point.roll)) }
+    ensures keeps { Keeps (state S.Store connection.old) (state S.Store connection.new) }
+    ensures idle { connection.new.in_transaction ≡ false }
+{
+    match ends.at(point.number) {
+        Some(end) if end <= u64::from(slot) + 1 => Ok(None),
+        _ => readings::value_after(alloc, connection, point, slot),
+    }
+}
