@@ -79,7 +79,9 @@ impl Fault {
             Fault::Store(StoreFault::Other) => {
                 Why::Words("another process has it open, or it holds what no office wrote")
             }
-            Fault::BadVersion => Why::Words("its tables are of another version; 'office migrate' moves those of version 1"),
+            Fault::BadVersion => Why::Words(
+                "its tables are of another version; 'office migrate' moves those of version 1",
+            ),
             Fault::NotOffice => Why::Words("it is no office's store"),
             Fault::SiteDiffers => Why::Words("a point of it is of a device that the site lacks"),
             _ => Why::Unsaid,

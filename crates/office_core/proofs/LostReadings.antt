@@ -4,13 +4,12 @@ use Rattle.std.specs.Prelude.{ℤ, All, Contains, nat_le, not, pos, negsuc, is_s
 use Rattle.std.proofs.lemmas.List.Elements.{Contains-get_or}
 use Rattle.std.proofs.lemmas.Option.{none-some, same_Some}
 use Rattle.std.proofs.lemmas.Bool.{leb-true}
-use Rattle.sunspec.specs.Value.{number_in, value}
-use Rattle.sunspec.specs.WordOrder.{arranged}
+use Rattle.sunspec.specs.WordOrder.{number_read}
 use Rattle.point_list.specs.declared.point.Point.{Point}
 use Rattle.poll_book.specs.declared.rows.PointRow.{PointRow}
 use Rattle.poll_book.specs.declared.rows.Reading.{Reading}
 use Rattle.poll_book.specs.Tables.{Key, Voids, is_void, reading_at}
-use Rattle.poll_book.specs.Totals.{number_within, counted_number, is_counter, are_registers, steps}
+use Rattle.poll_book.specs.Totals.{number_within, counted_number, is_counter, steps}
 use Rattle.office_core.specs.History.{History, points, kept_readings, readings, total, voids}
 use Rattle.office_core.specs.Legal.{Legal}
 use Rattle.office_core.specs.FirstArrivals.{Counts, AreBySlot, numbers_of}
@@ -32,10 +31,10 @@ value_within roll (Some (negsuc m)) n e = absurd (none-some n e)
 value_within roll None n e = absurd (none-some n e)
 
 number_bound : (point : Point) (words : List ℕ) (n : ℕ) → counted_number point words ≡ Some n → n ≤ point.roll
-number_bound point words n e = by (is_counter point.role && are_registers point.kind words) e
+number_bound point words n e = by (is_counter point.role) e
   where
-    by : (b : Bool) → cond b (number_within point.roll (number_in (value point.kind (arranged point.order words)))) None ≡ Some n → n ≤ point.roll
-    by true f = value_within point.roll (number_in (value point.kind (arranged point.order words))) n f
+    by : (b : Bool) → cond b (number_within point.roll (number_read point.kind point.order words)) None ≡ Some n → n ≤ point.roll
+    by true f = value_within point.roll (number_read point.kind point.order words) n f
     by false f = absurd (none-some n f)
 
 pairs_within : (before : History) (known : PointRow) (xs : List (ℕ × ℕ)) → AreBySlot before known xs → All (λ p. p.1 ≤ known.point.roll) xs

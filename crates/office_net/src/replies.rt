@@ -82,11 +82,7 @@ fn shown_of(alloc: Global, point: &Point, row: &ReadingRow) -> Result<Shown, All
     })
 }
 
-fn shown_rows(
-    alloc: Global,
-    point: &Point,
-    rows: &[ShownReading],
-) -> Result<Vec<Shown>, AllocError>
+fn shown_rows(alloc: Global, point: &Point, rows: &[ShownReading]) -> Result<Vec<Shown>, AllocError>
     ensures { HasForm point.now → AreOf point.now (rows_of (map as_shown rows.now))
         → IfOk result (λ shown. map entries.shown shown.items ≡ map (shown_row point.now) (rows_of (map as_shown rows.now))) }
 {

@@ -21,8 +21,14 @@ pub fn reading_text(
     if !point.kind.is_sized() || !point.kind.has_registers(words) {
         return Ok(None);
     }
-    shown_ordered(alloc, &point.kind, point.order, words, i32::from(point.scale))
-        .map_err(|_| AllocError)
+    shown_ordered(
+        alloc,
+        &point.kind,
+        point.order,
+        words,
+        i32::from(point.scale),
+    )
+    .map_err(|_| AllocError)
 }
 
 /// How far a counter went, with its scale.

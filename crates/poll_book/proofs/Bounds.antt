@@ -7,13 +7,12 @@ use Rattle.std.proofs.lemmas.Bool.{eqb-true}
 use Rattle.std.proofs.lemmas.Bool.Decides.{nat_tests}
 use Rattle.std.proofs.lemmas.Nat.{mul-le}
 use Rattle.std.proofs.lemmas.List.Elements.{All-head, All-tail, All-cons, All-nil}
-use Rattle.sunspec.specs.Value.{number_in, value}
-use Rattle.sunspec.specs.WordOrder.{arranged}
+use Rattle.sunspec.specs.WordOrder.{number_read}
 use Rattle.point_list.specs.declared.point.Point.{Point}
 use Rattle.poll_book.specs.declared.rows.PointRow.{PointRow}
 use Rattle.poll_book.specs.declared.rows.Reading.{Reading}
 use Rattle.poll_book.specs.Tables.{AreByKey, Key, key_cmp, Readings}
-use Rattle.poll_book.specs.Totals.{are_registers, counted_number, counted_numbers, first_of, is_counter, last_of, number_within, reading_number, total}
+use Rattle.poll_book.specs.Totals.{counted_number, counted_numbers, first_of, is_counter, last_of, number_within, reading_number, total}
 use Rattle.poll_book.proofs.Sides.{both_left, both_right, higher_is, is_less}
 use Rattle.poll_book.proofs.Steps.{steps_bound}
 
@@ -33,7 +32,7 @@ if_kept false o roll h = tt
 
 counted_bound : (point : Point) (words : List ℕ) → IfSome (counted_number point words) (λ n. n ≤ point.roll)
 counted_bound point words =
-    if_kept (is_counter point.role && are_registers point.kind words) (number_within point.roll (number_in (value point.kind (arranged point.order words)))) point.roll (within_bound point.roll (number_in (value point.kind (arranged point.order words))))
+    if_kept (is_counter point.role) (number_within point.roll (number_read point.kind point.order words)) point.roll (within_bound point.roll (number_read point.kind point.order words))
 
 pub reading_bound : (point : Point) (reading : Reading) (n : ℕ) → reading_number point reading ≡ Some n → n ≤ point.roll
 reading_bound point reading n is =

@@ -6,10 +6,9 @@ use Rattle.point_list.specs.declared.point.Point.{Point}
 use Rattle.poll_book.specs.declared.rows.PointRow.{PointRow}
 use Rattle.poll_book.specs.declared.rows.Reading.{Reading}
 use Rattle.poll_book.specs.Tables.{Key, Readings, Voids, is_void, marked_one, reading_at, with_row}
-use Rattle.poll_book.specs.Totals.{are_registers, counted_number, is_counter, number_within, reading_number, total}
+use Rattle.poll_book.specs.Totals.{counted_number, is_counter, number_within, reading_number, total}
 use Rattle.poll_book.specs.Changes.{keyed_one, new_sum}
-use Rattle.sunspec.specs.Value.{number_in as number_of_value, value}
-use Rattle.sunspec.specs.WordOrder.{arranged}
+use Rattle.sunspec.specs.WordOrder.{number_read}
 
 -- the number of registers that count in a slot
 abbrev pub number_in : Voids → ℕ → PointRow → List ℕ → Option ℕ
@@ -19,7 +18,7 @@ number_in voids slot known words = cond (is_void voids (known.number, slot)) Non
 pub of_counter : (point : Point) (words : List ℕ) (n : ℕ) → counted_number point words ≡ Some n → is_counter point.role ≡ true
 of_counter point words n e = by (is_counter point.role) refl e
   where
-    by : (b : Bool) → is_counter point.role ≡ b → cond (b && are_registers point.kind words) (number_within point.roll (number_of_value (value point.kind (arranged point.order words)))) None ≡ Some n → b ≡ true
+    by : (b : Bool) → is_counter point.role ≡ b → cond b (number_within point.roll (number_read point.kind point.order words)) None ≡ Some n → b ≡ true
     by true is f = refl
     by false is f = absurd (none-some n f)
 

@@ -1,12 +1,7 @@
 -- Which readings count, and how far a counter went by them.
-use Rattle.std.specs.Prelude.{ℕ, ℤ, ◌+◌, ◌-◌, ◌%◌, ◌^◌, Bool, true, false, ◌&&◌, if◌then◌else◌, ◌==◌, nat_le, nat_lt, min, List, [], ◌∷◌, map, filter, filter_map, length, slice_get, Option, Some, None, is_some, unwrap_or, pos, negsuc}
+use Rattle.std.specs.Prelude.{ℕ, ℤ, ◌+◌, ◌-◌, ◌%◌, ◌^◌, Bool, true, false, ◌&&◌, if◌then◌else◌, ◌==◌, nat_le, nat_lt, min, List, [], ◌∷◌, map, filter, filter_map, slice_get, Option, Some, None, is_some, unwrap_or, pos, negsuc}
 use Rattle.std.specs.List.{last_or}
-use Rattle.sunspec.specs.PointType.{row}
-use Rattle.sunspec.specs.Value.{number_in, value, register_sum}
-use Rattle.sunspec.specs.WordOrder.{arranged}
-use Rattle.sunspec.specs.declared.point_type.PointType.{PointType}
-use Rattle.sunspec.specs.declared.point_type.Content.{Content}
-use Rattle.sunspec.specs.declared.point_type.Content.TheVariants.{Signed, Unsigned, Address, Bit, Text}
+use Rattle.sunspec.specs.WordOrder.{number_read}
 use Rattle.point_list.specs.declared.point.Point.{Point}
 use Rattle.point_list.specs.declared.point.Role.{Role}
 use Rattle.point_list.specs.declared.point.Role.TheVariants.{Gauge, Counter, Setting}
@@ -19,18 +14,6 @@ is_counter Counter = true
 is_counter Gauge = false
 is_counter Setting = false
 
--- a bit's register is 0 or 1
-abbrev pub is_sum_of : Content → ℕ → Bool
-is_sum_of Bit sum = nat_le sum 1
-is_sum_of Signed sum = true
-is_sum_of Unsigned sum = true
-is_sum_of Address sum = true
-is_sum_of Text sum = true
-
--- as many registers as the type has, in its range
-abbrev pub are_registers : PointType → List ℕ → Bool
-are_registers kind words = length words == (row kind).registers && is_sum_of (row kind).content (register_sum words)
-
 -- a number from 0 to the roll
 abbrev pub number_within : ℕ → Option ℤ → Option ℕ
 number_within roll (Some (pos n)) = if nat_le n roll then Some n else None
@@ -40,7 +23,7 @@ number_within roll None = None
 -- the number of a counter's registers, as they came, if it counts; texts and unimplemented values have none
 abbrev pub counted_number : Point → List ℕ → Option ℕ
 counted_number point words =
-    if is_counter point.role && are_registers point.kind words then number_within point.roll (number_in (value point.kind (arranged point.order words))) else None
+    if is_counter point.role then number_within point.roll (number_read point.kind point.order words) else None
 
 abbrev pub is_counted : Point → List ℕ → Bool
 is_counted point words = is_some (counted_number point words)

@@ -8,7 +8,6 @@ use sunspec::read_number;
 /// The number of a reading that counts for its point's total: the point is a counter, the registers
 /// are as its type has them, they don't mean unimplemented in its order of words, and the number is at
 /// most the roll.
-#[tactic(auto, unfolding(sunspec::specs::PointType::row))]
 pub fn counted_number(point: &Point, words: &[u16]) -> Option<u64>
     ensures number { result ≡ counting.counted_number point.now words.now }
     ensures bound { IfSome result (λ number. number ≤ point.now.roll) }
@@ -16,9 +15,6 @@ pub fn counted_number(point: &Point, words: &[u16]) -> Option<u64>
     let Role::Counter = point.role else {
         return None;
     };
-    if !point.kind.is_sized() || !point.kind.has_registers(words) {
-        return None;
-    }
     match read_number(&point.kind, point.order, words) {
         Some(number) if 0 <= number && number <= point.roll as i128 => Some(number as u64),
         _ => None,

@@ -19,7 +19,7 @@ pub arranged_words : (order : WordOrder) (words : List ℕ) → AreWords words �
 arranged_words Big words fits = fits
 arranged_words Swapped words fits = All-permutation (λ (word : ℕ). word < 65536) words (reverse words) (IsPermutation-reverse words) fits
 
-one_alone : (words : List ℕ) → length words ≡ 1 → reverse words ≡ words
+pub one_alone : (words : List ℕ) → length words ≡ 1 → reverse words ≡ words
 one_alone [] one = absurd (omega arith)
 one_alone (word ∷ []) one = refl
 one_alone (word ∷ next ∷ words) one = absurd (omega arith)

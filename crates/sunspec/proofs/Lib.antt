@@ -11,3 +11,4 @@ pub mod Walked
 pub mod OneWalk
 pub mod CommonModel
 pub mod Arranged
+pub mod ReadNumbers

@@ -1,11 +1,11 @@
 -- What registers mean (SunSpec Device Information Model, point types).
-use Rattle.std.specs.Prelude.{◌≡◌, ◌≤◌, ◌<◌, ℕ, ◌+◌, ◌-◌, ◌*◌, ◌^◌, ℤ, pos, ◌-ℤ◌, List, [], ◌∷◌, All, length, nat_lt, ◌==◌, Option, Some, None, if◌then◌else◌}
+use Rattle.std.specs.Prelude.{◌≡◌, ◌≤◌, ◌<◌, ℕ, ◌+◌, ◌-◌, ◌*◌, ◌^◌, ℤ, pos, ◌-ℤ◌, List, [], ◌∷◌, All, length, nat_le, nat_lt, ◌==◌, Bool, true, ◌&&◌, Option, Some, None, if◌then◌else◌}
 use Rattle.std.specs.List.{before_first}
 use Rattle.mb_pdu.specs.Packing.{words_text}
 use Rattle.sunspec.specs.PointType.{row, bits_of, is_unimplemented}
 use Rattle.sunspec.specs.declared.point_type.PointType.{PointType}
 use Rattle.sunspec.specs.declared.point_type.Content.{Content}
-use Rattle.sunspec.specs.declared.point_type.Content.TheVariants.{Signed, Bit as Cell, Text}
+use Rattle.sunspec.specs.declared.point_type.Content.TheVariants.{Signed, Unsigned, Address, Bit as Cell, Text}
 use Rattle.sunspec.specs.declared.value.Value.{Value}
 use Rattle.sunspec.specs.declared.value.Value.TheVariants.{Number, Unimplemented, Text as TextValue}
 
@@ -46,6 +46,18 @@ number_in (TextValue text) = None
 pub record AreRegistersOf (kind : PointType) (words : List ℕ) : Type 0 where
   pub count : length words ≡ (row kind).registers
   pub cell : (row kind).content ≡ Cell → register_sum words ≤ 1
+
+-- a cell's sum is 0 or 1
+abbrev pub is_sum_of : Content → ℕ → Bool
+is_sum_of Cell sum = nat_le sum 1
+is_sum_of Signed sum = true
+is_sum_of Unsigned sum = true
+is_sum_of Address sum = true
+is_sum_of Text sum = true
+
+-- the same, judged
+abbrev pub are_registers : PointType → List ℕ → Bool
+are_registers kind words = length words == (row kind).registers && is_sum_of (row kind).content (register_sum words)
 
 -- registers have 16 bits
 abbrev pub AreWords : List ℕ → Type 0

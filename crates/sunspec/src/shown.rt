@@ -1,4 +1,4 @@
-ghost use Rattle.std.specs.Prelude.{[], ◌≡◌, ◌<◌, ◌≤◌, ◌⊎◌, ◌<ℤ◌, ◌↔◌, IfErr, IfOk, IsErrOf, OnOk, length, map, negsuc, option_map, pos, string_bytes};
+ghost use Rattle.std.specs.Prelude.{[], ◌≡◌, ◌<◌, ◌≤◌, ◌⊎◌, ◌<ℤ◌, ◌↔◌, IfErr, IfOk, IsErrOf, OnOk, length, map, negsuc, option_map, pos, reverse, string_bytes};
 ghost use Rattle.mb_pdu.specs.Packing.{words_text};
 ghost use Rattle.sunspec.specs.declared.error.SunError.{SunError};
 ghost use Rattle.sunspec.specs.PointType.{IsSized, row};
@@ -59,11 +59,30 @@ pub fn shown_ordered(
 {
     match order {
         WordOrder::Big => shown_text(alloc, kind, words, scale),
-        WordOrder::Swapped => {
-            let words = swapped(words);
-            shown_text(alloc, kind, words.as_slice(), scale)
-        }
+        WordOrder::Swapped => shown_swapped(alloc, kind, words, scale),
     }
+}
+
+// Out of line, since most registers come in the usual order and need no room to be turned round in.
+#[inline(never)]
+fn shown_swapped(
+    alloc: Global,
+    kind: &PointType,
+    words: &[u16],
+    scale: i32,
+) -> Result<Option<String>, SunError>
+    requires sized { IsSized kind.now }
+    requires registers { AreRegistersOf kind.now words.now }
+    ensures text { IfOk result (λ text. option_map string_bytes text
+        ≡ shown kind.now scale (reverse words.now)) }
+    ensures within { OnOk result (IsScale scale) }
+    ensures bad_scale { IsErrOf result SunError.BadScale
+        ↔ ((scale <ℤ negsuc 9) ⊎ (pos 10 <ℤ scale)) }
+    ensures memory { IfErr result (λ e. (e ≡ SunError.BadScale)
+        ⊎ ((e ≡ SunError.Memory) × IsScale scale)) }
+{
+    let words = swapped(words);
+    shown_text(alloc, kind, words.as_slice(), scale)
 }
 
 fn text_within(

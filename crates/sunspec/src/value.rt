@@ -2,8 +2,8 @@ ghost use Rattle.std.specs.Prelude.{reverse, ◌≡◌, ◌≤◌, ◌<◌, ◌^
 ghost use Rattle.std.specs.List.{before_first, list_all};
 ghost use Rattle.mb_pdu.specs.Packing.{words_text};
 ghost use Rattle.sunspec.specs.PointType.{IsSized, bits};
-ghost use Rattle.sunspec.specs.Value.{AreRegistersOf, number_in, number_meant, register_sum, text_meant, value};
-ghost use Rattle.sunspec.specs.WordOrder.{arranged};
+ghost use Rattle.sunspec.specs.Value.{AreRegistersOf, is_sum_of, number_meant, register_sum, text_meant, value};
+ghost use Rattle.sunspec.specs.WordOrder.{arranged, number_read};
 
 use crate::fixed_text::ShortText;
 use crate::point_type::{Content, PointType, greatest_of};
@@ -60,25 +60,46 @@ pub fn read_ordered(kind: &PointType, order: WordOrder, words: &[u16]) -> Value
     }
 }
 
-/// The number that registers of a type mean which are sent in an order; `None` where they mean a text, and
-/// where they say that the device doesn't have the point. `read_ordered` gives more, and takes the room of a text.
+/// The number that registers of a type mean which are sent in an order; `None` where they aren't as the type
+/// has them, where they mean a text, and where they say that the device doesn't have the point. `read_ordered`
+/// gives more, and takes the room of a text.
 pub fn read_number(kind: &PointType, order: WordOrder, words: &[u16]) -> Option<i128>
-    requires sized { IsSized kind.now }
-    requires registers { AreRegistersOf kind.now words.now }
-    ensures { result ≡ number_in (value kind.now (arranged order words.now)) }
+    ensures { result ≡ number_read kind.now order words.now }
 {
     let row = kind.row();
     if let Content::Text = row.content {
         return None;
     }
-    let sum = match order {
-        WordOrder::Big => register_sum_of(words),
-        WordOrder::Swapped => swapped_sum(words),
-    };
-    if row.is_unimplemented(sum) {
+    if words.len() != row.registers as usize {
+        return None;
+    }
+    let sum = arranged_sum(order, words);
+    if !is_sum_of(row.content, sum) || row.is_unimplemented(sum) {
         return None;
     }
     Some(number_of(row.content, row.bits(), sum))
+}
+
+// Whether registers can have this sum: a bit's is 0 or 1.
+fn is_sum_of(content: Content, sum: u64) -> bool
+    ensures { result ≡ is_sum_of content sum }
+{
+    match content {
+        Content::Bit => sum <= 1,
+        _ => true,
+    }
+}
+
+#[inline]
+fn arranged_sum(order: WordOrder, words: &[u16]) -> u64
+    requires some { 0 < length words.now }
+    requires few { length words.now ≤ 4 }
+    ensures { result ≡ register_sum (arranged order words.now) }
+{
+    match order {
+        WordOrder::Big => register_sum_of(words),
+        WordOrder::Swapped => swapped_sum(words),
+    }
 }
 
 // Out of line, since most registers come in the usual order and need no room to be turned round in.
