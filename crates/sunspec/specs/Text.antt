@@ -1,11 +1,11 @@
 -- The text of a number under a scale, and the text of a value.
-use Rattle.std.specs.Prelude.{◌≡◌, ◌<◌, ◌≤ℤ◌, ◌-◌, ◌/◌, ◌%◌, ◌^◌, ◌*ℤ◌, ℕ, suc, ℤ, pos, negsuc, List, [], ◌∷◌, ◌++◌, Option, Some, None, ◌&&◌, nat_le, if◌then◌else◌, length, get_or, map, replicate, unsigned_abs}
+use Rattle.std.specs.Prelude.{◌≡◌, ◌<◌, ◌≤ℤ◌, ◌-◌, ◌/◌, ◌%◌, ◌^◌, ◌*ℤ◌, ℕ, suc, ℤ, pos, negsuc, List, [], ◌∷◌, ◌++◌, Option, Some, None, ◌&&◌, ◌==◌, nat_le, if◌then◌else◌, length, get_or, map, replicate, unsigned_abs}
 use Rattle.std.specs.Fmt.{decimal, signed_decimal}
 use Rattle.std.specs.List.{join_with_byte}
 use Rattle.std.specs.Str.Parse.{digits_value, AllDigits}
 use Rattle.mb_pdu.specs.Packing.{words_text}
 use Rattle.sunspec.specs.PointType.{row}
-use Rattle.sunspec.specs.Value.{value}
+use Rattle.sunspec.specs.Value.{register_sum, text_meant, value}
 use Rattle.sunspec.specs.declared.point_type.PointType.{PointType}
 use Rattle.sunspec.specs.declared.point_type.Content.{Content}
 use Rattle.sunspec.specs.declared.point_type.Content.TheVariants.{Address}
@@ -62,6 +62,10 @@ dotted bytes = join_with_byte 46 (map decimal bytes)
 abbrev pub number_shown : Content → ℤ → ℤ → List ℕ → List ℕ
 number_shown Address z scale words = dotted (words_text words)
 number_shown _ z scale words = scaled z scale
+
+-- a string's registers as they are shown, nothing where all are zero
+abbrev pub string_shown : List ℕ → Option (List ℕ)
+string_shown words = if register_sum words == 0 then None else Some (map printable (text_meant words))
 
 -- what is shown of a value, nothing where the point is not implemented
 abbrev pub value_shown : Content → ℤ → List ℕ → Value → Option (List ℕ)

@@ -2,14 +2,14 @@ ghost use Rattle.std.specs.Prelude.{[], ◌≡◌, ◌<◌, ◌≤◌, ◌⊎◌
 ghost use Rattle.mb_pdu.specs.Packing.{words_text};
 ghost use Rattle.sunspec.specs.declared.error.SunError.{SunError};
 ghost use Rattle.sunspec.specs.PointType.{IsSized, row};
-ghost use Rattle.sunspec.specs.Text.{IsScale, dotted, number_shown, printable, shown, value_shown};
+ghost use Rattle.sunspec.specs.Text.{IsScale, dotted, number_shown, printable, shown, string_shown, value_shown};
 ghost use Rattle.sunspec.specs.Value.{AreRegistersOf};
 ghost use Rattle.sunspec.specs.WordOrder.{arranged};
 
 use crate::error::SunError;
 use crate::point_type::{Content, PointType};
 use crate::scaled::{is_scale, text_at};
-use crate::value::{Value, read_value};
+use crate::value::{Value, plain_number, text_value};
 use crate::word_order::{WordOrder, swapped};
 use std::alloc::{AllocError, Global};
 
@@ -96,11 +96,25 @@ fn text_within(
     requires scale { IsScale scale }
     ensures { IfOk result (λ text. option_map string_bytes text ≡ shown kind.now scale words.now) }
 {
-    Ok(match read_value(kind, words) {
-        Value::Unimplemented => None,
-        Value::Text(text) => Some(printable_text(alloc, text.as_bytes())?),
-        Value::Number(number) => Some(number_text(alloc, kind, words, number, scale)?),
-    })
+    if let Content::Text = kind.row().content {
+        return string_text(alloc, words);
+    }
+    match plain_number(kind, words) {
+        Some(number) => Ok(Some(number_text(alloc, kind, words, number, scale)?)),
+        None => Ok(None),
+    }
+}
+
+// Out of line, since most points are numbers and need no room for a text.
+#[inline(never)]
+fn string_text(alloc: Global, words: &[u16]) -> Result<Option<String>, AllocError>
+    requires { length words.now ≤ 125 }
+    ensures { IfOk result (λ text. option_map string_bytes text ≡ string_shown words.now) }
+{
+    match text_value(words) {
+        Value::Text(text) => Ok(Some(printable_text(alloc, text.as_bytes())?)),
+        _ => Ok(None),
+    }
 }
 
 /// The text of a value on its own, without a scale, as reports and answers show it: a string with `?`

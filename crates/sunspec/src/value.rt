@@ -1,8 +1,8 @@
-ghost use Rattle.std.specs.Prelude.{reverse, ◌≡◌, ◌≤◌, ◌<◌, ◌^◌, ◌*◌, ◌==◌, if◌then◌else◌, length, position, take};
+ghost use Rattle.std.specs.Prelude.{reverse, ◌≡◌, ◌≢◌, ◌≤◌, ◌<◌, ◌^◌, ◌*◌, ◌==◌, if◌then◌else◌, length, position, take};
 ghost use Rattle.std.specs.List.{before_first, list_all};
 ghost use Rattle.mb_pdu.specs.Packing.{words_text};
-ghost use Rattle.sunspec.specs.PointType.{IsSized, bits};
-ghost use Rattle.sunspec.specs.Value.{AreRegistersOf, is_sum_of, number_meant, register_sum, text_meant, value};
+ghost use Rattle.sunspec.specs.PointType.{IsSized, bits, row};
+ghost use Rattle.sunspec.specs.Value.{AreRegistersOf, is_sum_of, number_in, number_meant, register_sum, text_meant, value};
 ghost use Rattle.sunspec.specs.WordOrder.{arranged, number_read};
 
 use crate::fixed_text::ShortText;
@@ -30,17 +30,30 @@ pub fn read_value(kind: &PointType, words: &[u16]) -> Value
     requires registers { AreRegistersOf kind.now words.now }
     ensures { result ≡ value kind.now words.now }
 {
-    let row = kind.row();
-    match row.content {
-        Content::Text => text_value(words),
-        content => {
-            let sum = register_sum_of(words);
-            if row.is_unimplemented(sum) {
-                return Value::Unimplemented;
-            }
-            Value::Number(number_of(content, row.bits(), sum))
-        }
+    if let Content::Text = kind.row().content {
+        return text_value(words);
     }
+    match plain_number(kind, words) {
+        Some(number) => Value::Number(number),
+        None => Value::Unimplemented,
+    }
+}
+
+/// The number that registers of a type mean which is no string's; `None` where they say that the device doesn't
+/// have the point.
+// Inlined, so that its caller finds the type's row once.
+#[inline(always)]
+pub(crate) fn plain_number(kind: &PointType, words: &[u16]) -> Option<i128>
+    requires number { (row kind.now).content ≢ Content.Text }
+    requires registers { AreRegistersOf kind.now words.now }
+    ensures { result ≡ number_in (value kind.now words.now) }
+{
+    let row = kind.row();
+    let sum = register_sum_of(words);
+    if row.is_unimplemented(sum) {
+        return None;
+    }
+    Some(number_of(row.content, row.bits(), sum))
 }
 
 /// What registers of a type mean that are sent in an order: of swapped ones the last is the most
@@ -115,7 +128,7 @@ fn swapped_sum(words: &[u16]) -> u64
 
 // A string is not implemented where all registers are zero.
 #[inline(never)]
-fn text_value(words: &[u16]) -> Value
+pub(crate) fn text_value(words: &[u16]) -> Value
     requires { length words.now ≤ 125 }
     ensures { result ≡ (if register_sum words.now == 0 then Value.Unimplemented
         else Value.Text (text_meant words.now)) }
@@ -164,6 +177,10 @@ fn register_sum_of(words: &[u16]) -> u64
     requires { length words.now ≤ 4 }
     ensures { result ≡ register_sum words.now }
 {
+    // Most points have one register.
+    if let [only] = words {
+        return u64::from(*only);
+    }
     let mut sum = 0;
     for word in words {
         sum = 65536 * sum + *word as u64;
