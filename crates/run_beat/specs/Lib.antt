@@ -1,0 +1,9 @@
+pub mod Beats
+pub mod Counts
+pub mod Delays
+pub mod Outboxes
+pub mod Places
+pub mod Slots
+pub mod Stages
+pub mod Times
+pub mod Turns

@@ -1,0 +1,5 @@
+pub mod PlaceFields
+pub mod Ports
+pub mod Systems
+pub mod Tables
+pub mod Tokens

@@ -1,0 +1,12 @@
+//! The sockets of an office that stays up, over `mio`: what `run_beat` asks of the system.
+#![tactic(auto)]
+
+mod door;
+mod place;
+mod ports;
+mod socket;
+mod system;
+mod table;
+mod tokens;
+
+pub use system::System;
