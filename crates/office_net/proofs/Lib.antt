@@ -24,3 +24,4 @@ pub mod Connected
 pub mod Leading
 pub mod Stepped
 pub mod Readable
+pub mod Proceeding

@@ -8,3 +8,4 @@ pub mod Turned
 pub mod Replies
 pub mod Serving
 pub mod Drills
+pub mod Proceeding

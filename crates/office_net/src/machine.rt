@@ -4,6 +4,7 @@ ghost use Rattle.office_core.specs.declared.error.OfficeError.{OfficeError};
 ghost use Rattle.office_core.specs.declared.event.EventAnswer.TheVariants.{Arrived, Refused};
 ghost use Rattle.office_core.specs.Offices.{CauseFrom, keeper_of};
 ghost use Rattle.office_net.specs.Faults.{IsCaused};
+ghost use Rattle.office_net.specs.Proceeding.{GoesAlong};
 
 use crate::calls::{arrive, is_store};
 use crate::fault::PollFault;
@@ -74,6 +75,20 @@ impl Poll {
         self.turned == self.jobs.len() && self.waiting == 0
     }
 
+    /// Whether no query can be sent: no job is left, or 16 queries are outstanding.
+    pub fn is_waiting(&self) -> bool
+        ensures { IsTrue result ↔ IsWaiting self.now }
+    {
+        self.turned == self.jobs.len() || self.waiting == MOST_WAITING
+    }
+
+    /// How many frames it took.
+    pub fn taken(&self) -> u32
+        ensures { result ≡ taken_of self.now }
+    {
+        self.taken
+    }
+
     /// What it came to so far.
     pub fn round(&self) -> Round
         ensures { result ≡ counts_of self.now }
@@ -112,6 +127,7 @@ impl Poll {
         ensures goes { K.is_clean (keeper_of office.new) → MatchResult result
             (λ query. GoesOn office.old self.old office.new self.new [] (as_list query))
             (λ fault. BreaksOff office.old self.old office.new self.new [] [] [] fault) }
+        ensures along { GoesAlong office.old office.new }
         ensures cause { IfErr result (λ fault. IsCaused ⊥ (CauseFrom office.old office.new) fault) }
         ensures counted { K.refused (keeper_of office.old) ≤ K.refused (keeper_of office.new) }
         ensures clean { K.is_clean (keeper_of office.new) → K.is_clean (keeper_of office.old) }
@@ -136,6 +152,7 @@ impl Poll {
         ensures goes { K.is_clean (keeper_of office.new) → MatchResult result
             (λ query. GoesOn office.old self.old office.new self.new [] (as_list query))
             (λ fault. BreaksOff office.old self.old office.new self.new [] [] [] fault) }
+        ensures along { GoesAlong office.old office.new }
         ensures cause { IfErr result (λ fault. IsCaused ⊥ (CauseFrom office.old office.new) fault) }
         ensures counted { K.refused (keeper_of office.old) ≤ K.refused (keeper_of office.new) }
         ensures clean { K.is_clean (keeper_of office.new) → K.is_clean (keeper_of office.old) }
@@ -200,6 +217,7 @@ impl Poll {
         ensures goes { K.is_clean (keeper_of office.new) → MatchResult result
             (λ _. GoesOn office.old self.old office.new self.new (frame.now ∷ []) [])
             (λ fault. BreaksOff office.old self.old office.new self.new [] (frame.now ∷ []) [] fault) }
+        ensures along { GoesAlong office.old office.new }
         ensures cause { IfErr result (λ fault. IsCaused ⊥ (CauseFrom office.old office.new) fault) }
         ensures counted { K.refused (keeper_of office.old) ≤ K.refused (keeper_of office.new) }
         ensures clean { K.is_clean (keeper_of office.new) → K.is_clean (keeper_of office.old) }

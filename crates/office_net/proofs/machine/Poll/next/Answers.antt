@@ -2,6 +2,7 @@ use Rattle.std.proofs.Common.{[], ◌∷◌, ◌∙◌, arith, subst}
 use Rattle.office_net.specs.Stages.{GoesOn, as_list}
 use Rattle.office_net.proofs.Called.{err_so}
 use Rattle.office_net.proofs.Joining.{then_on, then_breaks}
+use Rattle.office_net.proofs.Proceeding.{along_then}
 use Rattle.office_net.proofs.machine.Poll.next.Goals as goal
 
 pub returns-in_err-query-clause-goes : goal.returns-in_err-query-clause-goes
@@ -22,8 +23,15 @@ loop-self-preserved g c = record {
       then_on c.args.office.now c.loop-self.office c.next_turn.new.office c.args.self.now c.loop-self.self c.next_turn.new.self [] [] [] []
       (c.loop-self.invariant.goes (c.next_turn.ensures.clean clean))
       (subst (λ o. GoesOn c.loop-self.office c.loop-self.self c.next_turn.new.office c.next_turn.new.self [] (as_list o)) c.in_default.is (c.in_ok-query.ensures.goes clean));
+  along = along_then c.args.office.now c.loop-self.office c.next_turn.new.office c.loop-self.invariant.along c.next_turn.ensures.along;
   counted = omega (arith, c.loop-self.invariant.counted, c.next_turn.ensures.counted);
   clean = λ clean. c.loop-self.invariant.clean (c.next_turn.ensures.clean clean);
   left = omega (arith, c.loop-self.invariant.left, c.in_ok-query.ensures.left);
   taken = c.next_turn.ensures.taken ∙ c.loop-self.invariant.taken;
 }
+
+pub returns-in_err-query-clause-along : goal.returns-in_err-query-clause-along
+returns-in_err-query-clause-along g c = along_then c.args.office.now c.loop-self.office c.next_turn.new.office c.loop-self.invariant.along c.next_turn.ensures.along
+
+pub returns-in-Some-clause-along : goal.returns-in-Some-clause-along
+returns-in-Some-clause-along g c = along_then c.args.office.now c.loop-self.office c.next_turn.new.office c.loop-self.invariant.along c.next_turn.ensures.along

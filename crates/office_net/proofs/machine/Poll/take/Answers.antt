@@ -1,7 +1,10 @@
 use Rattle.std.proofs.Common.{sym, ◌∙◌, refl}
 use Rattle.office_core.specs.declared.event.EventAnswer.TheVariants.{Arrived, Refused}
+use Rattle.office_core.specs.Messages.{arriving}
+use Rattle.office_net.specs.Following.{Follows, MayLeave}
 use Rattle.office_net.proofs.Breaking.{frame_breaks}
 use Rattle.office_net.proofs.Moving.{came_on}
+use Rattle.office_net.proofs.Proceeding.{did, missed}
 use Rattle.office_net.proofs.machine.Poll.take.Goals as goal
 
 pub returns-in-Ok-clause-goes : goal.returns-in-Ok-clause-goes
@@ -18,3 +21,30 @@ pub returns-then-is_store-clause-goes : goal.returns-then-is_store-clause-goes
 returns-then-is_store-clause-goes g c = λ clean.
     frame_breaks c.args.office.now c.arrive.new.office c.args.self.now c.args.frame.now c.in-Err.error c.from.result
     (c.in-Err.ensures.fails clean) c.from.ensures (sym c.is_store.ensures ∙ c.if-is_store.true)
+
+pub returns-in-Ok-clause-along : goal.returns-in-Ok-clause-along
+returns-in-Ok-clause-along g c = λ clean.
+    let old = c.args.office.now in
+    let new = c.arrive.new.office in (
+      c.arrive.ensures.clean clean,
+      did (Follows old) (Follows new) (MayLeave old) (MayLeave new) (λ now. arriving now c.args.self.now.conn c.args.frame.now) (Arrived c.in-Ok.arrival)
+          (c.in-Ok.ensures.came clean refl),
+    )
+
+pub returns-else-is_store-clause-along : goal.returns-else-is_store-clause-along
+returns-else-is_store-clause-along g c = λ clean.
+    let old = c.args.office.now in
+    let new = c.arrive.new.office in (
+      c.arrive.ensures.clean clean,
+      did (Follows old) (Follows new) (MayLeave old) (MayLeave new) (λ now. arriving now c.args.self.now.conn c.args.frame.now) (Refused c.in-Err.error)
+          (c.in-Err.ensures.came clean (sym c.is_store.ensures ∙ c.if-is_store.false)),
+    )
+
+pub returns-then-is_store-clause-along : goal.returns-then-is_store-clause-along
+returns-then-is_store-clause-along g c = λ clean.
+    let old = c.args.office.now in
+    let new = c.arrive.new.office in (
+      c.arrive.ensures.clean clean,
+      missed (Follows old) (Follows new) (MayLeave old) (MayLeave new) (λ now. arriving now c.args.self.now.conn c.args.frame.now) (Refused c.in-Err.error)
+          (c.in-Err.ensures.fails clean),
+    )

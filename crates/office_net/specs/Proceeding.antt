@@ -1,0 +1,42 @@
+-- How an office goes on by many calls, whoever makes them.
+use Rattle.std.specs.Prelude.{true, false, List, [], ◌∷◌}
+use Rattle.poll_book.specs.declared.keeper.Neighbours.{Ghosts}
+use Rattle.poll_book.specs.Tables.{Tables, Within}
+use Rattle.office_core.specs.declared.office.Office.{Office}
+use Rattle.office_core.specs.History.{Happening, History, tables}
+use Rattle.office_core.specs.Leavings.{LeftAfter}
+use Rattle.office_core.specs.Offices.{keeper_of}
+use Rattle.office_net.specs.Following.{Follows, MayLeave}
+
+-- something happened, or it was refused
+pub data Step : Type 0 where
+  Did : (event : Happening) → Step
+  Missed : (event : Happening) → Step
+
+-- the history as steps leave it, the newest first
+abbrev pub stepped : History → List Step → History
+stepped now [] = now
+stepped now (Did event ∷ steps) = event ∷ stepped now steps
+stepped now (Missed event ∷ steps) = stepped now steps
+
+-- what a crash may leave after them, from what it might leave before
+abbrev pub LeftBySteps : (Tables → Type 0) → History → List Step → Tables → Type 0
+LeftBySteps might now [] = might
+LeftBySteps might now (Did event ∷ steps) =
+    LeftAfter (LeftBySteps might now steps) (tables (stepped now steps)) (tables (event ∷ stepped now steps)) false
+LeftBySteps might now (Missed event ∷ steps) =
+    LeftAfter (LeftBySteps might now steps) (tables (stepped now steps)) (tables (event ∷ stepped now steps)) true
+
+-- steps that lead on from a history to one that is stood for
+pub record Course (stands : History → Type 0) (might may : Tables → Type 0) (now : History) : Type 0 where
+  pub steps : List Step
+  pub follows : stands (stepped now steps)
+  pub leaves : Within may (LeftBySteps might now steps)
+
+abbrev pub Proceeds : (History → Type 0) → (History → Type 0) → (Tables → Type 0) → (Tables → Type 0) → Type 0
+Proceeds stood stands might may = (now : History) → stood now → Course stands might may now
+
+-- whatever history the one followed, it goes on to one that the other follows, unless its keeper failed to undo a change
+abbrev pub GoesAlong : {K : Type 0} {g : Ghosts K} → Office K g → Office K g → Type 0
+GoesAlong {g = g} office office' =
+    g.is_clean (keeper_of office') → g.is_clean (keeper_of office) × Proceeds (Follows office) (Follows office') (MayLeave office) (MayLeave office')
