@@ -1,0 +1,90 @@
+//! A caller's place.
+ghost use Rattle.office_net.specs.Proceeding.{GoesAlong};
+
+use crate::caller::{Caller, Gone};
+use office_core::Office;
+use poll_book::Keeper;
+use run_beat::{Moment, Sockets, Source};
+use std::alloc::Global;
+
+/// One of the places in which callers are held.
+#[derive(Drop)]
+pub(crate) struct Place {
+    alloc: Global,
+    at: usize,
+    caller: Option<Caller>,
+}
+
+impl Place {
+    /// An empty one.
+    pub fn new(alloc: Global, at: usize) -> Place {
+        Place {
+            alloc,
+            at,
+            caller: None,
+        }
+    }
+
+    pub fn at(&self) -> usize {
+        self.at
+    }
+
+    /// When its caller has to go.
+    pub fn due(&self) -> Option<Moment> {
+        match &self.caller {
+            Some(caller) => Some(caller.due()),
+            None => None,
+        }
+    }
+
+    pub fn is_free(&self) -> bool {
+        self.caller.is_none()
+    }
+
+    /// Whether its caller asked for an order since this was asked last.
+    pub fn has_ordered(&mut self) -> bool {
+        match &mut self.caller {
+            Some(caller) => caller.has_ordered(),
+            None => false,
+        }
+    }
+
+    /// Since when its caller has been in its head, if it is, and was waited for.
+    pub fn in_head_since(&self) -> Option<Moment> {
+        match &self.caller {
+            Some(caller) if caller.is_slow() => Some(caller.since()),
+            _ => None,
+        }
+    }
+
+    /// Sends its caller away, if it has one.
+    pub fn clear<S: Sockets>(&mut self, sockets: &mut S) {
+        sockets.close(Source::Caller(self.at));
+        self.caller = None;
+    }
+
+    /// Its turn: an empty one takes a caller that waits. Tells whether there may be more to do at once.
+    pub fn turn<K: Keeper, S: Sockets>(
+        &mut self,
+        office: &mut Office<K>,
+        sockets: &mut S,
+        now: Moment,
+    ) -> bool
+        ensures { GoesAlong office.old office.new }
+    {
+        let Some(caller) = &mut self.caller else {
+            let is_taken = sockets.accept(self.at);
+            if is_taken {
+                self.caller = Some(Caller::new(self.alloc, now));
+            }
+            return is_taken;
+        };
+        match caller.go_on(office, sockets, Source::Caller(self.at), now) {
+            Ok(is_more) => is_more,
+            Err(Gone) => {
+                self.clear(sockets);
+                true
+            }
+        }
+    }
+}

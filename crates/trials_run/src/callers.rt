@@ -1,0 +1,100 @@
+//! Callers who take their time.
+use crate::guest::{Guest, Speech};
+use crate::scenes::{keep_up, office, world};
+use crate::world::World;
+use office_core::OfficeError;
+use office_plays::steps::push;
+use std::alloc::Global;
+use std::test::Fail;
+use telling::{Trial, twice};
+
+/// Half a head.
+const HALF: &str = "GET /points/e/readings/100";
+
+const WHOLE: &str = "GET /points/e/readings/100/101 HTTP/1.1\r\n\r\n";
+
+const ANSWER: &str =
+    "HTTP/1.1 200 OK\r\nContent-Type: application/json\r\nContent-Length: 46\r\nConnection: close\r\n\r\n{\"point\":\"e\",\"readings\":[[100,\"0\"],[101,\"3\"]]}";
+
+/// Expects what a caller heard, and when its connection was closed.
+fn assert_guest(trial: &Trial<'_>, guest: &Guest, heard: &str, gone: u64) {
+    trial.told(&"heard", &guest.heard.as_slice(), &heard.as_bytes());
+    trial.told(&"gone", &guest.gone, &Some(gone));
+}
+
+/// The number of the caller that finds all 64 places taken; the first one has 0.
+const LAST: u16 = 64;
+
+/// When a caller before that one comes: one every 10 milliseconds.
+fn comes(number: u16) -> u64 {
+    1_000 + 10 * u64::from(number)
+}
+
+/// All places are taken by callers who say half a head, and one more comes.
+fn crowd(alloc: Global) -> Result<Vec<Speech>, OfficeError> {
+    let mut speeches = Vec::new(alloc);
+    for number in 0..LAST {
+        push(&mut speeches, Speech::at_once(comes(number), HALF))?;
+    }
+    push(&mut speeches, Speech::at_once(3_500, WHOLE))?;
+    Ok(speeches)
+}
+
+/// The world after an office was kept up in it, in which these callers came.
+fn played(alloc: Global, speeches: &[Speech], most: usize) -> Result<World, OfficeError> {
+    let mut office = office(alloc)?;
+    let mut world = world(alloc, 12_000, None, speeches)?.with_most(most);
+    keep_up(alloc, &mut office, &mut world)?;
+    Ok(world)
+}
+
+/// The first goes for the last one, and each other once it has been in its head for five seconds.
+fn crowded(trial: &Trial<'_>) -> Result<(), OfficeError> {
+    let world = played(trial.alloc(), &crowd(trial.alloc())?, usize::MAX)?;
+    for (number, guest) in (0u16..).zip(&world.guests.all) {
+        match number {
+            0 => assert_guest(trial, guest, "", 3_500),
+            LAST => assert_guest(trial, guest, ANSWER, 3_500),
+            _ => assert_guest(trial, guest, "", comes(number).saturating_add(5_000)),
+        }
+    }
+    Ok(())
+}
+
+#[test]
+fn the_longest_in_its_head_goes_for_another(rt: HostRuntime) -> Result<(), Fail> {
+    Ok(twice!(rt, crowded)?)
+}
+
+/// One says a byte every 20 milliseconds, of which there are 43.
+fn slow(trial: &Trial<'_>) -> Result<(), OfficeError> {
+    let speech = Speech {
+        most: 1,
+        pause: 20,
+        ..Speech::at_once(4_000, WHOLE)
+    };
+    let world = played(trial.alloc(), &[speech], usize::MAX)?;
+    for guest in &world.guests.all {
+        assert_guest(trial, guest, ANSWER, 4_840);
+    }
+    Ok(())
+}
+
+#[test]
+fn a_caller_may_say_a_byte_at_a_time(rt: HostRuntime) -> Result<(), Fail> {
+    Ok(twice!(rt, slow)?)
+}
+
+/// A write takes seven bytes at most.
+fn narrow(trial: &Trial<'_>) -> Result<(), OfficeError> {
+    let world = played(trial.alloc(), &[Speech::at_once(4_000, WHOLE)], 7)?;
+    for guest in &world.guests.all {
+        assert_guest(trial, guest, ANSWER, 4_000);
+    }
+    Ok(())
+}
+
+#[test]
+fn an_answer_may_take_many_writes(rt: HostRuntime) -> Result<(), Fail> {
+    Ok(twice!(rt, narrow)?)
+}

@@ -1,0 +1,19 @@
+//! Tests of an office that stays up, in a small world with a clock of its own. Nothing stands on this crate.
+#![tactic(auto)]
+
+#[cfg(test)]
+mod arrivals;
+#[cfg(test)]
+mod callers;
+#[cfg(test)]
+mod guest;
+#[cfg(test)]
+mod lines;
+#[cfg(test)]
+mod orders;
+#[cfg(test)]
+mod scenes;
+#[cfg(test)]
+mod wire;
+#[cfg(test)]
+mod world;
