@@ -31,6 +31,7 @@ fn errand_text(alloc: Global, errand: &Errand) -> Result<String, AllocError> {
             format!(in alloc; "void {caller} {key} {point} {slot}")
         }
         Errand::Report { point, from, to } => format!(in alloc; "report {point} {from} {to}"),
+        Errand::Run { every, bind, port } => format!(in alloc; "run {every} {bind} {port}"),
         Errand::Serve { port, count } => format!(in alloc; "serve {port} {count:?}"),
     }
 }

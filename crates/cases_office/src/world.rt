@@ -6,7 +6,7 @@ use crate::databases::{connected, file_of, moved, worked_in};
 use crate::wire::{Devices, End};
 use case_pages::Block;
 use mb_mbap::Counted;
-use office_commands::{Failure, Fault, Host, Migration, Stores, Task, Why, work_in};
+use office_commands::{Failure, Fault, Host, Migration, Stay, Stores, Task, Why, work_in};
 use office_core::Office;
 use office_net::serve_one;
 use office_plays::refusing::Refusing;
@@ -312,6 +312,15 @@ impl<'a> Host for World<'a> {
     fn accept(&mut self, port: u16) -> Result<(End<'a>, End<'a>), Failure> {
         let address = format!(in self.rt.alloc(); "127.0.0.1:{port}")?;
         self.connect(address.as_str(), 0)
+    }
+
+    /// A page has no clock, and no callers that come by themselves.
+    fn stay_up<K: Keeper>(
+        &mut self,
+        _office: &mut Office<K>,
+        _stay: &Stay<'_>,
+    ) -> Result<(), Failure> {
+        Err(Failure::from(Fault::Line))
     }
 
     /// Answers the request of the page.

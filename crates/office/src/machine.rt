@@ -2,10 +2,14 @@
 ghost use Rattle.point_list.specs.Sites.{IsSound};
 
 use crate::stores::{migrate_on, work_on};
-use office_commands::{Failure, Fault, Host, Migration, Stores, Task, Timed, Why, connect, serve};
+use office_commands::{
+    Failure, Fault, Host, Migration, Stay, Stores, Task, Timed, Why, addresses_of, connect,
+    door_of, serve, stay_up,
+};
 use office_core::Office;
 use point_list::Site;
 use poll_book::Keeper;
+use run_sockets::System;
 use std::alloc::Global;
 use std::fs;
 use std::io::{self, ErrorKind, StdinLock, Write};
@@ -35,6 +39,28 @@ fn bound(rt: &HostRuntime, port: u16) -> io::Result<(TcpListener, SocketAddr)> {
     let listener = TcpListener::bind(rt, ("127.0.0.1", port))?;
     let address = listener.local_addr()?;
     Ok((listener, address))
+}
+
+/// The sockets of an office that stays up: they listen already, which is said.
+fn system_of<'a, K: Keeper>(
+    rt: &'a HostRuntime,
+    office: &Office<K>,
+    stay: &Stay<'_>,
+) -> Result<System<'a, HostRuntime>, Failure> {
+    let door = door_of(rt.alloc(), stay)?;
+    let addresses = addresses_of(rt, rt.alloc(), office.site())?;
+    let system = match System::new(rt, rt.alloc(), door, addresses) {
+        Ok(system) => system,
+        Err(error) => return Err(line_failure(error).of(rt.alloc(), stay.bind)),
+    };
+    let address = match system.address() {
+        Ok(address) => address,
+        Err(error) => return Err(line_failure(error)),
+    };
+    match eprintln!(rt; "office: listening on {address}") {
+        Ok(()) => Ok(system),
+        Err(_) => Err(Failure::from(Fault::File)),
+    }
 }
 
 /// A port of this host failed.
@@ -139,6 +165,15 @@ impl<'a> Host for Machine<'a> {
     ) -> Result<(), Failure> {
         let listener = listen(self.0, port)?;
         serve(self.0, office, &listener, count, seconds(timeout))
+    }
+
+    fn stay_up<K: Keeper>(
+        &mut self,
+        office: &mut Office<K>,
+        stay: &Stay<'_>,
+    ) -> Result<(), Failure> {
+        let mut system = system_of(self.0, office, stay)?;
+        stay_up(self.0.alloc(), office, &mut system, stay)
     }
 }
 

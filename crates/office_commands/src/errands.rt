@@ -1,7 +1,7 @@
 //! What is done in an office, wherever its store is.
 use crate::output::Output;
 use crate::running::unknown;
-use crate::{Failure, Fault, Host, Why, load, order, poll, void};
+use crate::{Failure, Fault, Host, Stay, Why, load, order, poll, void};
 use mb_mbap::Counted;
 use office_core::Office;
 use office_report::write_report;
@@ -139,5 +139,14 @@ pub fn work_in<H: Host, K: Keeper>(
             report_point(host, office, point.as_str(), *from, *to)
         }
         Errand::Serve { port, count } => host.serve(office, *port, *count, task.timeout),
+        Errand::Run { every, bind, port } => {
+            let stay = Stay {
+                every: *every,
+                timeout: task.timeout,
+                bind: bind.as_str(),
+                port: *port,
+            };
+            host.stay_up(office, &stay)
+        }
     }
 }

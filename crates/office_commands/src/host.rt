@@ -1,7 +1,7 @@
 //! Where the files, the streams and the store of a command are.
 ghost use Rattle.point_list.specs.Sites.{IsSound};
 
-use crate::{Failure, Task};
+use crate::{Failure, Stay, Task};
 use office_core::Office;
 use point_list::Site;
 use poll_book::Keeper;
@@ -50,6 +50,13 @@ pub trait Host {
         port: u16,
         count: Option<u32>,
         seconds: u16,
+    ) -> Result<(), Failure>;
+
+    /// Keeps an office up, by `stay_up`.
+    fn stay_up<K: Keeper>(
+        &mut self,
+        office: &mut Office<K>,
+        stay: &Stay<'_>,
     ) -> Result<(), Failure>;
 }
 

@@ -15,6 +15,7 @@ mod polling;
 mod running;
 mod serving;
 mod simulating;
+mod staying;
 mod timed;
 mod voiding;
 
@@ -29,5 +30,6 @@ pub use polling::{connect, poll};
 pub use running::run;
 pub use serving::serve;
 pub use simulating::{LinesFault, answer_lines, answer_stream};
+pub use staying::{Stay, addresses_of, door_of, stay_up};
 pub use timed::Timed;
 pub use voiding::void;

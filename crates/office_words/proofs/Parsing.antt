@@ -8,7 +8,7 @@ use Rattle.clap.specs.declared.error.Error.{Error}
 use Rattle.clap.specs.declared.parser.matches.ArgMatches.{ArgMatches}
 use Rattle.clap.proofs.OnLiterals.{clap_on_literals}
 use Rattle.office_words.specs.Jobs.{JobView, job_found, job_of, job_view, unless_refused}
-use Rattle.office_words.specs.Line.{help_line, without_help, bare_line, discover_line, load_line, migrate_line, named, office_line, option, order_line, place, plan_line, poll_line, preset, replay_line, report_line, serve_line, sim_line, spare, void_line, with_version, with_commands, with_line, with_value}
+use Rattle.office_words.specs.Line.{help_line, without_help, bare_line, discover_line, load_line, migrate_line, named, office_line, option, order_line, place, plan_line, poll_line, preset, replay_line, report_line, run_line, serve_line, sim_line, spare, void_line, with_version, with_commands, with_line, with_value}
 use Rattle.office_words.specs.Values.{Gives}
 use Rattle.office_words.specs.declared.job.Job.{Job}
 use Rattle.office_words.specs.declared.job.WordFault.{WordFault}
@@ -16,7 +16,7 @@ use Rattle.office_words.specs.declared.job.WordFault.TheVariants.{Words}
 
 -- what a proof unfolds to compute either command line
 unfoldable pub lines : Unit {0}
-unfolding clap_on_literals office_line help_line with_commands with_line with_value named option spare preset place bare_line without_help with_version replay_line load_line plan_line discover_line poll_line order_line report_line serve_line sim_line void_line migrate_line
+unfolding clap_on_literals office_line help_line with_commands with_line with_value named option spare preset place bare_line without_help with_version replay_line load_line plan_line discover_line poll_line order_line report_line serve_line sim_line void_line migrate_line run_line
 lines = tt
 
 -- matches and faults are functions of the words

@@ -1,12 +1,12 @@
 -- The job that words ask for.
-use Rattle.std.specs.Prelude.{◌≡◌, ◌≢◌, ◌⊎◌, ℕ, ℤ, List, [], ◌∷◌, map, ◌&&◌, ◌+◌, nat_le, Option, Some, None, if◌then◌else◌, codes, string_bytes, String, Vec}
+use Rattle.std.specs.Prelude.{◌≡◌, ◌≢◌, ◌⊎◌, ℕ, ℤ, List, [], ◌∷◌, map, ◌&&◌, ◌+◌, nat_le, nat_lt, Option, Some, None, if◌then◌else◌, codes, string_bytes, String, Vec}
 use Rattle.std.specs.declared.alloc.Global.{Global}
 use Rattle.std.specs.Str.{bytes_eq}
 use Rattle.clap.specs.Words.{IsAmong, Kinds, Row, Text, fault_of, first_of, subcommand_of}
 use Rattle.clap.specs.declared.error.kind.ErrorKind.{ErrorKind}
 use Rattle.clap.specs.declared.error.kind.ErrorKind.TheVariants.{DisplayHelp, DisplayVersion}
 use Rattle.office_words.specs.Line.{help_line, office_line}
-use Rattle.office_words.specs.Values.{◌>>=◌, caller_of, if_given, key_of, number_of, port_of, seconds_of, value_of}
+use Rattle.office_words.specs.Values.{◌>>=◌, caller_of, if_given, key_of, number_of, period_of, port_of, seconds_of, value_of}
 use Rattle.office_words.specs.declared.job.Errand.{Errand}
 use Rattle.office_words.specs.declared.job.Errand.TheVariants as errand
 use Rattle.office_words.specs.declared.job.Job.{Job}
@@ -20,6 +20,7 @@ pub data ErrandView : Type 0 where
   void : (caller key point : Text) (slot : ℕ) → ErrandView
   report : (point : Text) (from to : ℕ) → ErrandView
   serve : (port : ℕ) (count : Option ℕ) → ErrandView
+  run : (every : ℕ) (bind : Text) (port : ℕ) → ErrandView
 
 abbrev pub errand_view : Errand → ErrandView
 errand_view (errand.Load caller key list) = load caller key (string_bytes list)
@@ -28,6 +29,7 @@ errand_view (errand.Order caller key point value) = order caller key (string_byt
 errand_view (errand.Void caller key point slot) = void caller key (string_bytes point) slot
 errand_view (errand.Report point from to) = report (string_bytes point) from to
 errand_view (errand.Serve port count) = serve port count
+errand_view (errand.Run every bind port) = run every (string_bytes bind) port
 
 -- a job, with texts as lists of bytes
 pub data JobView : Type 0 where
@@ -118,27 +120,42 @@ serve_of rows = do
   count ← if_given number_of (first_of (codes "count") rows)
   office_of rows (serve port count)
 
+-- an answer is waited for for less than a slot
+unfoldable pub run_of : List Row → Option JobView
+run_of rows = do
+  timeout ← first_of (codes "timeout") rows >>= seconds_of
+  every ← first_of (codes "every") rows >>= period_of
+  bind ← first_of (codes "bind") rows
+  port ← first_of (codes "port") rows >>= port_of
+  if nat_lt timeout every then office_of rows (run every bind port) else None
+
 unfoldable pub sim_of : List Row → Option JobView
 sim_of rows = do
   image ← first_of (codes "image") rows
   port ← if_given port_of (first_of (codes "port") rows)
   Some (sim image port)
 
--- the job of a command with its matches
-abbrev pub job_in : Text × List Row → Option JobView
-job_in (name, rows) =
-    if bytes_eq name (codes "replay") then Some replay
-    else if bytes_eq name (codes "load") then load_of rows
-    else if bytes_eq name (codes "plan") then plan_of rows
-    else if bytes_eq name (codes "discover") then discover_of rows
+-- the job of a command with its matches that does an errand in an office
+abbrev pub errand_job_in : Text × List Row → Option JobView
+errand_job_in (name, rows) =
+    if bytes_eq name (codes "load") then load_of rows
     else if bytes_eq name (codes "poll") then poll_of rows
     else if bytes_eq name (codes "order") then order_of rows
     else if bytes_eq name (codes "void") then void_of rows
     else if bytes_eq name (codes "report") then report_of rows
     else if bytes_eq name (codes "serve") then serve_of rows
+    else if bytes_eq name (codes "run") then run_of rows
+    else None
+
+-- and of any command
+abbrev pub job_in : Text × List Row → Option JobView
+job_in (name, rows) =
+    if bytes_eq name (codes "replay") then Some replay
+    else if bytes_eq name (codes "plan") then plan_of rows
+    else if bytes_eq name (codes "discover") then discover_of rows
     else if bytes_eq name (codes "sim") then sim_of rows
     else if bytes_eq name (codes "migrate") then migrate_of rows
-    else None
+    else errand_job_in (name, rows)
 
 abbrev pub job_found : Option (Text × List Row) → Option JobView
 job_found found = found >>= job_in

@@ -53,6 +53,15 @@ key = option (codes "key")
 abbrev pub timeout : Rule
 timeout = preset (codes "timeout") (codes "5")
 
+abbrev pub every : Rule
+every = preset (codes "every") (codes "60")
+
+abbrev pub bind : Rule
+bind = preset (codes "bind") (codes "127.0.0.1")
+
+abbrev pub port : Rule
+port = preset (codes "port") (codes "8080")
+
 -- ---- the commands
 
 abbrev pub with_values : App → List Rule → App
@@ -92,6 +101,10 @@ sim_line = with_values (named (codes "sim")) (option (codes "image") ∷ spare (
 unfoldable pub migrate_line : App
 migrate_line = with_values (named (codes "migrate")) (store ∷ timeout ∷ [])
 
+unfoldable pub run_line : App
+run_line =
+    with_values (named (codes "run")) (store ∷ site ∷ timeout ∷ every ∷ bind ∷ port ∷ [])
+
 -- ---- the program
 
 abbrev pub with_lines : App → List App → App
@@ -110,9 +123,9 @@ device_lines = discover_line ∷ poll_line ∷ order_line ∷ []
 abbrev pub answer_lines : List App
 answer_lines = report_line ∷ serve_line ∷ sim_line ∷ []
 
--- that put right what is stored
+-- that put right what is stored, and the one that stays up
 abbrev pub store_lines : List App
-store_lines = void_line ∷ migrate_line ∷ []
+store_lines = void_line ∷ migrate_line ∷ run_line ∷ []
 
 unfoldable pub with_commands : App → App
 with_commands a = with_lines a (list_lines ++ device_lines ++ answer_lines ++ store_lines)

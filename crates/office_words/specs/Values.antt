@@ -26,6 +26,10 @@ port_of = number_within 65535
 abbrev pub seconds_of : List ℕ → Option ℕ
 seconds_of text = number_within 3600 text >>= λ n. if n == 0 then None else Some n
 
+-- at least one second, at most a day
+abbrev pub period_of : List ℕ → Option ℕ
+period_of text = number_within 86400 text >>= λ n. if n == 0 then None else Some n
+
 -- digits, with or without a minus before them, that spell a number of 128 bits with sign
 abbrev pub value_of : List ℕ → Option ℤ
 value_of text = signed_of text

@@ -1,7 +1,7 @@
 //! Steps of building a command: an option or a place more, with what help says of it.
 ghost use Rattle.std.specs.Prelude.{◌≡◌, ◌∷◌, [], IfOk, codes, false};
 ghost use Rattle.clap.specs.declared.builder.command.Command.TheViews.{out-Command};
-ghost use Rattle.office_words.specs.Line.{line_of, option, place, preset, site, spare, store, timeout, with_line, with_value, with_values};
+ghost use Rattle.office_words.specs.Line.{bind, every, line_of, option, place, port, preset, site, spare, store, timeout, with_line, with_value, with_values};
 
 use clap::{Arg, Command};
 use std::alloc::{AllocError, Global};
@@ -115,7 +115,30 @@ pub(crate) fn with_key<'a>(alloc: Global, command: Command<'a>) -> Result<Comman
     )
 }
 
+/// A command with one more `--name VALUE`, which has a value where it is missing.
 #[tactic(auto, unfolding(crate::specs::Line::line_of, crate::specs::Line::preset, crate::specs::Line::with_value))]
+pub(crate) fn with_preset<'a>(
+    alloc: Global,
+    command: Command<'a>,
+    name: &'a str,
+    value: &'a str,
+    usual: &'a str,
+    help: &'a str,
+) -> Result<Command<'a>, AllocError>
+    requires { (out-Command command).has_globals ≡ false }
+    ensures line { IfOk result (λ c. line_of c
+        ≡ with_value (line_of command.entry) (preset name.entry.now usual.entry.now)) }
+    ensures plain { IfOk result (λ c. (out-Command c).has_globals ≡ false) }
+{
+    command.arg(
+        Arg::new(alloc, name)
+            .long(name)
+            .value_name(value)
+            .help(help)
+            .default_value(usual),
+    )
+}
+
 pub(crate) fn with_timeout<'a>(
     alloc: Global,
     command: Command<'a>,
@@ -126,12 +149,45 @@ pub(crate) fn with_timeout<'a>(
         ≡ with_value (line_of command.entry) (preset (codes "timeout") (codes "5"))) }
     ensures plain { IfOk result (λ c. (out-Command c).has_globals ≡ false) }
 {
-    command.arg(
-        Arg::new(alloc, "timeout")
-            .long("timeout")
-            .value_name("SECONDS")
-            .help(help)
-            .default_value("5"),
+    with_preset(alloc, command, "timeout", "SECONDS", "5", help)
+}
+
+pub(crate) fn with_clock<'a>(alloc: Global, command: Command<'a>) -> Result<Command<'a>, AllocError>
+    requires { (out-Command command).has_globals ≡ false }
+    ensures line { IfOk result (λ c. line_of c ≡ with_value (line_of command.entry) every) }
+    ensures plain { IfOk result (λ c. (out-Command c).has_globals ≡ false) }
+{
+    with_preset(
+        alloc,
+        command,
+        "every",
+        "SECONDS",
+        "60",
+        "The length of a slot, 1 to 86400 seconds; slot 0 began with 1970",
+    )
+}
+
+/// A command with where callers come: an address and a port.
+pub(crate) fn with_door<'a>(alloc: Global, command: Command<'a>) -> Result<Command<'a>, AllocError>
+    requires { (out-Command command).has_globals ≡ false }
+    ensures line { IfOk result (λ c. line_of c ≡ with_values (line_of command.entry) (bind ∷ port ∷ [])) }
+    ensures plain { IfOk result (λ c. (out-Command c).has_globals ≡ false) }
+{
+    let command = with_preset(
+        alloc,
+        command,
+        "bind",
+        "ADDRESS",
+        "127.0.0.1",
+        "The IP address that callers reach",
+    )?;
+    with_preset(
+        alloc,
+        command,
+        "port",
+        "PORT",
+        "8080",
+        "The port, 0 to 65535, where 0 takes a free one",
     )
 }
 

@@ -1,10 +1,10 @@
 //! The job of each command, by the values that its matches have.
 ghost use Rattle.clap.specs.Words.{found_of, rows_of, subcommand_rows_of};
-ghost use Rattle.office_words.specs.Jobs.{discover_of, errand_view, job_found, job_view, load_of, migrate_of, office_of, order_of, plan_of, poll_of, report_of, serve_of, sim_of, void_of};
+ghost use Rattle.office_words.specs.Jobs.{discover_of, errand_job_in, errand_view, job_found, job_view, load_of, migrate_of, office_of, order_of, plan_of, poll_of, report_of, run_of, serve_of, sim_of, void_of};
 ghost use Rattle.office_words.specs.Values.{Gives};
 
 use crate::given::{
-    caller, key, number, number_if_given, port, port_if_given, seconds, text, value,
+    caller, key, number, number_if_given, period, port, port_if_given, seconds, text, value,
 };
 use crate::{Errand, Job, WordFault};
 use clap::ArgMatches;
@@ -136,6 +136,20 @@ fn serve(alloc: Global, matches: &ArgMatches) -> Result<Job, WordFault>
     in_office(alloc, matches, Errand::Serve { port, count })
 }
 
+#[tactic(auto, unfolding(crate::specs::Jobs::run_of))]
+fn run(alloc: Global, matches: &ArgMatches) -> Result<Job, WordFault>
+    ensures { Gives job_view result (run_of (rows_of (found_of matches.now))) }
+{
+    let timeout = seconds(matches, "timeout")?;
+    let every = period(matches, "every")?;
+    let bind = text(alloc, matches, "bind")?;
+    let port = port(matches, "port")?;
+    if u32::from(timeout) >= every {
+        return Err(WordFault::Words);
+    }
+    in_office(alloc, matches, Errand::Run { every, bind, port })
+}
+
 #[tactic(auto, unfolding(crate::specs::Jobs::sim_of))]
 fn sim(alloc: Global, matches: &ArgMatches) -> Result<Job, WordFault>
     ensures { Gives job_view result (sim_of (rows_of (found_of matches.now))) }
@@ -145,22 +159,33 @@ fn sim(alloc: Global, matches: &ArgMatches) -> Result<Job, WordFault>
     Ok(Job::Sim { image, port })
 }
 
+/// The job of a command of this name that does an errand in an office.
+fn errand_job(alloc: Global, name: &str, matches: &ArgMatches) -> Result<Job, WordFault>
+    ensures { Gives job_view result (errand_job_in (name.now, rows_of (found_of matches.now))) }
+{
+    match name {
+        "load" => load(alloc, matches),
+        "poll" => poll(alloc, matches),
+        "order" => order(alloc, matches),
+        "void" => void(alloc, matches),
+        "report" => report(alloc, matches),
+        "serve" => serve(alloc, matches),
+        "run" => run(alloc, matches),
+        _ => Err(WordFault::Words),
+    }
+}
+
 /// The job of the command that was found.
 pub(crate) fn job_in(alloc: Global, matches: &ArgMatches) -> Result<Job, WordFault>
     ensures { Gives job_view result (job_found (subcommand_rows_of matches.now)) }
 {
     match matches.subcommand() {
         Some(("replay", _)) => Ok(Job::Replay),
-        Some(("load", inner)) => load(alloc, inner),
         Some(("plan", inner)) => plan(alloc, inner),
         Some(("discover", inner)) => discover(alloc, inner),
-        Some(("poll", inner)) => poll(alloc, inner),
-        Some(("order", inner)) => order(alloc, inner),
-        Some(("void", inner)) => void(alloc, inner),
-        Some(("report", inner)) => report(alloc, inner),
-        Some(("serve", inner)) => serve(alloc, inner),
         Some(("sim", inner)) => sim(alloc, inner),
         Some(("migrate", inner)) => migrate(alloc, inner),
-        _ => Err(WordFault::Words),
+        Some((name, inner)) => errand_job(alloc, name, inner),
+        None => Err(WordFault::Words),
     }
 }

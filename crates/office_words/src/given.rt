@@ -1,7 +1,7 @@
 //! Values of an option or a place as the words give them.
 ghost use Rattle.std.specs.Prelude.{◌≡◌, option_and_then, option_map, string_bytes};
 ghost use Rattle.clap.specs.Words.{first_of, found_of, rows_of};
-ghost use Rattle.office_words.specs.Values.{Gives, caller_of, if_given, key_of, number_of, port_of, seconds_of, value_of};
+ghost use Rattle.office_words.specs.Values.{Gives, caller_of, if_given, key_of, number_of, period_of, port_of, seconds_of, value_of};
 
 use crate::{WordFault, values};
 use clap::ArgMatches;
@@ -46,6 +46,12 @@ pub(crate) fn seconds(matches: &ArgMatches, id: &str) -> Result<u16, WordFault>
     ensures { Gives (λ n. n) result (option_and_then seconds_of (first_of id.now (rows_of (found_of matches.now)))) }
 {
     values::seconds(word(matches, id)?)
+}
+
+pub(crate) fn period(matches: &ArgMatches, id: &str) -> Result<u32, WordFault>
+    ensures { Gives (λ n. n) result (option_and_then period_of (first_of id.now (rows_of (found_of matches.now)))) }
+{
+    values::period(word(matches, id)?)
 }
 
 pub(crate) fn value(matches: &ArgMatches, id: &str) -> Result<i128, WordFault>

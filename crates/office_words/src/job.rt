@@ -85,6 +85,14 @@ pub enum Errand {
         /// How many connections; without it there is no end.
         count: Option<u32>,
     },
+    /// Stays up: polls each slot, sends each order at once, and answers over HTTP.
+    Run {
+        /// The seconds of a slot, more than the timeout, 86,400 at most.
+        every: u32,
+        /// The address that callers reach.
+        bind: String,
+        port: u16,
+    },
 }
 
 /// Why words ask for no job.

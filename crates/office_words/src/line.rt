@@ -1,11 +1,11 @@
 //! The command line, with what help says of each command.
 ghost use Rattle.std.specs.Prelude.{◌≡◌, IfOk, false};
 ghost use Rattle.clap.specs.declared.builder.command.Command.TheViews.{out-Command};
-ghost use Rattle.office_words.specs.Line.{bare_line, answer_lines, device_lines, discover_line, help_line, list_lines, without_help, line_of, load_line, migrate_line, named, office_line, order_line, plan_line, poll_line, replay_line, report_line, serve_line, sim_line, store_lines, void_line, with_version, with_commands, with_lines};
+ghost use Rattle.office_words.specs.Line.{bare_line, answer_lines, device_lines, discover_line, help_line, list_lines, without_help, line_of, load_line, migrate_line, named, office_line, order_line, plan_line, poll_line, replay_line, report_line, run_line, serve_line, sim_line, store_lines, void_line, with_version, with_commands, with_lines};
 
 use crate::builders::{
-    with_caller, with_key, with_office, with_option, with_place, with_site, with_spare, with_store,
-    with_subcommand, with_timeout,
+    with_caller, with_clock, with_door, with_key, with_office, with_option, with_place, with_site,
+    with_spare, with_store, with_subcommand, with_timeout,
 };
 use clap::Command;
 use std::alloc::{AllocError, Global};
@@ -22,6 +22,9 @@ const POLLING: &str =
 
 const SERVING: &str =
     "How long to wait for the store, and for a caller to read or to write, 1 to 3600 seconds, as 10";
+
+const RUNNING: &str =
+    "How long to wait for the store, for a connection and for each answer, 1 to 3600 seconds and less than a slot, as 5";
 
 const DISCOVERING: &str =
     "How long to wait for a connection and for each answer, 1 to 3600 seconds, as 10; the search ends after twelve times as long";
@@ -320,6 +323,23 @@ fn migrate<'a>(alloc: Global) -> Result<Command<'a>, AllocError>
     Ok(command)
 }
 
+#[tactic(auto, unfolding(crate::specs::Line::run_line))]
+fn run<'a>(alloc: Global) -> Result<Command<'a>, AllocError>
+    ensures line { IfOk result (λ c. line_of c ≡ run_line) }
+    ensures plain { IfOk result (λ c. (out-Command c).has_globals ≡ false) }
+{
+    let command = command(
+        alloc,
+        "run",
+        "Stays up: polls each slot by the clock, sends orders at once, and answers over HTTP",
+        "Stays up: polls each slot by the clock, sends orders at once, and answers over HTTP, many callers at a time.\nIt ends where standard input does, if that is a pipe or a terminal.\n\nExample: office run --store roof.db --site site.toml --every 60",
+    );
+    let command = with_office(alloc, command, RUNNING)?;
+    let command = with_clock(alloc, command)?;
+    let command = with_door(alloc, command)?;
+    Ok(command)
+}
+
 /// The commands for scripts and point lists after those that a command has.
 fn with_list_commands<'a>(alloc: Global, command: Command<'a>) -> Result<Command<'a>, AllocError>
     ensures { IfOk result (λ c. line_of c ≡ with_lines (line_of command.entry) list_lines) }
@@ -350,12 +370,13 @@ fn with_answer_commands<'a>(alloc: Global, command: Command<'a>) -> Result<Comma
     Ok(command)
 }
 
-/// The commands that put right what is stored after those that a command has.
+/// The commands that put right what is stored, and the one that stays up, after those that a command has.
 fn with_store_commands<'a>(alloc: Global, command: Command<'a>) -> Result<Command<'a>, AllocError>
     ensures { IfOk result (λ c. line_of c ≡ with_lines (line_of command.entry) store_lines) }
 {
     let command = with_subcommand(command, void(alloc)?)?;
     let command = with_subcommand(command, migrate(alloc)?)?;
+    let command = with_subcommand(command, run(alloc)?)?;
     Ok(command)
 }
 

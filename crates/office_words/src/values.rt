@@ -1,5 +1,5 @@
 //! Values of a command line, each in its form.
-ghost use Rattle.office_words.specs.Values.{Gives, caller_of, key_of, number_of, port_of, seconds_of, value_of};
+ghost use Rattle.office_words.specs.Values.{Gives, caller_of, key_of, number_of, period_of, port_of, seconds_of, value_of};
 
 use crate::WordFault;
 use poll_book::{Caller, Key};
@@ -29,6 +29,15 @@ pub(crate) fn seconds(text: &str) -> Result<u16, WordFault>
     match within(text.as_bytes(), 3600) {
         None | Some(0) => Err(WordFault::Words),
         Some(seconds) => Ok(seconds as u16),
+    }
+}
+
+pub(crate) fn period(text: &str) -> Result<u32, WordFault>
+    ensures { Gives (λ n. n) result (period_of text.now) }
+{
+    match within(text.as_bytes(), 86_400) {
+        None | Some(0) => Err(WordFault::Words),
+        Some(seconds) => Ok(seconds as u32),
     }
 }
 
