@@ -1,0 +1,140 @@
+//! Orders over 243 devices, a few of them waiting at a time: each is ordered, sent and settled by the device's echo.
+use crate::work::{Size, granted, print_digest};
+use mb_mbap::Frame;
+use office_core::{Arrival, Office};
+use office_plays::builders::{HEADER, begun, named};
+use poll_book::MemKeeper;
+use poll_match::Conn;
+use std::alloc::{AllocError, Global};
+use std::io;
+use workload_plant::{Dice, Digest, Plant};
+
+/// So many orders wait at a time.
+const WAITING: u32 = 8;
+
+/// The settings of all devices.
+fn list(alloc: Global, plant: &Plant) -> Result<String, AllocError> {
+    let mut text = String::from_str(alloc, HEADER)?;
+    for device in 0..plant.devices {
+        plant.push_setting(&mut text, "", device)?;
+    }
+    Ok(text)
+}
+
+// The calls of an office stand in functions that promise nothing of them.
+
+fn load(office: &mut Office<MemKeeper>, list: &str) -> Option<()> {
+    let (caller, key) = named("list").ok()?;
+    office.load(&caller, &key, list.as_bytes()).ok()?;
+    Some(())
+}
+
+/// The order of a value for a device's setting, under the key of its number.
+fn order(
+    alloc: Global,
+    office: &mut Office<MemKeeper>,
+    number: u32,
+    device: u32,
+    value: u32,
+) -> Option<()> {
+    let key = format!(in alloc; "order-{number}").ok()?;
+    let point = format!(in alloc; "meter-{device}.limit").ok()?;
+    let (caller, key) = named(key.as_str()).ok()?;
+    office
+        .order(&caller, &key, point.as_str(), i128::from(value))
+        .ok()?;
+    Some(())
+}
+
+fn send(office: &mut Office<MemKeeper>, conn: Conn, number: u32) -> Option<Frame> {
+    office.send_order(conn, number).ok()
+}
+
+fn arrive(office: &mut Office<MemKeeper>, conn: Conn, frame: &Frame) -> Option<Arrival> {
+    office.arrive(conn, frame).ok()
+}
+
+fn conns(alloc: Global, office: &mut Office<MemKeeper>, lines: u32) -> Option<Vec<Conn>> {
+    let mut conns = Vec::new(alloc);
+    for line in 0..lines {
+        let name = format!(in alloc; "line-{line}").ok()?;
+        conns.push(office.open_line(name.as_str()).ok()?).ok()?;
+    }
+    Some(conns)
+}
+
+/// The order of a number is sent to its device, whose echo settles it.
+fn settle(
+    digest: &mut Digest,
+    office: &mut Office<MemKeeper>,
+    conn: Conn,
+    number: u32,
+) -> Option<()> {
+    let sent = send(office, conn, number)?;
+    digest.add(sent.encode().as_bytes());
+    let arrival = arrive(office, conn, &sent)?;
+    digest.add_number(u64::from(arrival == Arrival::Settled));
+    Some(())
+}
+
+/// The device of the order of a number: no two that wait have the same.
+fn device_of(plant: &Plant, number: u32) -> u32 {
+    number.wrapping_mul(7).wrapping_add(plant.seed % 100) % plant.devices.max(1)
+}
+
+/// Orders so many, and settles each when so many more wait.
+fn carry_out(
+    alloc: Global,
+    digest: &mut Digest,
+    office: &mut Office<MemKeeper>,
+    plant: &Plant,
+    count: u32,
+) -> Option<()> {
+    let conns = conns(alloc, office, plant.lines)?;
+    let mut dice = Dice::new(plant.seed);
+    for before in 0..count {
+        let number = before + 1;
+        order(
+            alloc,
+            office,
+            number,
+            device_of(plant, number),
+            dice.below(10_000),
+        )?;
+        if number > WAITING {
+            let due = number - WAITING;
+            let line = plant.line_of(device_of(plant, due));
+            settle(digest, office, *conns.get(line as usize)?, due)?;
+        }
+    }
+    Some(())
+}
+
+/// An office that knows the settings.
+fn office_of(alloc: Global, plant: &Plant) -> Option<Office<MemKeeper>> {
+    let site = plant.site(alloc).ok()?;
+    let mut office = begun(alloc, MemKeeper::new(alloc), site.as_str())
+        .ok()?
+        .ok()?;
+    load(&mut office, list(alloc, plant).ok()?.as_str())?;
+    Some(office)
+}
+
+pub fn carried_out(rt: &HostRuntime, seed: u32, size: Size) -> io::Result<()> {
+    let plant = Plant {
+        lines: 5,
+        devices: 243,
+        points: 0,
+        seed,
+    };
+    let mut digest = Digest::new();
+    let mut office = granted(office_of(rt.alloc(), &plant))?;
+    granted(carry_out(
+        rt.alloc(),
+        &mut digest,
+        &mut office,
+        &plant,
+        size.of(300_000, 500),
+    ))?;
+    print_digest(rt, "orders", &digest)
+}
