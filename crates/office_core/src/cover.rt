@@ -1,10 +1,11 @@
 //! Which points a read covers, and what a reply gives to them.
-ghost use Rattle.std.specs.Prelude.{◌≡◌, ◌≤◌, ◌<◌, ◌+◌, ◌∷◌, [], true, false, IfOk, length, take, drop, get_or};
+ghost use Rattle.std.specs.Prelude.{◌≡◌, ◌&&◌, ◌≤◌, ◌<◌, ◌+◌, ◌∷◌, [], true, false, IfOk, length, take, drop, get_or};
+ghost use Rattle.sunspec.specs.PointType.{row};
 ghost use Rattle.office_core.specs.Cover as cover;
 ghost use Rattle.office_core.specs.Cover.{Brings};
 
 use mb_pdu::{Bits, Registers, Reply, Table};
-use point_list::{Point, Site};
+use point_list::{Point, Site, is_same_name};
 use poll_book::PointRow;
 use read_planner::Read;
 use std::alloc::{AllocError, Global};
@@ -53,20 +54,26 @@ fn starts_in(read: &Read, address: u16) -> bool
     lies_in(read, address, 1)
 }
 
+/// The point is of the table that is read and lies whole in the read.
+fn lies_whole(read: &Read, point: &Point) -> bool
+    ensures { result ≡ (cover.reads_table read.now.function point.now.table
+        && (cover.has_size point.now.table (row point.now.kind).registers && cover.lies_in read.now point.now.address (row point.now.kind).registers)) }
+{
+    let count = point.kind.registers();
+    reads_table(read.function, point.table)
+        && has_size(point.table, count)
+        && lies_in(read, point.address, count)
+}
+
 /// The point is of the device and of the table that is read, and lies whole in the read.
-// Each reply tries all points, most of which `starts_in` rejects.
+// Each reply tries all points, most of which `starts_in` or the end of the device's name rejects.
 #[inline(always)]
 pub(crate) fn covers(device: &[u8], read: &Read, point: &Point) -> bool
     ensures { result ≡ cover.covers device.now read.now point.now }
 {
-    if !starts_in(read, point.address) {
-        return false;
-    }
-    let count = point.kind.registers();
-    point.device.as_bytes() == device
-        && reads_table(read.function, point.table)
-        && has_size(point.table, count)
-        && lies_in(read, point.address, count)
+    starts_in(read, point.address)
+        && is_same_name(point.device.as_bytes(), device)
+        && lies_whole(read, point)
 }
 
 fn ends_in_time(read: &Read) -> bool

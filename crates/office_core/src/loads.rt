@@ -12,26 +12,9 @@ ghost use Rattle.office_core.specs.Loads as loads;
 ghost use Rattle.office_core.specs.Loads.{ArePointsOf};
 
 use crate::names::Names;
-use point_list::{ListError, ListFault, Point, Site, read_list, resolve};
+use point_list::{ListError, ListFault, Point, Site, is_same_name, read_list, resolve};
 use poll_book::{Outcome, PointRow, Reason, RequestFault, StoreFault};
 use std::alloc::{AllocError, Global};
-
-fn ends_otherwise(a: &[u8], b: &[u8]) -> bool
-    ensures { a.now ≡ b.now → result ≡ false }
-{
-    match (a.last(), b.last()) {
-        (Some(last), Some(other)) => last != other,
-        _ => false,
-    }
-}
-
-/// Names of one list mostly begin alike, so their last bytes are compared first.
-#[inline(always)]
-fn is_same_name(a: &[u8], b: &[u8]) -> bool
-    ensures { result ≡ bytes_eq a.now b.now }
-{
-    !ends_otherwise(a, b) && a == b
-}
 
 fn place_named(known: &[PointRow], name: &[u8]) -> Option<usize>
     ensures { result ≡ position (λ point. bytes_eq point.point.name name.now) known.now }

@@ -7,7 +7,7 @@ ghost use Rattle.office_net.specs.declared.job.LineJob.TheVariants as jobs;
 ghost use Rattle.office_net.specs.Jobs.{AreDeviceJobs, ArePlanned, can_read, device_jobs, devices_on, points_on, readable};
 
 use crate::job::LineJob;
-use point_list::{Device, Point, Site, Text};
+use point_list::{Device, Point, Site, Text, is_same_name};
 use poll_book::PointRow;
 use read_planner::{Read, can_be_read, plan};
 use std::alloc::{AllocError, Global};
@@ -16,7 +16,7 @@ use std::alloc::{AllocError, Global};
 fn is_of(row: &PointRow, device: &str) -> bool
     ensures { result ≡ bytes_eq row.now.point.device device.now }
 {
-    row.point.device.as_str() == device
+    is_same_name(row.point.device.as_bytes(), device.as_bytes())
 }
 
 /// Whether a point can be read.

@@ -7,7 +7,7 @@ ghost use Rattle.poll_book.specs.declared.rows.SettingRow.{SettingRow as Order};
 
 use crate::points::waits_on;
 use crate::rows::{PointRow, SettingRow};
-use point_list::Label;
+use point_list::{Label, is_same_name};
 
 /// How far the orders were searched for a device: none of so many first ones waits on it. So each
 /// order is passed once for each device.
@@ -22,7 +22,7 @@ fn mark_place(marks: &[Mark], device: &str) -> Option<usize>
     ensures place { IfSome result (λ place. place < length marks.now) }
     ensures found { IfSome result (λ place. (d : Marked) → (slice_index_or marks.now place d).device ≡ device.now) }
 {
-    marks.iter().position(|mark| mark.device.as_str() == device)
+    marks.iter().position(|mark| is_same_name(mark.device.as_bytes(), device.as_bytes()))
 }
 
 /// How many first orders the device's mark has passed.

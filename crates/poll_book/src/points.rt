@@ -3,6 +3,7 @@ ghost use Rattle.poll_book.specs.Orders.{as_setting, is_of, is_waiting, point_at
 ghost use Rattle.poll_book.specs.Marks.{AreCounted};
 
 use crate::rows::{OrderState, PointRow, SettingRow};
+use point_list::is_same_name;
 
 /// The point of a number. Points are numbered from 1: one of the first, which are counted as numbered
 /// so, stands at its number less 1.
@@ -23,7 +24,7 @@ fn is_of(points: &[PointRow], counted: usize, number: u32, device: &str) -> bool
     ensures { result ≡ is_of device.now (point_at points.now number) }
 {
     match point_of(points, counted, number) {
-        Some(known) => known.point.device.as_str() == device,
+        Some(known) => is_same_name(known.point.device.as_bytes(), device.as_bytes()),
         None => false,
     }
 }
