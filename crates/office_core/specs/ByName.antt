@@ -1,5 +1,5 @@
 -- Points by their names.
-use Rattle.std.specs.Prelude.{◌≡◌, ℕ, List, cond, Option, Some, None, ⊤}
+use Rattle.std.specs.Prelude.{◌≡◌, ℕ, List, cond, Option, Some, None, ⊤, option_copied}
 use Rattle.std.specs.Str.{bytes_eq}
 use Rattle.std.specs.Borrow.{Bor}
 use Rattle.std.specs.Map.{lookup}
@@ -9,7 +9,7 @@ use Rattle.office_core.specs.Loads.{known_named}
 
 -- the point of a name
 abbrev pub named : Names → List ℕ → Option PointRow
-named names name = lookup (λ (key : Bor (List ℕ)). bytes_eq name key.now) names.rows.entries
+named names name = option_copied (lookup (λ (key : Bor (List ℕ)). bytes_eq name key.now) names.rows.entries)
 
 -- this point where the names are equal, and else what was there
 abbrev pub first_named : List ℕ → List ℕ → PointRow → Option PointRow → Option PointRow

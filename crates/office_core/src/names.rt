@@ -10,7 +10,7 @@ use std::collections::BTreeMap;
 /// Of each name the first point, so that a list of many rows isn't looked for one by one.
 #[derive(Drop)]
 pub(crate) struct Names<'a> {
-    rows: BTreeMap<&'a [u8], PointRow>,
+    rows: BTreeMap<&'a [u8], &'a PointRow>,
 }
 
 impl<'a> Names<'a> {
@@ -26,11 +26,11 @@ impl<'a> Names<'a> {
     pub(crate) fn get(&self, name: &[u8]) -> Option<PointRow>
         ensures { result ≡ named self.now name.now }
     {
-        self.rows.get(name).copied()
+        self.rows.get(name).copied().copied()
     }
 
-    fn put(&mut self, name: &'a [u8], row: PointRow) -> Result<(), AllocError>
-        ensures { OnOk result ((other : List ℕ) → named self.new other ≡ first_named other name.now row (named self.old other)) }
+    fn put(&mut self, name: &'a [u8], row: &'a PointRow) -> Result<(), AllocError>
+        ensures { OnOk result ((other : List ℕ) → named self.new other ≡ first_named other name.now row.now (named self.old other)) }
     {
         match self.rows.insert(name, row) {
             Ok(_) => Ok(()),
@@ -46,7 +46,7 @@ impl<'a> Names<'a> {
         // From the last on, so that of one name the first stays.
         for behind in 0..known.len() {
             let row = &known[known.len() - 1 - behind];
-            names.put(row.point.name.as_bytes(), *row)?;
+            names.put(row.point.name.as_bytes(), row)?;
         }
         Ok(names)
     }
