@@ -3,6 +3,7 @@ pub mod Name
 pub mod Sites
 pub mod SiteFile
 pub mod Texts
+pub mod DeviceNames
 pub mod Columns
 pub mod Edition
 pub mod Lists

@@ -4,6 +4,7 @@ ghost use Rattle.std.specs.List.{list_any};
 ghost use Rattle.std.specs.Str.{bytes_eq};
 ghost use Rattle.csv.specs.Records.{fields_of};
 ghost use Rattle.point_list.specs.Label.{is_label};
+ghost use Rattle.point_list.specs.DeviceNames.{has_device};
 ghost use Rattle.point_list.specs.Texts.{has_text};
 ghost use Rattle.point_list.specs.Lists.{SaysRow, ends_in_time, fault_below, first_failed, meaning_checks, place_checks, names_of, table_in};
 ghost use Rattle.point_list.specs.Judged.{SaysPlace, SaysMeaning};
@@ -12,6 +13,7 @@ use crate::columns::{
     address_unless, field_of, is_left_out, model_in, order_in, role_in, roll_in, scale_in,
     table_named, type_named, type_sized,
 };
+use crate::device_names::DeviceNames;
 use crate::error::ListFault;
 use crate::label::Label;
 use crate::list::MOST_POINTS;
@@ -43,9 +45,9 @@ pub(crate) struct Meaning {
 }
 
 /// The device of this name, if there is one.
-fn device_named(devices: &Texts<'_>, text: &[u8]) -> Option<Label>
-    requires { has_text devices.now text.now ≡ true → is_label text.now ≡ true }
-    ensures { result ≡ (if has_text devices.now text.now then Some text.now else None) }
+fn device_named(devices: &DeviceNames<'_>, text: &[u8]) -> Option<Label>
+    requires { has_device devices.now text.now ≡ true → is_label text.now ≡ true }
+    ensures { result ≡ (if has_device devices.now text.now then Some text.now else None) }
 {
     if !devices.has(text) {
         return None;
@@ -59,14 +61,14 @@ fn device_named(devices: &Texts<'_>, text: &[u8]) -> Option<Label>
 #[tactic(auto, unfolding(crate::specs::Lists::table_in, crate::specs::Lists::model_in, crate::specs::Lists::address_in))]
 fn place_in(
     columns: usize,
-    devices: &Texts<'_>,
+    devices: &DeviceNames<'_>,
     before: usize,
     record: &ByteRecord,
 ) -> Result<Place, (ListFault, u8)>
-    requires { (text : List ℕ) → has_text devices.now text ≡ true → is_label text ≡ true }
-    ensures place { IfOk result (λ x. (first_failed (place_checks columns (has_text devices.now) before (fields_of record.now)) ≡ None)
+    requires { (text : List ℕ) → has_device devices.now text ≡ true → is_label text ≡ true }
+    ensures place { IfOk result (λ x. (first_failed (place_checks columns (has_device devices.now) before (fields_of record.now)) ≡ None)
         × SaysPlace (fields_of record.now) x) }
-    ensures fault { IfErr result (λ e. first_failed (place_checks columns (has_text devices.now) before (fields_of record.now)) ≡ Some e) }
+    ensures fault { IfErr result (λ e. first_failed (place_checks columns (has_device devices.now) before (fields_of record.now)) ≡ Some e) }
 {
     if record.len() != columns {
         return Err((ListFault::BadCsv, 0));
@@ -144,17 +146,17 @@ fn ends_in_time(address: u16, kind: PointType) -> bool
 #[tactic(auto, unfolding(crate::specs::Lists::fault_below))]
 pub(crate) fn row_in(
     columns: usize,
-    devices: &Texts<'_>,
+    devices: &DeviceNames<'_>,
     names: &Texts<'_>,
     rows: &[ListRow],
     number: u32,
     record: &ByteRecord,
 ) -> Result<ListRow, (ListFault, u8)>
-    requires devices { (text : List ℕ) → has_text devices.now text ≡ true → is_label text ≡ true }
+    requires devices { (text : List ℕ) → has_device devices.now text ≡ true → is_label text ≡ true }
     requires names { (text : List ℕ) → has_text names.now text ≡ list_any (λ name. bytes_eq text name) (names_of rows.now) }
-    ensures row { IfOk result (λ x. (fault_below columns (has_text devices.now) (names_of rows.now) (fields_of record.now) ≡ None)
+    ensures row { IfOk result (λ x. (fault_below columns (has_device devices.now) (names_of rows.now) (fields_of record.now) ≡ None)
         × SaysRow number (fields_of record.now) x) }
-    ensures fault { IfErr result (λ e. fault_below columns (has_text devices.now) (names_of rows.now) (fields_of record.now) ≡ Some e) }
+    ensures fault { IfErr result (λ e. fault_below columns (has_device devices.now) (names_of rows.now) (fields_of record.now) ≡ Some e) }
 {
     let place = match place_in(columns, devices, rows.len(), record) {
         Ok(place) => place,

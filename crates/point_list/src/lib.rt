@@ -5,6 +5,7 @@
 
 mod agreeing;
 mod columns;
+mod device_names;
 mod error;
 mod items;
 mod judge;

@@ -1,22 +1,20 @@
 //! Point lists, as CSV.
-ghost use Rattle.std.specs.Prelude.{◌≡◌, ◌≢◌, ◌⊎◌, ◌&&◌, ◌||◌, ℕ, List, Some, IfOk, IfErr, OnOk, map, true};
-ghost use Rattle.std.specs.List.{list_any};
-ghost use Rattle.std.specs.Str.{bytes_eq};
+ghost use Rattle.std.specs.Prelude.{◌≡◌, ◌≢◌, ◌⊎◌, ℕ, List, Some, IfOk, IfErr, map, true};
 ghost use Rattle.csv.specs.Records.{fields_of};
 ghost use Rattle.point_list.specs.Label.{is_label};
 ghost use Rattle.point_list.specs.Columns.{is_device};
-ghost use Rattle.point_list.specs.Texts.{has_text};
+ghost use Rattle.point_list.specs.DeviceNames.{has_device};
 ghost use Rattle.point_list.specs.Lists.{AreRows, IsFaultOf, FaultlessBelow, IsFirstInBody, IsMemory, SayRows, records_of};
 ghost use Rattle.point_list.specs.Edition.{Second};
 ghost use Rattle.point_list.specs.Header.{begins_as_header, is_header, is_header_with_words, is_plain_header};
 ghost use Rattle.std.specs.Prelude.{length};
 
 use crate::columns::field_of;
+use crate::device_names::DeviceNames;
 use crate::error::{ListError, ListFault};
 use crate::judge::row_in;
-use crate::label::is_label;
 use crate::point::ListRow;
-use crate::site::{Device, Site};
+use crate::site::Site;
 use crate::texts::Texts;
 use csv::{ByteRecord, ErrorKind, ReaderBuilder};
 use std::alloc::{AllocError, Global};
@@ -84,41 +82,17 @@ fn records(alloc: Global, bytes: &[u8]) -> Result<Vec<ByteRecord>, AllocError>
     Ok(rows)
 }
 
-/// Adds the name of a device, if points can have it.
-fn add_device<'a>(names: &mut Texts<'a>, name: &'a [u8]) -> Result<(), AllocError>
-    ensures { OnOk result ((text : List ℕ) → has_text names.new text ≡ ((is_label text && bytes_eq text name.now) || has_text names.old text)) }
-{
-    if is_label(name) {
-        names.add(name)
-    } else {
-        Ok(())
-    }
-}
-
-/// The names of devices, to look for one in.
-fn names_of_devices<'a>(alloc: Global, devices: &'a [Device]) -> Result<Texts<'a>, AllocError>
-    ensures { IfOk result (λ names. (text : List ℕ) → has_text names text ≡ (is_label text && list_any (λ d. bytes_eq text d.name) devices.now)) }
-{
-    let mut names = Texts::new(alloc);
-    for device in devices {
-        if add_device(&mut names, device.name.as_bytes()).is_err() {
-            return Err(AllocError);
-        }
-    }
-    Ok(names)
-}
-
 /// The rows of a body of records below so many columns, or its first fault.
 fn rows_of(
     alloc: Global,
     columns: usize,
-    devices: &Texts<'_>,
+    devices: &DeviceNames<'_>,
     body: &[ByteRecord],
 ) -> Result<Vec<ListRow>, ListError>
-    requires { (text : List ℕ) → has_text devices.now text ≡ true → is_label text ≡ true }
-    ensures rows { IfOk result (λ v. FaultlessBelow columns (has_text devices.now) (map fields_of body.now) (length (map fields_of body.now))
+    requires { (text : List ℕ) → has_device devices.now text ≡ true → is_label text ≡ true }
+    ensures rows { IfOk result (λ v. FaultlessBelow columns (has_device devices.now) (map fields_of body.now) (length (map fields_of body.now))
         × SayRows 2 (map fields_of body.now) v.items) }
-    ensures fault { IfErr result (λ e. IsMemory e ⊎ IsFirstInBody columns (has_text devices.now) (map fields_of body.now) e) }
+    ensures fault { IfErr result (λ e. IsMemory e ⊎ IsFirstInBody columns (has_device devices.now) (map fields_of body.now) e) }
 {
     let mut rows = Vec::new(alloc);
     let mut names = Texts::new(alloc);
@@ -150,7 +124,7 @@ fn rows_in(alloc: Global, site: &Site, list: &[ByteRecord]) -> Result<Vec<ListRo
     if !is_header(first) {
         return Err(ListError::new(ListFault::BadHeader, 1, 0));
     }
-    let devices = match names_of_devices(alloc, site.devices.as_slice()) {
+    let devices = match DeviceNames::of(alloc, site.devices.as_slice(), body.len()) {
         Ok(devices) => devices,
         Err(_) => return Err(ListError::memory()),
     };

@@ -5,7 +5,7 @@ use Rattle.std.specs.Str.{bytes_eq}
 use Rattle.point_list.specs.Label.{is_label}
 use Rattle.point_list.specs.declared.site.Device.{Device}
 use Rattle.point_list.proofs.DeviceNames.{any-more, on_ok, shared}
-use Rattle.point_list.proofs.list.names_of_devices.Goals as goal
+use Rattle.point_list.proofs.device_names.sorted.Goals as goal
 
 pub loop-device-preserved : goal.loop-device-preserved
 loop-device-preserved c =
