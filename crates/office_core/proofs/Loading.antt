@@ -3,8 +3,8 @@ use Rattle.std.proofs.Common.{◌≡◌, ◌≢◌, ◌≤◌, ◌<◌, ◌+◌,
 use Rattle.std.specs.Prelude.{option_map, IfOk, IfErr, OnOk}
 use Rattle.std.specs.List.{position, position_or_len}
 use Rattle.std.proofs.lemmas.Bool.{le-leb, lt-leb, cases_lt, lt-ltb, le-ltb}
-use Rattle.std.proofs.lemmas.List.{length-map}
-use Rattle.std.proofs.lemmas.Option.{none-some, same_Some}
+use Rattle.std.proofs.lemmas.List.{length-map, get_or_default}
+use Rattle.std.proofs.lemmas.List.Sums.{position_or_len_is}
 use Rattle.point_list.specs.Columns.{Record, field, is_device}
 use Rattle.point_list.specs.Edition.{Edition, Second}
 use Rattle.point_list.specs.Lists.{AreRows, SayRows, names_in, IsFaultOf, IsMemory}
@@ -17,7 +17,6 @@ use Rattle.point_list.specs.declared.error.ListFault.TheVariants.{Memory}
 use Rattle.point_list.specs.declared.point.ListRow.{ListRow}
 use Rattle.point_list.proofs.OneMeaning.{fault_is, rows_are}
 use Rattle.point_list.proofs.Rows.{few_names}
-use Rattle.poll_book.specs.declared.requests.RequestFault.TheVariants.{PointDiffers}
 use Rattle.poll_book.specs.declared.rows.PointRow.{PointRow}
 use Rattle.office_core.specs.Loads.{AreRowsFrom, ArePointsOf, Refused, Taken, agrees, differing, known_named, loading_of, loading_rows, loading_new, unknown_of, points_of, numbered_on, too_many}
 use Rattle.office_core.proofs.Numbering.{length-numbered}
@@ -141,16 +140,39 @@ differing_at known n (x ∷ rows) from = by (agrees x.point (known_named known x
         ap Some first ∙ ap (λ b. option_map (λ k. k + n) (cond b (Some 0) None)) (sym (lt-ltb 0 (suc (length (points_of rows))) (omega arith)))
     by true rest = rest ∙ later (position_or_len other (points_of rows)) (length (points_of rows))
 
--- what is no Some is None
-pub none_from : {A : Type 0} (o : Option A) → ((x : A) → o ≢ Some x) → o ≡ None
-none_from None other = refl
-none_from (Some x) other = absurd (other x refl)
+-- the first of the points that differs is at a place before which all agree
+pub differs_at : (known : List PointRow) (points : List Point) (rows : List ListRow) (i : ℕ) (point : Point) → ArePointsOf rows points → i < length points
+    → ((k : ℕ) (d : Point) → k < i → agrees (get_or points k d) (known_named known (get_or points k d).name) ≡ true)
+    → agrees (get_or points i point) (known_named known (get_or points i point).name) ≡ false
+    → Some (i + 2) ≡ option_map (λ (row : ListRow). row.row) (differing known rows)
+differs_at known points rows i point are lt agree differ =
+    let other : Point → Bool = λ (p : Point). not (agrees p (known_named known p.name)) in
+    let here : position_or_len other points ≡ i = position_or_len_is other points i point (omega arith) (λ k less. ap not (agree k point less)) (λ less. ap not differ) in
+    let found : position other points ≡ Some i = ap (λ n. cond (ltb n (length points)) (Some n) None) here ∙ ap (λ b. cond b (Some i) None) (lt-ltb i (length points) lt) in
+    sym (ap (option_map (λ k. k + 2)) found) ∙ ap (λ l. option_map (λ k. k + 2) (position other l)) are.same ∙ sym (differing_at known 2 rows are.numbered)
 
--- a list is refused for the first row that differs
-pub differs_so : (known : List PointRow) (rows : List ListRow) (n : ℕ) → Some n ≡ option_map (λ (row : ListRow). row.row) (differing known rows)
-    → loading_of known (Ok rows) ≡ Refused (record { fault = PointDiffers; row = n; column = 1 })
-differs_so known rows n is = by (differing known rows) is
-  where
-    by : (o : Option ListRow) → Some n ≡ option_map (λ (row : ListRow). row.row) o → loading_rows known rows o ≡ Refused (record { fault = PointDiffers; row = n; column = 1 })
-    by None e = absurd (none-some n (sym e))
-    by (Some row) e = ap (λ k. Refused (record { fault = PointDiffers; row = k; column = 1 })) (sym (same_Some n row.row e))
+-- none of the points differs where all agree
+pub none_differs : (known : List PointRow) (points : List Point) (rows : List ListRow) → ArePointsOf rows points
+    → ((k : ℕ) (d : Point) → k < length points → agrees (get_or points k d) (known_named known (get_or points k d).name) ≡ true)
+    → None ≡ option_map (λ (row : ListRow). row.row) (differing known rows)
+none_differs known [] rows are agree = ap (λ l. option_map (λ k. k + 2) (position (λ (p : Point). not (agrees p (known_named known p.name))) l)) are.same ∙ sym (differing_at known 2 rows are.numbered)
+none_differs known (point ∷ more) rows are agree =
+    let points : List Point = point ∷ more in
+    let n : ℕ = length points in
+    let other : Point → Bool = λ (p : Point). not (agrees p (known_named known p.name)) in
+    let here : position_or_len other points ≡ n = position_or_len_is other points n point (omega arith) (λ k less. ap not (agree k point less)) (λ less. absurd (omega arith)) in
+    let found : position other points ≡ None = ap (λ m. cond (ltb m n) (Some m) None) here ∙ ap (λ b. cond b (Some n) None) (le-ltb n n (omega arith)) in
+    sym (ap (option_map (λ k. k + 2)) found) ∙ ap (λ l. option_map (λ k. k + 2) (position other l)) are.same ∙ sym (differing_at known 2 rows are.numbered)
+
+-- one point more agrees
+pub one_more_agrees : (known : List PointRow) (points : List Point) (i : ℕ) (point : Point) → i < length points → point ≡ get_or points i point
+    → agrees point (known_named known point.name) ≡ true
+    → ((k : ℕ) (d : Point) → k < i → agrees (get_or points k d) (known_named known (get_or points k d).name) ≡ true)
+    → (k : ℕ) (d : Point) → k < i + 1 → agrees (get_or points k d) (known_named known (get_or points k d).name) ≡ true
+one_more_agrees known points i point lt is agree before k d less =
+    ⊎_elim (λ (earlier : k < i). before k d earlier)
+    (λ (le : i ≤ k).
+    let same : k ≡ i = omega arith in
+    let there : point ≡ get_or points k d = is ∙ get_or_default points i point d lt ∙ ap (λ n. get_or points n d) (sym same) in
+    subst (λ (p : Point). agrees p (known_named known p.name) ≡ true) there agree)
+    (cases_lt k i)

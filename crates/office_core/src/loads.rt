@@ -1,5 +1,5 @@
 //! What becomes of a list that is loaded.
-ghost use Rattle.std.specs.Prelude.{◌≡◌, ◌≢◌, ◌≤◌, ◌+◌, ◌⊎◌, [], List, false, is_none, length, not, option_map, IfOk, IfErr, OnOk, Ok, Err};
+ghost use Rattle.std.specs.Prelude.{◌≡◌, ◌≢◌, ◌≤◌, ◌+◌, ◌⊎◌, [], List, false, length, option_map, None, Some, IfOk, IfErr, OnOk, Ok, Err};
 ghost use Rattle.std.specs.List.{position};
 ghost use Rattle.std.specs.Str.{bytes_eq};
 ghost use Rattle.point_list.specs.Edition.{Second};
@@ -83,67 +83,43 @@ fn find_known(known: &[PointRow], names: &Option<Names>, name: &[u8]) -> Option<
     }
 }
 
-/// No point of that name is known, or it is this point.
-fn agrees(known: &[PointRow], names: &Option<Names>, point: &Point) -> bool
-    requires { AreNamesOf known.now names.now }
-    ensures { result ≡ loads.agrees point.now (loads.known_named known.now point.now.name) }
-{
-    match find_known(known, names, point.name.as_bytes()) {
-        None => true,
-        Some(there) => is_same_point(&there.point, point),
-    }
-}
-
-fn is_unknown(known: &[PointRow], names: &Option<Names>, point: &Point) -> bool
-    requires { AreNamesOf known.now names.now }
-    ensures { result ≡ is_none (loads.known_named known.now point.now.name) }
-{
-    find_known(known, names, point.name.as_bytes()).is_none()
-}
-
-fn place_differing(known: &[PointRow], names: &Option<Names>, points: &[Point]) -> Option<usize>
-    requires { AreNamesOf known.now names.now }
-    ensures { result ≡ position (λ point. not (loads.agrees point (loads.known_named known.now point.name))) points.now }
-{
-    points.iter().position(|point| !agrees(known, names, point))
-}
-
-/// The number of the first row of a list whose name is known with another definition. The first row is
-/// the second record.
-fn first_differing(known: &[PointRow], names: &Option<Names>, points: &[Point]) -> Option<u32>
-    requires names_of { AreNamesOf known.now names.now }
-    requires few { length points.now ≤ 10000 }
-    ensures { (rows : List ListRow) → ArePointsOf rows points.now → result ≡ option_map (λ row. row.row) (loads.differing known.now rows) }
-{
-    match place_differing(known, names, points) {
-        Some(place) => Some(place as u32 + 2),
-        None => None,
-    }
-}
-
-/// The rows of the points that aren't known, numbered on.
+/// The rows of the points that aren't known, numbered on, or the number of the first row of a list whose name is
+/// known with another definition. The first row is the second record. Each name is looked for once.
 fn new_points(
     alloc: Global,
     known: &[PointRow],
     names: &Option<Names>,
     points: &[Point],
-) -> Result<Vec<PointRow>, AllocError>
+) -> Result<Result<Vec<PointRow>, u32>, AllocError>
     requires names_of { AreNamesOf known.now names.now }
     requires many { length known.now ≤ 10000 }
     requires few { length points.now ≤ 10000 }
-    ensures rows { IfOk result (λ rows. rows.items ≡ loads.numbered_on (length known.now) (loads.unknown_of known.now points.now)) }
+    ensures rows { IfOk result (λ told. IfOk told (λ rows. rows.items ≡ loads.numbered_on (length known.now) (loads.unknown_of known.now points.now))) }
+    ensures agree { IfOk result (λ told. OnOk told ((rows : List ListRow) → ArePointsOf rows points.now
+        → None ≡ option_map (λ row. row.row) (loads.differing known.now rows))) }
+    ensures differ { IfOk result (λ told. IfErr told (λ row. (rows : List ListRow) → ArePointsOf rows points.now
+        → Some row ≡ option_map (λ row. row.row) (loads.differing known.now rows))) }
 {
     let mut rows = Vec::new(alloc);
+    let mut row = 2u32;
     for point in points {
-        if is_unknown(known, names, point) {
-            let number = (known.len() + rows.len()) as u32 + 1;
-            rows.push(PointRow {
-                number,
-                point: *point,
-            })?;
+        match find_known(known, names, point.name.as_bytes()) {
+            Some(there) => {
+                if !is_same_point(&there.point, point) {
+                    return Ok(Err(row));
+                }
+            }
+            None => {
+                let number = (known.len() + rows.len()) as u32 + 1;
+                rows.push(PointRow {
+                    number,
+                    point: *point,
+                })?;
+            }
         }
+        row += 1;
     }
-    Ok(rows)
+    Ok(Ok(rows))
 }
 
 fn refused(fault: RequestFault, row: u32, column: u8) -> Outcome
@@ -166,10 +142,12 @@ fn judge_points(
     ensures memory { IfErr result (λ e. e ≡ StoreFault.Memory) }
 {
     let names = names_for(alloc, known, points.len())?;
-    if let Some(row) = first_differing(known, &names, points) {
-        return Ok((refused(RequestFault::PointDiffers, row, 1), Vec::new(alloc)));
-    }
-    let new = new_points(alloc, known, &names, points)?;
+    let new = match new_points(alloc, known, &names, points)? {
+        Ok(new) => new,
+        Err(row) => {
+            return Ok((refused(RequestFault::PointDiffers, row, 1), Vec::new(alloc)));
+        }
+    };
     if known.len() + new.len() > 10000 {
         let fault = RequestFault::List(ListFault::TooManyPoints);
         return Ok((refused(fault, 0, 0), Vec::new(alloc)));
