@@ -33,6 +33,7 @@ mod SettleOrder
 mod Backward
 mod LastOrder
 mod Nearest
+mod LastRow
 mod LastReading
 mod Behind
 mod Sixteen
@@ -56,6 +57,7 @@ mod SetTotal
 mod FirstTotals
 mod ShownTotals
 mod VoidKeys
+mod LastVoid
 mod VoidCount
 mod PutVoid
 mod Moving

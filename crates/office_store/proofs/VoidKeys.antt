@@ -43,7 +43,7 @@ void_key_query = record {
   offset = lit (Int (pos 0));
 }
 
-abbrev void_key_names : List (List ℕ)
+abbrev pub void_key_names : List (List ℕ)
 void_key_names = codes "point" ∷ codes "slot" ∷ []
 
 void_key_is : (command_of (understood office_schema void_key_text) ≡ Select (record { lets = []; body = void_key_query }) void_key_names) × (reads_listing office_schema void_key_text ≡ false) × IsPlain (understood office_schema void_key_text)
@@ -51,7 +51,7 @@ unfolding understood everything
 void_key_is = (refl, refl, (refl, refl))
 
 -- the key of a void stands in its columns
-void_columns : (r : Row) (e : Key × ⊤) → stored_void r ≡ Some e → (column r 1 ≡ Int (pos e.0.0)) × (column r 2 ≡ Int (pos e.0.1))
+pub void_columns : (r : Row) (e : Key × ⊤) → stored_void r ≡ Some e → (column r 1 ≡ Int (pos e.0.0)) × (column r 2 ≡ Int (pos e.0.1))
 void_columns r e h =
     let p = and_then_some _ (number_of (column r 1)) _ h in
     let s = map_some _ (number_of (column r 2)) _ p.2 in

@@ -5,7 +5,7 @@ use Rattle.sqlite.specs.Held.{Held, state}
 use Rattle.poll_book.specs.Tables.{Tables}
 use Rattle.office_store.specs.declared.keeper.SqlKeeper.{SqlKeeper}
 use Rattle.office_store.specs.Waiting.{HoldsBy}
-use Rattle.office_store.specs.Ends.{HasEnds}
+use Rattle.office_store.specs.Ends.{HasEnds, HasVoidEnds}
 
 abbrev pub connection_of : {S : Type 0} {g : Ghosts S} → SqlKeeper S g → Held S
 connection_of keeper = keeper.connection
@@ -18,4 +18,5 @@ looked_by keeper = keeper.lookups
 
 -- as far as its database can still be read, it holds these tables, and what it knows of them beside it is so
 abbrev pub IsKeptBy : {S : Type 0} {g : Ghosts S} → SqlKeeper S g → Tables → Type 0
-IsKeptBy {g = g} keeper kept = HoldsBy (state g keeper.connection) keeper.waiting kept × HasEnds (state g keeper.connection) keeper.ends.known.items kept
+IsKeptBy {g = g} keeper kept =
+    HoldsBy (state g keeper.connection) keeper.waiting kept × HasEnds (state g keeper.connection) keeper.ends.known.items kept × HasVoidEnds (state g keeper.connection) keeper.void_ends.known.items kept

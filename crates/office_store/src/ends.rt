@@ -1,22 +1,22 @@
-//! Where the readings of points end: it is asked for once, and followed as readings come, so that a slot behind the
-//! end, as that of a new reading is, needs no statement.
+//! Where the readings and the voids of points end: it is asked for once, and followed as they come, so that a slot behind
+//! the end, as that of a new reading is, needs no statement.
 
 ghost use Rattle.std.specs.Prelude.{◌≡◌, ◌<◌, ◌≤◌, false, true, All, IfOk, IfSome, is_some};
 ghost use Rattle.sqlite.specs.Held.{state};
 ghost use Rattle.sqlite.specs.State.{HasCleanDisk};
-ghost use Rattle.poll_book.specs.Changes.{as_rows};
-ghost use Rattle.poll_book.specs.Tables.{Key, Readings, Tables, reading_at, with_rows};
+ghost use Rattle.poll_book.specs.Changes.{as_rows, with_voided};
+ghost use Rattle.poll_book.specs.Tables.{Key, Readings, Tables, Voids, is_void, reading_at, with_rows};
 ghost use Rattle.poll_book.specs.Totals.{value_after};
-ghost use Rattle.office_store.specs.Ends.{AreEnds, HasEnds, IsEndOf, IsWithin, end_at};
+ghost use Rattle.office_store.specs.Ends.{AreEnds, HasEnds, HasVoidEnds, IsEndOf, IsWithin, end_at};
 ghost use Rattle.office_store.specs.Kept.{Holds, Keeps};
 
-use crate::readings;
-use poll_book::{PointRow, ReadingRow, StoreFault};
+use crate::{readings, voids};
+use poll_book::{PointRow, ReadingRow, StoreFault, VoidRow};
 use sqlite::{Alter, Connection};
 use std::alloc::Global;
 
-/// A slot for each point, by the points' numbers, that all its readings stand before: 0 where it has none, and nothing
-/// where it isn't known.
+/// A slot for each point, by the points' numbers, that all its rows of a table stand before: 0 where it has none, and
+/// nothing where it isn't known.
 #[derive(Drop)]
 pub(crate) struct Ends {
     known: Vec<Option<u64>>,
@@ -25,7 +25,8 @@ pub(crate) struct Ends {
 impl Ends {
     /// Nothing is known.
     pub(crate) fn new(alloc: Global) -> Ends
-        ensures { (table : Readings) → AreEnds result.known.items table }
+        ensures readings { (table : Readings) → AreEnds result.known.items table }
+        ensures voids { (table : Voids) → AreEnds result.known.items table }
     {
         Ends {
             known: Vec::new(alloc),
@@ -55,7 +56,7 @@ impl Ends {
         self.known[place] = Some(end);
     }
 
-    /// Moves the end of a reading's point behind it.
+    /// Moves the end of a point behind a slot of it.
     fn raise(&mut self, point: u32, slot: u32)
         ensures same { (key : Key) → IsWithin self.old.known.items key → IsWithin self.new.known.items key }
         ensures within { IsWithin self.new.known.items (point, slot) }
@@ -84,9 +85,20 @@ impl Ends {
             self.raise_all(readings);
         }
     }
+
+    /// Follows the voided slot of a change, if it was written.
+    pub(crate) fn follow_void(&mut self, void: Option<VoidRow>, is_written: bool)
+        ensures written { is_written ≡ true → (table : Voids) → AreEnds self.old.known.items table → AreEnds self.new.known.items (with_voided void table) }
+        ensures same { is_written ≡ false → self.new ≡ self.old }
+    {
+        match void {
+            Some(row) if is_written => self.raise(row.point, row.slot),
+            _ => {}
+        }
+    }
 }
 
-/// The end of a point, which is asked for if it isn't known.
+/// The end of a point's readings, which is asked for if it isn't known.
 fn end_of<S: Alter>(
     connection: &mut Connection<S>,
     ends: &mut Ends,
@@ -128,6 +140,71 @@ pub(crate) fn has_reading<S: Alter>(
         return Ok(false);
     }
     readings::has_reading(connection, point, slot)
+}
+
+/// The end of a point's voids, which is asked for if it isn't known. It stays unknown where the database doesn't tell it:
+/// a question that is only to save others refuses nothing.
+fn void_end_of<S: Alter>(connection: &mut Connection<S>, ends: &mut Ends, point: u32) -> Option<u64>
+    requires { connection.old.in_transaction ≡ false }
+    ensures value { HasCleanDisk (state S.Store connection.new) → (kept : Tables) → Holds (state S.Store connection.old) kept
+        → HasVoidEnds (state S.Store connection.old) ends.old.known.items kept → IfSome result (λ end. IsEndOf point end kept.voids) }
+    ensures same { (kept : Tables) → Holds (state S.Store connection.old) kept → HasVoidEnds (state S.Store connection.old) ends.old.known.items kept
+        → HasVoidEnds (state S.Store connection.new) ends.new.known.items kept }
+    ensures keeps { Keeps (state S.Store connection.old) (state S.Store connection.new) }
+    ensures idle { connection.new.in_transaction ≡ false }
+{
+    if let Some(end) = ends.at(point) {
+        return Some(end);
+    }
+    match voids::end_of(connection, point) {
+        Ok(end) => {
+            ends.note(point, end);
+            Some(end)
+        }
+        Err(_) => None,
+    }
+}
+
+/// Whether a slot is known to stand behind all voids of a point.
+fn is_behind_voids<S: Alter>(
+    connection: &mut Connection<S>,
+    ends: &mut Ends,
+    point: u32,
+    slot: u32,
+) -> bool
+    requires { connection.old.in_transaction ≡ false }
+    ensures value { HasCleanDisk (state S.Store connection.new) → (kept : Tables) → Holds (state S.Store connection.old) kept
+        → HasVoidEnds (state S.Store connection.old) ends.old.known.items kept → result ≡ true → false ≡ is_void kept.voids (point, slot) }
+    ensures same { (kept : Tables) → Holds (state S.Store connection.old) kept → HasVoidEnds (state S.Store connection.old) ends.old.known.items kept
+        → HasVoidEnds (state S.Store connection.new) ends.new.known.items kept }
+    ensures keeps { Keeps (state S.Store connection.old) (state S.Store connection.new) }
+    ensures idle { connection.new.in_transaction ≡ false }
+{
+    match void_end_of(connection, ends, point) {
+        Some(end) => end <= u64::from(slot),
+        None => false,
+    }
+}
+
+/// Whether a slot of a point is voided. Behind the end of its voids none is.
+pub(crate) fn is_void<S: Alter>(
+    connection: &mut Connection<S>,
+    ends: &mut Ends,
+    point: u32,
+    slot: u32,
+) -> Result<bool, StoreFault>
+    requires { connection.old.in_transaction ≡ false }
+    ensures value { HasCleanDisk (state S.Store connection.new) → (kept : Tables) → Holds (state S.Store connection.old) kept
+        → HasVoidEnds (state S.Store connection.old) ends.old.known.items kept → IfOk result (λ is. is ≡ is_void kept.voids (point, slot)) }
+    ensures same { (kept : Tables) → Holds (state S.Store connection.old) kept → HasVoidEnds (state S.Store connection.old) ends.old.known.items kept
+        → HasVoidEnds (state S.Store connection.new) ends.new.known.items kept }
+    ensures keeps { Keeps (state S.Store connection.old) (state S.Store connection.new) }
+    ensures idle { connection.new.in_transaction ≡ false }
+{
+    if is_behind_voids(connection, ends, point, slot) {
+        return Ok(false);
+    }
+    voids::is_void(connection, point, slot)
 }
 
 /// The value of the nearest counted reading of a point after a slot, if there is one. None stands behind its end.

@@ -36,6 +36,8 @@ pub struct SqlKeeper<S: Alter> {
     waiting: Option<Vec<SettingRow>>,
     // Where the readings of points end, once it was read.
     ends: Ends,
+    // Where the voids of points end, once it was read.
+    void_ends: Ends,
     // How many calls were refused, up to the greatest count.
     refusals: u64,
     // How many look-ups were made, up to the greatest count.
@@ -97,6 +99,7 @@ impl<S: Alter> SqlKeeper<S> {
                         connection,
                         waiting: None,
                         ends: Ends::new(alloc),
+                        void_ends: Ends::new(alloc),
                         refusals: 0,
                         lookups: 0,
                     })
@@ -177,7 +180,12 @@ impl<S: Alter> Neighbours for SqlKeeper<S> {
 
     fn voided(&mut self, point: &PointRow, slot: u32) -> Result<bool, StoreFault> {
         count_look(&mut self.lookups);
-        let is = voids::is_void(&mut self.connection, point.number, slot);
+        let is = ends::is_void(
+            &mut self.connection,
+            &mut self.void_ends,
+            point.number,
+            slot,
+        );
         counted(&mut self.refusals, is)
     }
 
@@ -271,6 +279,7 @@ impl<S: Alter> Keeper for SqlKeeper<S> {
         let is_written = written.is_ok();
         self.waiting = waiting::followed(self.waiting.take(), &change.setting, is_written);
         self.ends.follow(change.readings.as_slice(), is_written);
+        self.void_ends.follow_void(change.void, is_written);
         counted(&mut self.refusals, written)
     }
 }

@@ -146,8 +146,8 @@ pub(crate) fn has_reading<S: Alter>(
     }
 }
 
-/// The slot behind the reading that the rows of an answer show, and 0 where they show none.
-fn end_shown(rows: &[Row]) -> Result<u64, StoreFault>
+/// The slot behind the row of a point that an answer shows, and 0 where it shows none.
+pub(crate) fn end_shown(rows: &[Row]) -> Result<u64, StoreFault>
     ensures { IfOk result (ShowEnd rows.now) }
 {
     match rows {

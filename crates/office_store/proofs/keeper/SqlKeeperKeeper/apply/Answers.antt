@@ -7,7 +7,7 @@ use Rattle.poll_book.specs.Changes.{applied, as_rows}
 use Rattle.office_store.specs.Kept.{Holds, MayLeave}
 use Rattle.office_store.specs.Keepers.{IsKeptBy}
 use Rattle.office_store.specs.Waiting.{AreRead, HoldsBy}
-use Rattle.office_store.specs.Ends.{AreEnds, HasEnds}
+use Rattle.office_store.specs.Ends.{AreEnds, HasEnds, HasVoidEnds}
 use Rattle.office_store.specs.declared.ends.Ends.{Ends}
 use Rattle.office_store.proofs.keeper.SqlKeeperKeeper.apply.Goals as goal
 
@@ -24,7 +24,7 @@ returns-clause-ok g c kept held fresh =
     let done = c.apply-written.ensures in
     let new = state g.S.Store c.apply-written.new.connection in
     let after = applied c.args.change.now kept in
-    let still : is_ok c.apply-written.result ≡ true → Holds new after → HoldsBy new c.followed.result after × HasEnds new c.follow.new.self.known.items after =
+    let still : is_ok c.apply-written.result ≡ true → Holds new after → HoldsBy new c.followed.result after × HasEnds new c.follow.new.self.known.items after × HasVoidEnds new c.follow_void.new.self.known.items after =
     λ ok holds.
     let written = c.is_ok-is_written.ensures.value ∙ ok in
     let noted : HoldsBy new c.followed.result after =
@@ -35,7 +35,9 @@ returns-clause-ok g c kept held fresh =
     λ clean.
     subst (λ (rows : List ReadingRow). AreEnds c.follow.new.self.known.items (with_rows (as_rows rows) kept.readings)) c.as_slice.ensures
     (c.follow.ensures.written written kept.readings (held.1 (done.clean clean))) in
-    (noted, ends) in
+    let void_ends : HasVoidEnds new c.follow_void.new.self.known.items after =
+    λ clean. c.follow_void.ensures.written written kept.voids (held.2 (done.clean clean)) in
+    (noted, ends, void_ends) in
     told_ok c.apply-written.result c.counted.result c.counted.ensures.answer still (done.ok kept (λ before. (held.0 before).0) fresh)
 
 pub returns-clause-err : goal.returns-clause-err
@@ -43,7 +45,7 @@ returns-clause-err g c =
     let done = c.apply-written.ensures in
     let old = state g.S.Store c.args.self.now.connection in
     let new = state g.S.Store c.apply-written.new.connection in
-    let Both = λ (kept : Tables). HoldsBy new c.followed.result kept × HasEnds new c.follow.new.self.known.items kept in
+    let Both = λ (kept : Tables). HoldsBy new c.followed.result kept × HasEnds new c.follow.new.self.known.items kept × HasVoidEnds new c.follow_void.new.self.known.items kept in
     let still : is_ok c.apply-written.result ≡ false → Within (Holds old) (Holds new) → Within (IsKeptBy c.args.self.now) Both =
     λ failed within kept held.
     let written = c.is_ok-is_written.ensures.value ∙ failed in
@@ -53,7 +55,9 @@ returns-clause-err g c =
     (within kept (λ before. (held.0 before).0) clean, subst (AreRead kept.settings) (sym same) (held.0 (done.clean clean)).1) in
     let ends : HasEnds new c.follow.new.self.known.items kept =
     λ clean. subst (λ (ends : Ends). AreEnds ends.known.items kept.readings) (sym (c.follow.ensures.same written)) (held.1 (done.clean clean)) in
-    (noted, ends) in
+    let void_ends : HasVoidEnds new c.follow_void.new.self.known.items kept =
+    λ clean. subst (λ (ends : Ends). AreEnds ends.known.items kept.voids) (sym (c.follow_void.ensures.same written)) (held.2 (done.clean clean)) in
+    (noted, ends, void_ends) in
     told_err c.apply-written.result c.counted.result c.counted.ensures.answer still done.err
 
 pub returns-clause-crash : goal.returns-clause-crash
