@@ -45,6 +45,7 @@ pub mod Forms
 pub mod OldHistories
 pub mod Fitting
 pub mod Voiding
+pub mod ByDevice
 pub mod ByName
 pub mod StepsLost
 pub mod SlotsLost

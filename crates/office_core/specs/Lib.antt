@@ -24,6 +24,7 @@ pub mod Losses
 pub mod OldHistories
 pub mod Fitting
 pub mod Messages
+pub mod ByDevice
 pub mod ByName
 pub mod Lacking
 pub mod Looking

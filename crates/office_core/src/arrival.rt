@@ -3,6 +3,7 @@ ghost use Rattle.std.specs.Prelude.{◌≡◌, ◌≤◌, ◌*◌, IfOk, OnErr, 
 ghost use Rattle.poll_book.specs.Tables.{Tables, Within};
 ghost use Rattle.poll_book.specs.Fault.{Accounts};
 ghost use Rattle.poll_book.specs.Looks.{IsRaisedAtMost};
+ghost use Rattle.office_core.specs.ByDevice.{AreDevicesOf};
 ghost use Rattle.office_core.specs.Orders as orders;
 ghost use Rattle.office_core.specs.Queries.{Answers, AnswersRead};
 ghost use Rattle.office_core.specs.Keeping as keeping;
@@ -10,6 +11,7 @@ ghost use Rattle.office_core.specs.Keeping.{IsCopy, arrival_of, brought, brought
 ghost use Rattle.office_core.specs.Leavings.{LeftAfter};
 ghost use Rattle.office_core.specs.Looking.{covered_at, covered_by};
 
+use crate::by_device::ByDevice;
 use crate::commit::{keep_readings, keep_state};
 use crate::cover::{Asking, covered_by};
 use crate::event::Arrival;
@@ -25,10 +27,12 @@ fn bring_readings<K: Keeper>(
     keeper: &mut K,
     site: &Site,
     known: &[PointRow],
+    devices: &ByDevice,
     asking: &Asking,
     reply: &Reply,
 ) -> Result<Arrival, StoreFault>
     requires few { length known.now ≤ 10000 }
+    requires devices { AreDevicesOf known.now devices.now }
     requires answers { AnswersRead asking.now.read reply.now }
     ensures told { K.is_clean keeper.new → (kept : Tables) → K.holds keeper.old kept
         → IfOk result (λ arrival. arrival ≡ read_arrival site.now known.now asking.now reply.now kept) }
@@ -44,7 +48,7 @@ fn bring_readings<K: Keeper>(
     match reply {
         Reply::Excepted(code) => Ok(Arrival::Excepted(*code)),
         reply => {
-            let covered = covered_by(alloc, site, known, asking, reply)?;
+            let covered = covered_by(alloc, site, known, devices, asking, reply)?;
             let count = keep_readings(alloc, keeper, &covered, asking.slot)?;
             Ok(Arrival::Recorded(count))
         }
@@ -87,10 +91,12 @@ pub(crate) fn bring<K: Keeper>(
     keeper: &mut K,
     site: &Site,
     known: &[PointRow],
+    devices: &ByDevice,
     asked: &Asked,
     reply: &Reply,
 ) -> Result<Arrival, StoreFault>
     requires few { length known.now ≤ 10000 }
+    requires devices { AreDevicesOf known.now devices.now }
     requires answers { Answers asked.now reply.now }
     ensures told { K.is_clean keeper.new → (kept : Tables) → K.holds keeper.old kept
         → IfOk result (λ arrival. arrival ≡ arrival_of site.now known.now asked.now reply.now kept) }
@@ -117,7 +123,7 @@ pub(crate) fn bring<K: Keeper>(
                 read: *read,
                 known: *before,
             };
-            bring_readings(alloc, keeper, site, known, &asking, reply)
+            bring_readings(alloc, keeper, site, known, devices, &asking, reply)
         }
         Asked::Write { order, .. } => {
             keep_state(alloc, keeper, *order, reply_state(reply))?;

@@ -2,8 +2,10 @@
 ghost use Rattle.std.specs.Prelude.{◌≡◌, ◌&&◌, ◌≤◌, ◌<◌, ◌+◌, ◌∷◌, [], true, false, IfOk, length, take, drop, get_or};
 ghost use Rattle.sunspec.specs.PointType.{row};
 ghost use Rattle.office_core.specs.Cover as cover;
+ghost use Rattle.office_core.specs.ByDevice.{AreDevicesOf, AreTheirs, points_at, places_from};
 ghost use Rattle.office_core.specs.Cover.{Brings};
 
+use crate::by_device::ByDevice;
 use mb_pdu::{Bits, Registers, Reply, Table};
 use point_list::{Point, Site, is_same_name};
 use poll_book::PointRow;
@@ -82,17 +84,56 @@ fn ends_in_time(read: &Read) -> bool
     read.span.start as u32 + read.span.quantity as u32 <= 65536
 }
 
-fn is_covered(known: &[PointRow], device: &[u8], read: &Read) -> bool
+fn some_covered(known: &[PointRow], device: &[u8], read: &Read) -> bool
     ensures { result ≡ cover.some_covered known.now device.now read.now }
 {
     known.iter().any(|point| covers(device, read, &point.point))
 }
 
+/// Whether a read covers the point at a place, if there is one.
+fn covers_at(known: &[PointRow], place: u32, device: &[u8], read: &Read) -> bool
+    ensures { result ≡ cover.some_covered (points_at known.now (place ∷ [])) device.now read.now }
+{
+    match known.get(place as usize) {
+        Some(point) => covers(device, read, &point.point),
+        None => false,
+    }
+}
+
+fn some_covered_at(known: &[PointRow], places: &[u32], device: &[u8], read: &Read) -> bool
+    requires { places.now ≡ places_from 0 device.now known.now }
+    ensures { result ≡ cover.some_covered known.now device.now read.now }
+{
+    for place in places {
+        if covers_at(known, *place, device, read) {
+            return true;
+        }
+    }
+    false
+}
+
+/// Whether a read covers some known point.
+fn is_covered(known: &[PointRow], devices: &ByDevice, device: &[u8], read: &Read) -> bool
+    requires { AreDevicesOf known.now devices.now }
+    ensures { result ≡ cover.some_covered known.now device.now read.now }
+{
+    match devices.places(known, device) {
+        Some(places) => some_covered_at(known, places, device, read),
+        None => some_covered(known, device, read),
+    }
+}
+
 /// A valid read that ends by the last address and holds a known point of the device whole.
-pub(crate) fn is_readable(known: &[PointRow], device: &[u8], read: &Read) -> bool
+pub(crate) fn is_readable(
+    known: &[PointRow],
+    devices: &ByDevice,
+    device: &[u8],
+    read: &Read,
+) -> bool
+    requires { AreDevicesOf known.now devices.now }
     ensures { result ≡ cover.is_readable known.now device.now read.now }
 {
-    read.is_valid() && ends_in_time(read) && is_covered(known, device, read)
+    read.is_valid() && ends_in_time(read) && is_covered(known, devices, device, read)
 }
 
 fn registers_at(words: &Registers, start: usize, count: usize) -> Registers
@@ -152,15 +193,62 @@ fn covered(
     Ok(rows)
 }
 
+/// The same of the points at the places of those of the device, some of which weren't known.
+fn covered_at(
+    alloc: Global,
+    known: &[PointRow],
+    places: &[u32],
+    device: &[u8],
+    read: &Read,
+    reply: &Reply,
+) -> Result<Vec<(PointRow, Registers)>, AllocError>
+    requires { Brings read.now reply.now }
+    ensures { IfOk result (λ rows. rows.items ≡ cover.given_of (points_at known.now places.now) device.now read.now (cover.reply_cells reply.now)) }
+{
+    let most = places.len().min(read.span.quantity as usize);
+    let mut rows = Vec::with_capacity(alloc, most)?;
+    for place in places {
+        if let Some(point) = known.get(*place as usize) {
+            if covers(device, read, &point.point) {
+                rows.push((*point, words_in(read, reply, &point.point)))?;
+            }
+        }
+    }
+    Ok(rows)
+}
+
+/// What a reply gives to the points that its query covers, of those the first `count` ones, that were known.
+fn covered_of(
+    alloc: Global,
+    known: &[PointRow],
+    devices: &ByDevice,
+    count: usize,
+    device: &[u8],
+    read: &Read,
+    reply: &Reply,
+) -> Result<Vec<(PointRow, Registers)>, AllocError>
+    requires devices { AreDevicesOf known.now devices.now }
+    requires brings { Brings read.now reply.now }
+    requires few { count ≤ length known.now }
+    ensures { IfOk result (λ rows. rows.items ≡ cover.given_of (take count known.now) device.now read.now (cover.reply_cells reply.now)) }
+{
+    match devices.places(known, device) {
+        Some(places) => covered_at(alloc, &known[..count], places, device, read, reply),
+        None => covered(alloc, &known[..count], device, read, reply),
+    }
+}
+
 /// What a reply gives to the points that a read covers.
 pub(crate) fn covered_by(
     alloc: Global,
     site: &Site,
     known: &[PointRow],
+    devices: &ByDevice,
     asking: &Asking,
     reply: &Reply,
 ) -> Result<Vec<(PointRow, Registers)>, AllocError>
-    requires { Brings asking.now.read reply.now }
+    requires devices { AreDevicesOf known.now devices.now }
+    requires brings { Brings asking.now.read reply.now }
     ensures rows { IfOk result (λ rows. rows.items ≡ cover.given_at site.now known.now asking.now (cover.reply_cells reply.now)) }
     ensures few { IfOk result (λ rows. length rows.items ≤ length known.now) }
 {
@@ -168,7 +256,7 @@ pub(crate) fn covered_by(
     match site.devices.as_slice().get(asking.device as usize) {
         Some(device) => {
             let name = device.name.as_bytes();
-            covered(alloc, &known[..count], name, &asking.read, reply)
+            covered_of(alloc, known, devices, count, name, &asking.read, reply)
         }
         None => Ok(Vec::new(alloc)),
     }

@@ -5,6 +5,7 @@
 #![tactic(auto)]
 
 mod arrival;
+mod by_device;
 mod changes;
 mod commit;
 mod cover;

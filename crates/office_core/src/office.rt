@@ -5,6 +5,7 @@ ghost use Rattle.poll_book.specs.Looks.{IsRaisedAtMost};
 ghost use Rattle.poll_book.specs.Tables.{Tables, Within};
 ghost use Rattle.poll_book.specs.Requests.{request_at};
 ghost use Rattle.point_list.specs.Sites.{IsSound};
+ghost use Rattle.office_core.specs.ByDevice.{AreDevicesOf};
 ghost use Rattle.office_core.specs.Sites as sites;
 ghost use Rattle.office_core.specs.Sites.{has_devices};
 ghost use Rattle.office_core.specs.Cover.{is_readable};
@@ -13,6 +14,7 @@ ghost use Rattle.office_core.specs.Loads as loads;
 ghost use Rattle.office_core.specs.Standing.{Closes, Goes, Runs, is_refusal};
 
 use crate::arrival::bring;
+use crate::by_device::ByDevice;
 use crate::changes::{connection_change, request_change, with_request};
 use crate::commit::{commit, write};
 use crate::cover::is_readable;
@@ -37,11 +39,13 @@ use std::alloc::{AllocError, Global};
 fn judge_ask(
     site: &Site,
     known: &[PointRow],
+    devices: &ByDevice,
     line: Option<u16>,
     device: &str,
     read: &Read,
 ) -> Result<Target, OfficeError>
-    requires { IsSound site.now }
+    requires sound { IsSound site.now }
+    requires devices { AreDevicesOf known.now devices.now }
     ensures { MatchResult result
         (λ to. (line ≡ Some to.line) × (sites.target site.now device.now ≡ Some to) × (is_readable known.now device.now read.now ≡ true))
         (λ e. (made : ℕ) → history.ask_fault line site.now known.now made device.now read.now ≡ Some e) }
@@ -55,20 +59,32 @@ fn judge_ask(
     if to.line != line {
         return Err(OfficeError::WrongLine);
     }
-    if !is_readable(known, device.as_bytes(), read) {
+    if !is_readable(known, devices, device.as_bytes(), read) {
         return Err(OfficeError::NoRead);
     }
     Ok(to)
 }
 
 /// Adds rows to a copy of the points that has room for them.
-fn add_points(points: &mut Vec<PointRow>, rows: &[PointRow])
+fn push_points(points: &mut Vec<PointRow>, rows: &[PointRow])
     requires { vec_len points.old + length rows.now ≤ vec_capacity points.old }
     ensures { points.new.items ≡ points.old.items ++ rows.now }
 {
     for row in rows {
         let _ = points.push(*row);
     }
+}
+
+/// The same, with their devices.
+fn add_points(points: &mut Vec<PointRow>, by_device: &mut ByDevice, rows: &[PointRow])
+    requires room { vec_len points.old + length rows.now ≤ vec_capacity points.old }
+    requires few { length points.old.items + length rows.now ≤ 10000 }
+    requires devices { AreDevicesOf points.old.items by_device.old }
+    ensures points { points.new.items ≡ points.old.items ++ rows.now }
+    ensures devices { AreDevicesOf points.new.items by_device.new }
+{
+    push_points(points, rows);
+    by_device.follow(points);
 }
 
 /// The number of the last connection: the keeper's, but never less than one that is open, whatever
@@ -122,9 +138,11 @@ pub struct Office<K: Keeper> {
     site: Site,
     // A copy of the keeper's, so that an ask makes no store call.
     points: Vec<PointRow>,
+    by_device: ByDevice,
     matcher: Matcher,
     alloc: Global,
     ghost few: { length points.items ≤ 10000 },
+    ghost devices: { AreDevicesOf points.items by_device },
     ghost sound: { IsSound site },
 }
 
@@ -161,10 +179,13 @@ impl<K: Keeper> Office<K> {
         if points.len() > 10000 {
             return Err((OfficeError::Store(StoreFault::Other), keeper));
         }
+        let mut by_device = ByDevice::new(alloc);
+        by_device.follow(&points);
         Ok(Office {
             keeper,
             site,
             points,
+            by_device,
             matcher: Matcher::new(alloc),
             alloc,
         })
@@ -220,7 +241,11 @@ impl<K: Keeper> Office<K> {
         self.points.reserve(points.len())?;
         let change = request_change(self.alloc, points, None, request);
         commit(&mut self.keeper, &change)?;
-        add_points(&mut self.points, change.points.as_slice());
+        add_points(
+            &mut self.points,
+            &mut self.by_device,
+            change.points.as_slice(),
+        );
         Ok(RequestAnswer::Kept {
             first: true,
             outcome,
@@ -389,7 +414,14 @@ impl<K: Keeper> Office<K> {
         ensures keeper { keeper_of self.new ≡ keeper_of self.old }
     {
         let line = self.matcher.line_of(conn);
-        let to = judge_ask(&self.site, &self.points, line, device, &read)?;
+        let to = judge_ask(
+            &self.site,
+            &self.points,
+            &self.by_device,
+            line,
+            device,
+            &read,
+        )?;
         let asked = Asked::Read {
             unit_id: to.unit_id,
             device: to.place,
@@ -438,6 +470,7 @@ impl<K: Keeper> Office<K> {
             &mut self.keeper,
             &self.site,
             &self.points,
+            &self.by_device,
             &found.asked,
             &found.reply,
         )?;
@@ -538,7 +571,14 @@ impl<K: Keeper> Office<K> {
         ensures clean { K.is_clean (keeper_of self.new) → K.is_clean (keeper_of self.old) }
     {
         let device = device.as_bytes();
-        Ok(some_lacks(&mut self.keeper, &self.points, device, slot, read)?)
+        Ok(some_lacks(
+            &mut self.keeper,
+            &self.points,
+            &self.by_device,
+            device,
+            slot,
+            read,
+        )?)
     }
 
     /// How far a counter went by its counted readings; `None` where no counter of this name is

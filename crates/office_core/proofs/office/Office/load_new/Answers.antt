@@ -41,7 +41,7 @@ returns-clause-goes g c clean =
     let numbered : (kept : Tables) → known ≡ kept.points → AreNumbered (length kept.points) more =
     λ kept copy. subst (λ (l : List PointRow). AreNumbered (length l) more) copy (numbered_added (length known) (loading Second office.site known list)) in
     let longer : c.add_points.new.points.items ≡ known ++ more =
-    c.add_points.ensures ∙ (λ i. c.reserve.ensures.items i ++ (c.as_slice.ensures ∙ ap (λ (x : Change). x.points) change) i) in
+    c.add_points.ensures.points ∙ (λ i. c.reserve.ensures.items i ++ (c.as_slice.ensures ∙ ap (λ (x : Change). x.points) change) i) in
     subst (Goes (λ before. StandsFor old office.site known office.matcher before × (request_at (requests before) (c.args.caller.now, c.args.key.now) ≡ None))
     (StandsFor new office.site c.add_points.new.points.items office.matcher) (Load c.args.caller.now c.args.key.now list)) (ap (λ o. answer.Request (Kept true o)) (sym is_told))
     (loaded_goes old office.site known office.matcher c.args.caller.now c.args.key.now list new
@@ -54,8 +54,8 @@ invariant_of-self-2 g c =
     let known = c.args.self.now.points.items in
     let rows = c.in_ok-outcome.points.items in
     let more : c.add_points.new.points.items ≡ known ++ rows =
-    c.add_points.ensures ∙ (λ i. c.reserve.ensures.items i ++ (c.as_slice.ensures ∙ ap (λ (x : Change). x.points) c.request_change-change.ensures) i) in
-    record { few = omega (arith, ap length more, length-append known rows, c.in_ok-outcome.ensures.few, ap length c.deref.ensures.value); sound = c.args.self.now.sound }
+    c.add_points.ensures.points ∙ (λ i. c.reserve.ensures.items i ++ (c.as_slice.ensures ∙ ap (λ (x : Change). x.points) c.request_change-change.ensures) i) in
+    record { few = omega (arith, ap length more, length-append known rows, c.in_ok-outcome.ensures.few, ap length c.deref.ensures.value); devices = c.add_points.ensures.devices; sound = c.args.self.now.sound }
 
 pub returns-clause-leaves : goal.returns-clause-leaves
 returns-clause-leaves g c clean =

@@ -1,0 +1,24 @@
+use Rattle.std.proofs.Common.{◌∙◌, ◌≡◌, ◌≤◌, ℕ, List, ap, sym, length, take, Some, None, arith}
+use Rattle.std.specs.Prelude.{option_copied}
+use Rattle.std.proofs.lemmas.List.{take_all}
+use Rattle.poll_book.specs.declared.rows.PointRow.{PointRow}
+use Rattle.point_list.specs.Label.{is_label}
+use Rattle.office_core.specs.ByDevice.{listed, places_from, places_in}
+use Rattle.office_core.proofs.ByDevice.{label_is}
+use Rattle.office_core.proofs.by_device.ByDevice.places.Goals as goal
+
+pub returns-in-Some : goal.returns-in-Some
+returns-in-Some c =
+    let known = c.args.known.now in
+    let devices = c.args.self.now in
+    let label : c.in_ok-device.device ≡ c.args.device.now = label_is (is_label c.args.device.now) c.in_ok-device.device c.args.device.now c.in_ok-device.ensures in
+    c.as_slice.ensures.value ∙ ap places_in c.in-Some.ensures.value ∙ ap (listed devices) label ∙ c.requires.1 c.args.device.now
+    ∙ ap (places_from 0 c.args.device.now) (take_all devices.count known c.if-self-known.false)
+
+pub returns-in-None : goal.returns-in-None
+returns-in-None c =
+    let known = c.args.known.now in
+    let devices = c.args.self.now in
+    let label : c.in_ok-device.device ≡ c.args.device.now = label_is (is_label c.args.device.now) c.in_ok-device.device c.args.device.now c.in_ok-device.ensures in
+    ap places_in c.in-None.ensures.value ∙ ap (listed devices) label ∙ c.requires.1 c.args.device.now
+    ∙ ap (places_from 0 c.args.device.now) (take_all devices.count known c.if-self-known.false)
