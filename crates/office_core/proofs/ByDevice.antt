@@ -1,6 +1,6 @@
 -- The places of the points of a device, and what stands at them.
 use Rattle.std.proofs.Common.{◌≡◌, ◌≤◌, ◌<◌, ◌+◌, ℕ, zero, suc, Bool, true, false, cond, ltb, List, [], ◌∷◌, ◌++◌, length, take, drop, map, get_or, Option, Some, None, Result, Ok, Err, refl, sym, ap, ◌∙◌, subst, arith, length-append, length-take-le}
-use Rattle.std.specs.Prelude.{◌&&◌, ◌||◌, IfOk, Vec, filter, filter_map, slice_get}
+use Rattle.std.specs.Prelude.{◌&&◌, ◌||◌, IfOk, Vec, filter, slice_get}
 use Rattle.std.specs.BTreeMap.{BTreeMap, get, is_at}
 use Rattle.std.specs.Cmp.Lexicographic.{slice_cmp}
 use Rattle.std.specs.Global.{Global}
@@ -18,8 +18,7 @@ use Rattle.std.proofs.lemmas.Slice.Eq.{bytes_eq-Decides}
 use Rattle.read_planner.specs.declared.Read.{Read}
 use Rattle.poll_book.specs.Tables.{Readings}
 use Rattle.poll_book.specs.declared.rows.PointRow.{PointRow}
-use Rattle.office_core.specs.ByDevice.{AreDevicesOf, is_of, listed, places_from, places_in, points_at}
-use Rattle.office_core.specs.declared.by_device.ByDevice.{ByDevice}
+use Rattle.office_core.specs.ByDevice.{is_of, places_from, places_in, points_at}
 use Rattle.office_core.specs.Cover.{covers, covered, given_of, some_covered, words_in}
 use Rattle.office_core.specs.Lacking.{brings_new, some_lacks}
 
@@ -94,11 +93,11 @@ at_none known n device (row ∷ rest) le = by (is_of device row) (slice_get_past
     by true none more = rw none more
     by false none more = more
 
-get_middle : (before : List PointRow) (row : PointRow) (behind : List PointRow) → slice_get (before ++ row ∷ behind) (length before) ≡ Some row
+pub get_middle : (before : List PointRow) (row : PointRow) (behind : List PointRow) → slice_get (before ++ row ∷ behind) (length before) ≡ Some row
 get_middle [] row behind = refl
 get_middle (x ∷ before) row behind = get_middle before row behind
 
-moved : (before : List PointRow) (row : PointRow) (behind : List PointRow) → before ++ row ∷ behind ≡ (before ++ row ∷ []) ++ behind
+pub moved : (before : List PointRow) (row : PointRow) (behind : List PointRow) → before ++ row ∷ behind ≡ (before ++ row ∷ []) ++ behind
 moved [] row behind = refl
 moved (x ∷ before) row behind = ap (λ (l : List PointRow). x ∷ l) (moved before row behind)
 

@@ -1,90 +1,80 @@
--- Looking a point up by its name, and putting one, in a sorted map.
-use Rattle.std.proofs.Common.{◌≡◌, ◌<◌, ◌+◌, ℕ, suc, length, get_or, drop, drop-cons, arith, Bool, true, false, cond, List, [], ◌∷◌, Option, Some, option_copied, refl, sym, ap, ◌∙◌}
-use Rattle.std.specs.Borrow.{Bor}
-use Rattle.std.specs.BTreeMap.{is_at, insert_entry}
-use Rattle.std.specs.Map.{lookup}
+-- The first point of a name, by its place.
+use Rattle.std.proofs.Common.{◌≡◌, ◌<◌, ◌+◌, ℕ, suc, Bool, true, false, cond, List, [], ◌∷◌, ◌++◌, length, take, get_or, Option, Some, None, refl, sym, ap, ◌∙◌, arith, length-append, length-take-le}
+use Rattle.std.specs.Option.{option_or}
+use Rattle.std.specs.BTreeMap.{BTreeMap, get, is_at}
 use Rattle.std.specs.Cmp.Lexicographic.{slice_cmp}
-use Rattle.std.specs.Ordering.{nat_cmp, is_eq, match_ordering}
+use Rattle.std.specs.Ordering.{nat_cmp}
+use Rattle.std.specs.Prelude.{is_some, slice_get}
 use Rattle.std.specs.Str.{bytes_eq}
-use Rattle.std.specs.declared.cmp.Ordering.{Ordering}
-use Rattle.std.specs.declared.cmp.Ordering.TheVariants.{Less, Equal, Greater}
+use Rattle.std.proofs.lemmas.List.{take_more}
 use Rattle.std.proofs.lemmas.Map.Text.{is_eq-slice_cmp}
 use Rattle.std.proofs.lemmas.Slice.Eq.{bytes_eq-Decides}
+use Rattle.std.specs.List.{position_from}
 use Rattle.poll_book.specs.declared.rows.PointRow.{PointRow}
-use Rattle.office_core.specs.ByName.{first_named}
+use Rattle.office_core.specs.ByName.{is_named, row_at}
 use Rattle.office_core.specs.Loads.{known_named}
+use Rattle.office_core.proofs.ByDevice.{get_middle, moved}
 
-abbrev Held : Type 0
-Held = Bor PointRow
+-- one element more is the first that passes if it passes and none did before
+pub position_push : {X : Type 0} (test : X → Bool) (i : ℕ) (xs : List X) (x : X)
+    → position_from test i (xs ++ x ∷ []) ≡ option_or (position_from test i xs) (cond (test x) (Some (i + length xs)) None)
+position_push test i [] x = ap (λ (n : ℕ). cond (test x) (Some n) None) (omega arith)
+position_push {X} test i (y ∷ xs) x =
+    by (test y) (position_push test (i + 1) xs x ∙ ap (λ (n : ℕ). option_or (position_from test (i + 1) xs) (cond (test x) (Some n) None)) (omega arith))
+  where
+    by : (b : Bool) → position_from test (i + 1) (xs ++ x ∷ []) ≡ option_or (position_from test (i + 1) xs) (cond (test x) (Some (i + suc (length xs))) None)
+        → cond b (Some i) (position_from test (i + 1) (xs ++ x ∷ [])) ≡ option_or (cond b (Some i) (position_from test (i + 1) xs)) (cond (test x) (Some (i + suc (length xs))) None)
+    by true e = refl
+    by false e = e
 
-abbrev Entries : Type 0
-Entries = List (Bor (List ℕ) × Held)
+-- the first of a name among the points so far and the next one
+pub one_more_named : (known : List PointRow) (i : ℕ) (d : PointRow) (name : List ℕ) → i < length known
+    → option_or (position_from (is_named name) 0 (take i known)) (cond (is_named name (get_or known i d)) (Some i) None) ≡ position_from (is_named name) 0 (take (i + 1) known)
+one_more_named known i d name lt =
+    let count = length-take-le i known (omega (arith, lt)) in
+    let front : 0 + length (take i known) ≡ i = omega (arith, count) in
+    ap (λ (n : ℕ). option_or (position_from (is_named name) 0 (take i known)) (cond (is_named name (get_or known i d)) (Some n) None)) (sym front)
+    ∙ sym (position_push (is_named name) 0 (take i known) (get_or known i d))
+    ∙ ap (position_from (is_named name) 0) (sym (take_more known i d lt))
 
-abbrev at_name : List ℕ → Entries → Option Held
-at_name name entries = lookup (λ (key : Bor (List ℕ)). bytes_eq name key.now) entries
+pub nothing_there : {X : Type 0} (o : Option X) → is_some o ≡ false → o ≡ None
+nothing_there None e = refl
+nothing_there (Some x) e = absurd (cc)
 
--- this entry where the names are equal, and else what was there
-abbrev first : List ℕ → List ℕ → Held → Option Held → Option Held
-first other name row there = cond (bytes_eq other name) (Some row) there
+-- a place that is put under a name that had none stands there, and the others keep theirs
+pub place_put : (name other : List ℕ) (place : ℕ) (old new : BTreeMap (List ℕ) ℕ) → get (slice_cmp nat_cmp) old name ≡ None
+    → get (slice_cmp nat_cmp) new other ≡ cond (is_at (slice_cmp nat_cmp name) other) (Some place) (get (slice_cmp nat_cmp) old other)
+    → get (slice_cmp nat_cmp) new other ≡ option_or (get (slice_cmp nat_cmp) old other) (cond (bytes_eq name other) (Some place) None)
+place_put name other place old new none updates =
+    updates ∙ ap (λ (b : Bool). cond b (Some place) (get (slice_cmp nat_cmp) old other)) (is_eq-slice_cmp name other) ∙ by (bytes_eq name other) refl
+  where
+    kept : (o : Option ℕ) → o ≡ option_or o None
+    kept None = refl
+    kept (Some x) = refl
 
--- a look-up by order finds the name that is equal
-pub found_at : (name : List ℕ) (entries : Entries) → lookup (is_at (λ (key : Bor (List ℕ)). slice_cmp nat_cmp name key.now)) entries ≡ at_name name entries
-found_at name [] = refl
-found_at name (entry ∷ entries) = rw (is_eq-slice_cmp name entry.0.now, found_at name entries) refl
+    by : (b : Bool) → bytes_eq name other ≡ b → cond b (Some place) (get (slice_cmp nat_cmp) old other) ≡ option_or (get (slice_cmp nat_cmp) old other) (cond b (Some place) None)
+    by true e = ap (λ (o : Option ℕ). option_or o (Some place)) (sym none ∙ ap (get (slice_cmp nat_cmp) old) ((bytes_eq-Decides name other).0 e))
+    by false e = kept (get (slice_cmp nat_cmp) old other)
 
-twice : (b : Bool) (x y : Held) (more : Option Held) → cond b (Some x) more ≡ cond b (Some x) (cond b (Some y) more)
-twice true x y more = refl
-twice false x y more = refl
+-- among points that stand behind others, the first of a name stands at its place among all
+found_behind : (before rest : List PointRow) (name : List ℕ) → row_at (before ++ rest) (position_from (is_named name) (length before) rest) ≡ known_named rest name
+found_behind before [] name = refl
+found_behind before (row ∷ rest) name =
+    by (is_named name row) (get_middle before row rest)
+    ((λ k. row_at (moved before row rest k) (position_from (is_named name) (length before + 1) rest))
+    ∙ ap (λ (n : ℕ). row_at ((before ++ row ∷ []) ++ rest) (position_from (is_named name) n rest)) (sym (length-append before (row ∷ [])))
+    ∙ found_behind (before ++ row ∷ []) rest name)
+  where
+    all : List PointRow
+    all = before ++ row ∷ rest
 
--- two different names aren't both the one looked for
-swapped : (a b : Bool) (x y : Held) (more : Option Held) → (a ≡ true → b ≡ true → true ≡ false) → cond a (Some x) (cond b (Some y) more) ≡ cond b (Some y) (cond a (Some x) more)
-swapped true true x y more apart = absurd (let h : true ≡ false = apart refl refl in cc)
-swapped true false x y more apart = refl
-swapped false b x y more apart = refl
+    next : Option ℕ
+    next = position_from (is_named name) (length before + 1) rest
 
-put_at : (o : Ordering) (name : Bor (List ℕ)) (row : Held) (entry : Bor (List ℕ) × Held) (entries more : Entries) (other : List ℕ) → slice_cmp nat_cmp name.now entry.0.now ≡ o
-    → at_name other more ≡ first other name.now row (at_name other entries)
-    → at_name other (match_ordering o ((name, row) ∷ entry ∷ entries) ((entry.0, row) ∷ entries) (entry ∷ more)) ≡ first other name.now row (at_name other (entry ∷ entries))
-put_at Less name row entry entries more other is h = refl
-put_at Equal name row entry entries more other is h =
-    let same : name.now ≡ entry.0.now = (bytes_eq-Decides name.now entry.0.now).0 (sym (is_eq-slice_cmp name.now entry.0.now) ∙ ap is_eq is) in
-    rw same (twice (bytes_eq other entry.0.now) row entry.1 (at_name other entries))
-put_at Greater name row entry entries more other is h =
-    rw h (swapped (bytes_eq other entry.0.now) (bytes_eq other name.now) entry.1 row (at_name other entries) (λ here there.
-    let first : other ≡ entry.0.now = (bytes_eq-Decides other entry.0.now).0 here in
-    let second : other ≡ name.now = (bytes_eq-Decides other name.now).0 there in
-    sym ((bytes_eq-Decides name.now entry.0.now).1 (sym second ∙ first)) ∙ sym (is_eq-slice_cmp name.now entry.0.now) ∙ ap is_eq is))
+    by : (b : Bool) → slice_get all (length before) ≡ Some row → row_at all next ≡ known_named rest name → row_at all (cond b (Some (length before)) next) ≡ cond b (Some row) (known_named rest name)
+    by true there more = there
+    by false there more = more
 
--- an entry that is put has its name, and the others keep theirs
-entry_put : (name : Bor (List ℕ)) (row : Held) (entries : Entries) (other : List ℕ)
-    → at_name other (insert_entry (λ (a b : Bor (List ℕ)). slice_cmp nat_cmp a.now b.now) entries name row) ≡ first other name.now row (at_name other entries)
-entry_put name row [] other = refl
-entry_put name row (entry ∷ entries) other =
-    put_at (slice_cmp nat_cmp name.now entry.0.now) name row entry entries (insert_entry (λ (a b : Bor (List ℕ)). slice_cmp nat_cmp a.now b.now) entries name row) other refl (entry_put name row entries other)
-
-copied_first : (b : Bool) (row : Held) (there : Option Held) → option_copied (cond b (Some row) there) ≡ cond b (Some row.now) (option_copied there)
-copied_first true row there = refl
-copied_first false row there = refl
-
--- a point that is put has its name, and the others keep theirs
-pub named_put : (name : Bor (List ℕ)) (row : Held) (entries : Entries) (other : List ℕ)
-    → option_copied (at_name other (insert_entry (λ (a b : Bor (List ℕ)). slice_cmp nat_cmp a.now b.now) entries name row)) ≡ first_named other name.now row.now (option_copied (at_name other entries))
-named_put name row entries other = rw (entry_put name row entries other) (copied_first (bytes_eq other name.now) row (at_name other entries))
-
-flips : (x y : Bool) → (x ≡ true → y ≡ true) → (y ≡ true → x ≡ true) → x ≡ y
-flips true true f g = refl
-flips true false f g = sym (f refl)
-flips false true f g = g refl
-flips false false f g = refl
-
-same_test : (a b : List ℕ) → bytes_eq a b ≡ bytes_eq b a
-same_test a b =
-    flips (bytes_eq a b) (bytes_eq b a) (λ h. (bytes_eq-Decides b a).1 (sym ((bytes_eq-Decides a b).0 h))) (λ h. (bytes_eq-Decides a b).1 (sym ((bytes_eq-Decides b a).0 h)))
-
--- of the points from one on, that one is the first
-pub one_earlier : (known : List PointRow) (i : ℕ) (row : PointRow) (name : List ℕ) → i < length known → row ≡ get_or known i row
-    → first_named name row.point.name row (known_named (drop (i + 1) known) name) ≡ known_named (drop i known) name
-one_earlier known i row name lt is =
-    let next : suc i ≡ i + 1 = omega arith in
-    let all : drop i known ≡ row ∷ drop (i + 1) known = drop-cons known i row lt ∙ ap (λ (r : PointRow). r ∷ drop (suc i) known) (sym is) ∙ ap (λ n. row ∷ drop n known) next in
-    rw (all, same_test row.point.name name) refl
+-- the known point of a name stands at the place of the first one
+pub named_there : (known : List PointRow) (name : List ℕ) → row_at known (position_from (is_named name) 0 known) ≡ known_named known name
+named_there known name = found_behind [] known name

@@ -1,21 +1,25 @@
 -- Points by their names.
-use Rattle.std.specs.Prelude.{◌≡◌, ℕ, List, cond, Option, Some, None, ⊤, option_copied}
+use Rattle.std.specs.Prelude.{◌≡◌, ℕ, ◌≤◌, Bool, List, length, take, slice_get, Option, option_and_then}
+use Rattle.std.specs.BTreeMap.{get}
+use Rattle.std.specs.Cmp.Lexicographic.{slice_cmp}
+use Rattle.std.specs.List.{position_from}
+use Rattle.std.specs.Ordering.{nat_cmp}
 use Rattle.std.specs.Str.{bytes_eq}
-use Rattle.std.specs.Borrow.{Bor}
-use Rattle.std.specs.Map.{lookup}
 use Rattle.poll_book.specs.declared.rows.PointRow.{PointRow}
-use Rattle.office_core.specs.declared.names.Names.{Names}
-use Rattle.office_core.specs.Loads.{known_named}
+use Rattle.office_core.specs.declared.by_name.ByName.{ByName}
 
--- the point of a name
-abbrev pub named : Names → List ℕ → Option PointRow
-named names name = option_copied (lookup (λ (key : Bor (List ℕ)). bytes_eq name key.now) names.rows.entries)
+-- the point has this name
+abbrev pub is_named : List ℕ → PointRow → Bool
+is_named name row = bytes_eq row.point.name name
 
--- this point where the names are equal, and else what was there
-abbrev pub first_named : List ℕ → List ℕ → PointRow → Option PointRow → Option PointRow
-first_named other name row there = cond (bytes_eq other name) (Some row) there
+-- the place that stands under a name
+abbrev pub place_of : ByName → List ℕ → Option ℕ
+place_of names name = get (slice_cmp nat_cmp) names.places name
 
--- what is found by these names, if there are any, are the known points
-abbrev pub AreNamesOf : List PointRow → Option Names → Type 0
-AreNamesOf known None = ⊤
-AreNamesOf known (Some names) = (name : List ℕ) → named names name ≡ known_named known name
+-- under each name stands the place of the first point of that name, of the first so many known ones
+abbrev pub AreNamesOf : List PointRow → ByName → Type 0
+AreNamesOf known names = (names.count ≤ length known) × ((name : List ℕ) → place_of names name ≡ position_from (is_named name) 0 (take names.count known))
+
+-- the point at a place, if there is one
+abbrev pub row_at : List PointRow → Option ℕ → Option PointRow
+row_at known place = option_and_then (slice_get known) place

@@ -6,6 +6,7 @@
 
 mod arrival;
 mod by_device;
+mod by_name;
 mod changes;
 mod commit;
 mod cover;
@@ -14,7 +15,6 @@ mod event;
 mod lacking;
 pub mod laws;
 mod loads;
-mod names;
 mod office;
 mod orders;
 mod requests;

@@ -11,7 +11,7 @@ ghost use Rattle.office_core.specs.ByName.{AreNamesOf};
 ghost use Rattle.office_core.specs.Loads as loads;
 ghost use Rattle.office_core.specs.Loads.{ArePointsOf};
 
-use crate::names::Names;
+use crate::by_name::ByName;
 use point_list::{ListError, ListFault, Point, Site, is_same_name, read_list, resolve};
 use poll_book::{Outcome, PointRow, Reason, RequestFault, StoreFault};
 use std::alloc::{AllocError, Global};
@@ -55,40 +55,12 @@ fn is_same_point(a: &Point, b: &Point) -> bool
         && a.roll == b.roll
 }
 
-/// From so many rows on, known points are looked for in a map of their names: it costs as much as looking
-/// for some of them one by one.
-const MANY: usize = 16;
-
-fn names_for(
-    alloc: Global,
-    known: &[PointRow],
-    rows: usize,
-) -> Result<Option<Names<'_>>, AllocError>
-    ensures { IfOk result (AreNamesOf known.now) }
-{
-    if rows < MANY {
-        return Ok(None);
-    }
-    Ok(Some(Names::of(alloc, known)?))
-}
-
-/// The known point of a name, by names of the known points if there are any.
-fn find_known(known: &[PointRow], names: &Option<Names>, name: &[u8]) -> Option<PointRow>
-    requires { AreNamesOf known.now names.now }
-    ensures { result ≡ loads.known_named known.now name.now }
-{
-    match names {
-        Some(names) => names.get(name),
-        None => known_named(known, name),
-    }
-}
-
 /// The rows of the points that aren't known, numbered on, or the number of the first row of a list whose name is
 /// known with another definition. The first row is the second record. Each name is looked for once.
 fn new_points(
     alloc: Global,
     known: &[PointRow],
-    names: &Option<Names>,
+    names: &ByName,
     points: &[Point],
 ) -> Result<Result<Vec<PointRow>, u32>, AllocError>
     requires names_of { AreNamesOf known.now names.now }
@@ -103,7 +75,7 @@ fn new_points(
     let mut rows = Vec::new(alloc);
     let mut row = 2u32;
     for point in points {
-        match find_known(known, names, point.name.as_bytes()) {
+        match names.find(known, point.name.as_bytes()) {
             Some(there) => {
                 if !is_same_point(&there.point, point) {
                     return Ok(Err(row));
@@ -132,8 +104,10 @@ fn refused(fault: RequestFault, row: u32, column: u8) -> Outcome
 fn judge_points(
     alloc: Global,
     known: &[PointRow],
+    names: &ByName,
     points: &[Point],
 ) -> Result<(Outcome, Vec<PointRow>), StoreFault>
+    requires names_of { AreNamesOf known.now names.now }
     requires many { length known.now ≤ 10000 }
     requires few { length points.now ≤ 10000 }
     ensures outcome { IfOk result (λ x. (rows : List ListRow) → ArePointsOf rows points.now → x.0 ≡ loads.outcome (loads.loading_of known.now (Ok rows))) }
@@ -141,8 +115,7 @@ fn judge_points(
     ensures few { IfOk result (λ x. length known.now + length x.1.items ≤ 10000) }
     ensures memory { IfErr result (λ e. e ≡ StoreFault.Memory) }
 {
-    let names = names_for(alloc, known, points.len())?;
-    let new = match new_points(alloc, known, &names, points)? {
+    let new = match new_points(alloc, known, names, points)? {
         Ok(new) => new,
         Err(row) => {
             return Ok((refused(RequestFault::PointDiffers, row, 1), Vec::new(alloc)));
@@ -190,9 +163,11 @@ pub(crate) fn judge(
     alloc: Global,
     site: &Site,
     known: &[PointRow],
+    names: &ByName,
     list: &[u8],
 ) -> Result<(Outcome, Vec<PointRow>), StoreFault>
     requires sound { IsSound site.now }
+    requires names_of { AreNamesOf known.now names.now }
     requires many { length known.now ≤ 10000 }
     ensures outcome { IfOk result (λ x. x.0 ≡ loads.outcome (loads.loading Second site.now known.now list.now)) }
     ensures added { IfOk result (λ x. x.1.items ≡ loads.added (length known.now) (loads.loading Second site.now known.now list.now)) }
@@ -200,7 +175,7 @@ pub(crate) fn judge(
     ensures memory { IfErr result (λ e. e ≡ StoreFault.Memory) }
 {
     match points_in(alloc, site, list) {
-        Ok(points) => judge_points(alloc, known, points.as_slice()),
+        Ok(points) => judge_points(alloc, known, names, points.as_slice()),
         Err(error) => judge_fault(alloc, error),
     }
 }

@@ -6,6 +6,7 @@ ghost use Rattle.poll_book.specs.Tables.{Tables, Within};
 ghost use Rattle.poll_book.specs.Requests.{request_at};
 ghost use Rattle.point_list.specs.Sites.{IsSound};
 ghost use Rattle.office_core.specs.ByDevice.{AreDevicesOf};
+ghost use Rattle.office_core.specs.ByName.{AreNamesOf};
 ghost use Rattle.office_core.specs.Sites as sites;
 ghost use Rattle.office_core.specs.Sites.{has_devices};
 ghost use Rattle.office_core.specs.Cover.{is_readable};
@@ -15,13 +16,14 @@ ghost use Rattle.office_core.specs.Standing.{Closes, Goes, Runs, is_refusal};
 
 use crate::arrival::bring;
 use crate::by_device::ByDevice;
+use crate::by_name::ByName;
 use crate::changes::{connection_change, request_change, with_request};
 use crate::commit::{commit, write};
 use crate::cover::is_readable;
 use crate::error::OfficeError;
 use crate::event::{Arrival, Event, EventAnswer, RequestAnswer};
 use crate::lacking::some_lacks;
-use crate::loads::{judge, known_named};
+use crate::loads::judge;
 use crate::orders::{judge_order, judge_send};
 use crate::requests::{list_again, list_row, order_again, order_row, void_again, void_row};
 use crate::showing::{ShownReading, shown};
@@ -75,16 +77,24 @@ fn push_points(points: &mut Vec<PointRow>, rows: &[PointRow])
     }
 }
 
-/// The same, with their devices.
-fn add_points(points: &mut Vec<PointRow>, by_device: &mut ByDevice, rows: &[PointRow])
+/// The same, with their devices and names.
+fn add_points(
+    points: &mut Vec<PointRow>,
+    by_device: &mut ByDevice,
+    by_name: &mut ByName,
+    rows: &[PointRow],
+)
     requires room { vec_len points.old + length rows.now ≤ vec_capacity points.old }
     requires few { length points.old.items + length rows.now ≤ 10000 }
     requires devices { AreDevicesOf points.old.items by_device.old }
+    requires names { AreNamesOf points.old.items by_name.old }
     ensures points { points.new.items ≡ points.old.items ++ rows.now }
     ensures devices { AreDevicesOf points.new.items by_device.new }
+    ensures names { AreNamesOf points.new.items by_name.new }
 {
     push_points(points, rows);
     by_device.follow(points);
+    let _ = by_name.follow(points);
 }
 
 /// The number of the last connection: the keeper's, but never less than one that is open, whatever
@@ -139,10 +149,12 @@ pub struct Office<K: Keeper> {
     // A copy of the keeper's, so that an ask makes no store call.
     points: Vec<PointRow>,
     by_device: ByDevice,
+    by_name: ByName,
     matcher: Matcher,
     alloc: Global,
     ghost few: { length points.items ≤ 10000 },
     ghost devices: { AreDevicesOf points.items by_device },
+    ghost names: { AreNamesOf points.items by_name },
     ghost sound: { IsSound site },
 }
 
@@ -181,11 +193,14 @@ impl<K: Keeper> Office<K> {
         }
         let mut by_device = ByDevice::new(alloc);
         by_device.follow(&points);
+        let mut by_name = ByName::new(alloc);
+        let _ = by_name.follow(&points);
         Ok(Office {
             keeper,
             site,
             points,
             by_device,
+            by_name,
             matcher: Matcher::new(alloc),
             alloc,
         })
@@ -236,7 +251,8 @@ impl<K: Keeper> Office<K> {
         ensures same { is_refusal (told_so result) ≡ true → IsAlike self.old self.new }
         ensures clean { K.is_clean (keeper_of self.new) → K.is_clean (keeper_of self.old) }
     {
-        let (outcome, points) = judge(self.alloc, &self.site, &self.points, list)?;
+        self.by_name.follow(&self.points)?;
+        let (outcome, points) = judge(self.alloc, &self.site, &self.points, &self.by_name, list)?;
         let request = list_row(self.alloc, caller, key, list, outcome)?;
         self.points.reserve(points.len())?;
         let change = request_change(self.alloc, points, None, request);
@@ -244,6 +260,7 @@ impl<K: Keeper> Office<K> {
         add_points(
             &mut self.points,
             &mut self.by_device,
+            &mut self.by_name,
             change.points.as_slice(),
         );
         Ok(RequestAnswer::Kept {
@@ -296,6 +313,7 @@ impl<K: Keeper> Office<K> {
             self.alloc,
             &mut self.keeper,
             &self.points,
+            &self.by_name,
             point,
             value,
         )?;
@@ -355,6 +373,7 @@ impl<K: Keeper> Office<K> {
             self.alloc,
             &mut self.keeper,
             &self.points,
+            &self.by_name,
             point,
             slot,
         )?;
@@ -553,7 +572,7 @@ impl<K: Keeper> Office<K> {
         ensures leaves { K.is_clean (keeper_of self.new) → LeavesNoMore self.old self.new }
         ensures clean { K.is_clean (keeper_of self.new) → K.is_clean (keeper_of self.old) }
     {
-        let Some(row) = known_named(&self.points, point.as_bytes()) else {
+        let Some(row) = self.by_name.find(&self.points, point.as_bytes()) else {
             return Ok(None);
         };
         let rows = self.keeper.readings(self.alloc, &row, from, to)?;
@@ -592,7 +611,7 @@ impl<K: Keeper> Office<K> {
         ensures leaves { K.is_clean (keeper_of self.new) → LeavesNoMore self.old self.new }
         ensures clean { K.is_clean (keeper_of self.new) → K.is_clean (keeper_of self.old) }
     {
-        let Some(row) = known_named(&self.points, point.as_bytes()) else {
+        let Some(row) = self.by_name.find(&self.points, point.as_bytes()) else {
             return Ok(None);
         };
         let Role::Counter = row.point.role else {
@@ -669,7 +688,7 @@ impl<K: Keeper> Office<K> {
     pub fn point(&self, name: &str) -> Option<PointRow>
         ensures { (before : History) → Stands self.now before → result ≡ loads.known_named (points before) name.now }
     {
-        known_named(&self.points, name.as_bytes())
+        self.by_name.find(&self.points, name.as_bytes())
     }
 
     /// The site in force.

@@ -6,13 +6,14 @@ ghost use Rattle.poll_book.specs.Tables.{Tables, Within};
 ghost use Rattle.poll_book.specs.Orders.{Settings, last_order, oldest_waiting, point_at};
 ghost use Rattle.poll_book.specs.Fault.{Accounts};
 ghost use Rattle.office_core.specs.Errors.{IsCaused, IsCounted};
+ghost use Rattle.office_core.specs.ByName.{AreNamesOf};
 ghost use Rattle.office_core.specs.Loads.{known_named};
 ghost use Rattle.office_core.specs.Orders as order;
 ghost use Rattle.office_core.specs.Registers as registers;
 ghost use Rattle.office_core.specs.Sending.{IsAddressed, IsRefused, IsSent};
 
+use crate::by_name::ByName;
 use crate::error::OfficeError;
-use crate::loads::known_named;
 use crate::site::{Target, find_target};
 use mb_pdu::Registers;
 use point_list::{Point, Role, Site};
@@ -87,9 +88,11 @@ pub(crate) fn judge_order<K: Keeper>(
     alloc: Global,
     keeper: &mut K,
     known: &[PointRow],
+    names: &ByName,
     point: &str,
     value: i128,
 ) -> Result<(Outcome, Option<SettingRow>), StoreFault>
+    requires { AreNamesOf known.now names.now }
     ensures outcome { K.is_clean keeper.new → (kept : Tables) → K.holds keeper.old kept
         → IfOk result (λ x. x.0 ≡ order.ordered (last_order kept.settings) (order.ordering_of (last_order kept.settings) (known_named known.now point.now) value)) }
     ensures row { K.is_clean keeper.new → (kept : Tables) → K.holds keeper.old kept
@@ -100,7 +103,7 @@ pub(crate) fn judge_order<K: Keeper>(
     ensures clean { K.is_clean keeper.new → K.is_clean keeper.old }
 {
     let orders = keeper.orders()?;
-    let known = known_named(known, point.as_bytes());
+    let known = names.find(known, point.as_bytes());
     Ok(place_order(alloc, orders, known, value)?)
 }
 

@@ -4,11 +4,12 @@ ghost use Rattle.poll_book.specs.Fault.{Accounts};
 ghost use Rattle.poll_book.specs.Looks.{IsRaisedAtMost};
 ghost use Rattle.poll_book.specs.Tables.{Tables, Within};
 ghost use Rattle.office_core.specs.Keeping.{IsCopy};
+ghost use Rattle.office_core.specs.ByName.{AreNamesOf};
 ghost use Rattle.office_core.specs.Loads.{known_named};
 ghost use Rattle.office_core.specs.Voids as voiding;
 ghost use Rattle.office_core.specs.Voids.{VoidsIn};
 
-use crate::loads::known_named;
+use crate::by_name::ByName;
 use point_list::Role;
 use poll_book::{Change, Keeper, Outcome, PointRow, Reason, RequestFault, StoreFault, void_one};
 use std::alloc::Global;
@@ -45,9 +46,11 @@ pub(crate) fn judge_void<K: Keeper>(
     alloc: Global,
     keeper: &mut K,
     known: &[PointRow],
+    names: &ByName,
     point: &str,
     slot: u32,
 ) -> Result<(Outcome, Change), StoreFault>
+    requires { AreNamesOf known.now names.now }
     ensures outcome { K.is_clean keeper.new → (kept : Tables) → K.holds keeper.old kept
         → IfOk result (λ x. x.0 ≡ voiding.voided slot (voiding.voiding_of kept.voids (known_named known.now point.now) slot)) }
     ensures change { K.is_clean keeper.new → (kept : Tables) → K.holds keeper.old kept → IsCopy known.now kept
@@ -58,7 +61,7 @@ pub(crate) fn judge_void<K: Keeper>(
     ensures leaves { K.is_clean keeper.new → Within (K.may_leave keeper.new) (K.may_leave keeper.old) }
     ensures clean { K.is_clean keeper.new → K.is_clean keeper.old }
 {
-    let Some(row) = known_named(known, point.as_bytes()) else {
+    let Some(row) = names.find(known, point.as_bytes()) else {
         return Ok((refused(RequestFault::UnknownPoint), Change::none(alloc)));
     };
     let Role::Counter = row.point.role else {

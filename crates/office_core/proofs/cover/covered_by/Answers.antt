@@ -1,7 +1,6 @@
-use Rattle.std.proofs.Common.{◌∙◌, ◌≡◌, ◌≤◌, ℕ, List, Option, None, length, take, ap, sym, subst}
-use Rattle.std.specs.Prelude.{IfOk, option_map, slice_get}
+use Rattle.std.proofs.Common.{◌∙◌, ◌≡◌, List, Option, None, take, ap, sym, subst}
+use Rattle.std.specs.Prelude.{option_map, slice_get}
 use Rattle.point_list.specs.declared.site.Device.{Device}
-use Rattle.poll_book.specs.declared.rows.PointRow.{PointRow}
 use Rattle.office_core.specs.Cover as cover
 use Rattle.office_core.proofs.ByDevice.{few_given, none_there}
 use Rattle.office_core.proofs.cover.covered_by.Goals as goal

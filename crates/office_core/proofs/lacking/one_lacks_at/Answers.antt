@@ -1,4 +1,4 @@
-use Rattle.std.proofs.Common.{◌∙◌, ◌≡◌, ap, sym}
+use Rattle.std.proofs.Common.{◌∙◌, sym}
 use Rattle.office_core.specs.Lacking.{brings_new}
 use Rattle.office_core.proofs.ByDevice.{any_so, none_more}
 use Rattle.office_core.proofs.lacking.one_lacks_at.Goals as goal

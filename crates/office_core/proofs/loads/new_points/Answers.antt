@@ -14,7 +14,7 @@ returns-then-not-is_same_point-clause-differ c = λ rows are.
     let points = c.args.points.now in
     let point = c.point-item.result in
     let there : loads.known_named known point.name ≡ Some c.in-Some.there =
-    ap (loads.known_named known) (sym c.as_bytes.ensures.value) ∙ sym c.find_known.ensures ∙ c.in-Some.is in
+    ap (loads.known_named known) (sym c.as_bytes.ensures.value) ∙ sym c.find.ensures ∙ c.in-Some.is in
     let off : loads.agrees point (loads.known_named known point.name) ≡ false =
     ap (loads.agrees point) there ∙ sym c.is_same_point.ensures ∙ c.if-not-is_same_point.true in
     let here : loads.agrees (get_or points c.loop-point.point-index point) (loads.known_named known (get_or points c.loop-point.point-index point).name) ≡ false =
@@ -37,14 +37,14 @@ loop-point-preserved c =
     let few = c.loop-point.invariant.few in
     let count : length rows ≡ length old = ap length was ∙ length-numbered n old in
     let test = is_none (loads.known_named known point.name) in
-    let is : c.find_known.result ≡ loads.known_named known point.name = c.find_known.ensures ∙ ap (loads.known_named known) c.as_bytes.ensures.value in
+    let is : c.find.result ≡ loads.known_named known point.name = c.find.ensures ∙ ap (loads.known_named known) c.as_bytes.ensures.value in
     let all : loads.unknown_of known (take (i + 1) points) ≡ cond test (old ++ point ∷ []) old = ap (loads.unknown_of known) more ∙ unknown-push known (take i points) point in
-    elim c.match-find_known.branch [
+    elim c.match-find.branch [
       | in-Some+else-not-is_same_point w ↦
           let there : loads.known_named known point.name ≡ Some w.in-Some.there = sym is ∙ w.in-Some.is in
           let off : test ≡ false = ap is_none there in
           let agrees : loads.agrees point (loads.known_named known point.name) ≡ true = ap (loads.agrees point) there ∙ sym w.is_same_point.ensures ∙ w.if-not-is_same_point.false in
-          let same : c.match-find_known.rows.items ≡ rows = search rules in
+          let same : c.match-find.rows.items ≡ rows = search rules in
           record {
             rows = same ∙ was ∙ sym (ap (loads.numbered_on n) (all ∙ ap (λ b. cond b (old ++ point ∷ []) old) off));
             few = omega (arith, few, ap length same);
@@ -56,7 +56,7 @@ loop-point-preserved c =
           let none : loads.known_named known point.name ≡ None = sym is ∙ w.in-None.is in
           let on : test ≡ true = ap is_none none in
           let agrees : loads.agrees point (loads.known_named known point.name) ≡ true = ap (loads.agrees point) none in
-          let pushed : c.match-find_known.rows.items ≡ rows ++ record { number = length known + length rows + 1; point = point } ∷ [] = search rules in
+          let pushed : c.match-find.rows.items ≡ rows ++ record { number = length known + length rows + 1; point = point } ∷ [] = search rules in
           record {
             rows = pushed ∙ (λ k. was k ++ record { number = n + count k + 1; point = point } ∷ []) ∙ sym (numbered-push n old point)
                 ∙ sym (ap (loads.numbered_on n) (all ∙ ap (λ b. cond b (old ++ point ∷ []) old) on));

@@ -1,7 +1,5 @@
-use Rattle.std.proofs.Common.{◌∙◌, ◌≡◌, ◌≤◌, ℕ, List, ap, sym, length, take, Some, None, arith}
-use Rattle.std.specs.Prelude.{option_copied}
+use Rattle.std.proofs.Common.{◌∙◌, ◌≡◌, ap}
 use Rattle.std.proofs.lemmas.List.{take_all}
-use Rattle.poll_book.specs.declared.rows.PointRow.{PointRow}
 use Rattle.point_list.specs.Label.{is_label}
 use Rattle.office_core.specs.ByDevice.{listed, places_from, places_in}
 use Rattle.office_core.proofs.ByDevice.{label_is}

@@ -1,10 +1,10 @@
-use Rattle.std.proofs.Common.{◌≡◌, ◌∙◌, ◌++◌, ◌∷◌, [], ℕ, List, Some, cond, ap, sym, refl, subst}
+use Rattle.std.proofs.Common.{◌≡◌, ◌∙◌, ◌++◌, ◌∷◌, [], ℕ, List, Some, cond, ap, refl, subst}
 use Rattle.std.specs.Prelude.{Vec, IsSome}
 use Rattle.std.specs.BTreeMap.{BTreeMap, get, is_at}
 use Rattle.std.specs.Cmp.Lexicographic.{slice_cmp}
 use Rattle.std.specs.Global.{Global}
 use Rattle.std.specs.Ordering.{nat_cmp}
-use Rattle.office_core.specs.ByDevice.{listed, places_in}
+use Rattle.office_core.specs.ByDevice.{places_in}
 use Rattle.office_core.proofs.ByDevice.{listed_put, listed_same}
 use Rattle.office_core.proofs.Newness.{on_err}
 use Rattle.office_core.proofs.by_device.ByDevice.put.Goals as goal

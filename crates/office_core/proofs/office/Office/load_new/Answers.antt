@@ -14,12 +14,12 @@ use Rattle.office_core.specs.Errors.{refused_store}
 use Rattle.office_core.specs.History.{requests}
 use Rattle.office_core.specs.Keeping.{asked_change}
 use Rattle.office_core.specs.Loads.{added, loading, outcome}
-use Rattle.office_core.specs.Offices.{told_so}
+use Rattle.office_core.specs.Offices.{StandsUnused, told_so}
 use Rattle.office_core.specs.Standing.{Goes, StandsFor, is_store}
 use Rattle.office_core.proofs.Loaded.{numbered_added}
 use Rattle.office_core.proofs.Leaving.{At, Left, leaves_unused, tried_is}
 use Rattle.office_core.proofs.Newness.{applied_loaded, new_loaded}
-use Rattle.office_core.proofs.Steps.{loaded_goes}
+use Rattle.office_core.proofs.Steps.{goes_from, loaded_goes, store_goes}
 use Rattle.office_core.proofs.Telling.{request_err}
 use Rattle.office_core.proofs.office.Office.load_new.Goals as goal
 
@@ -33,8 +33,8 @@ returns-clause-goes g c clean =
     let list = c.args.list.now in
     let more = added (length known) (loading Second office.site known list) in
     let told = outcome (loading Second office.site known list) in
-    let is_told : c.in_ok-outcome.outcome ≡ told = c.in_ok-outcome.ensures.outcome ∙ ap (λ (l : List PointRow). outcome (loading Second office.site l list)) c.deref.ensures.value in
-    let is_more : c.in_ok-outcome.points.items ≡ more = c.in_ok-outcome.ensures.added ∙ ap (λ (l : List PointRow). added (length l) (loading Second office.site l list)) c.deref.ensures.value in
+    let is_told : c.in_ok-outcome.outcome ≡ told = c.in_ok-outcome.ensures.outcome ∙ ap (λ (l : List PointRow). outcome (loading Second office.site l list)) c.deref-2.ensures.value in
+    let is_more : c.in_ok-outcome.points.items ≡ more = c.in_ok-outcome.ensures.added ∙ ap (λ (l : List PointRow). added (length l) (loading Second office.site l list)) c.deref-2.ensures.value in
     let request : RequestRow = record { caller = c.args.caller.now; key = c.args.key.now; body = body.List list; outcome = told } in
     let is_request : c.in_ok-request.request ≡ request = c.in_ok-request.ensures ∙ (λ i. record request { outcome = is_told i }) in
     let change : c.request_change-change.result ≡ asked_change more None request = c.request_change-change.ensures ∙ (λ i. asked_change (is_more i) None (is_request i)) in
@@ -55,7 +55,7 @@ invariant_of-self-2 g c =
     let rows = c.in_ok-outcome.points.items in
     let more : c.add_points.new.points.items ≡ known ++ rows =
     c.add_points.ensures.points ∙ (λ i. c.reserve.ensures.items i ++ (c.as_slice.ensures ∙ ap (λ (x : Change). x.points) c.request_change-change.ensures) i) in
-    record { few = omega (arith, ap length more, length-append known rows, c.in_ok-outcome.ensures.few, ap length c.deref.ensures.value); devices = c.add_points.ensures.devices; sound = c.args.self.now.sound }
+    record { few = omega (arith, ap length more, length-append known rows, c.in_ok-outcome.ensures.few, ap length c.deref-2.ensures.value); devices = c.add_points.ensures.devices; names = c.add_points.ensures.names; sound = c.args.self.now.sound }
 
 pub returns-clause-leaves : goal.returns-clause-leaves
 returns-clause-leaves g c clean =
@@ -67,8 +67,8 @@ returns-clause-leaves g c clean =
     let list = c.args.list.now in
     let more = added (length known) (loading Second office.site known list) in
     let told = outcome (loading Second office.site known list) in
-    let is_told : c.in_ok-outcome.outcome ≡ told = c.in_ok-outcome.ensures.outcome ∙ ap (λ (l : List PointRow). outcome (loading Second office.site l list)) c.deref.ensures.value in
-    let is_more : c.in_ok-outcome.points.items ≡ more = c.in_ok-outcome.ensures.added ∙ ap (λ (l : List PointRow). added (length l) (loading Second office.site l list)) c.deref.ensures.value in
+    let is_told : c.in_ok-outcome.outcome ≡ told = c.in_ok-outcome.ensures.outcome ∙ ap (λ (l : List PointRow). outcome (loading Second office.site l list)) c.deref-2.ensures.value in
+    let is_more : c.in_ok-outcome.points.items ≡ more = c.in_ok-outcome.ensures.added ∙ ap (λ (l : List PointRow). added (length l) (loading Second office.site l list)) c.deref-2.ensures.value in
     let request : RequestRow = record { caller = c.args.caller.now; key = c.args.key.now; body = body.List list; outcome = told } in
     let is_request : c.in_ok-request.request ≡ request = c.in_ok-request.ensures ∙ (λ i. record request { outcome = is_told i }) in
     let change : c.request_change-change.result ≡ asked_change more None request = c.request_change-change.ensures ∙ (λ i. asked_change (is_more i) None (is_request i)) in
@@ -92,8 +92,8 @@ returns-in_err-commit-clause-leaves g c clean =
     let list = c.args.list.now in
     let more = added (length known) (loading Second office.site known list) in
     let told = outcome (loading Second office.site known list) in
-    let is_told : c.in_ok-outcome.outcome ≡ told = c.in_ok-outcome.ensures.outcome ∙ ap (λ (l : List PointRow). outcome (loading Second office.site l list)) c.deref.ensures.value in
-    let is_more : c.in_ok-outcome.points.items ≡ more = c.in_ok-outcome.ensures.added ∙ ap (λ (l : List PointRow). added (length l) (loading Second office.site l list)) c.deref.ensures.value in
+    let is_told : c.in_ok-outcome.outcome ≡ told = c.in_ok-outcome.ensures.outcome ∙ ap (λ (l : List PointRow). outcome (loading Second office.site l list)) c.deref-2.ensures.value in
+    let is_more : c.in_ok-outcome.points.items ≡ more = c.in_ok-outcome.ensures.added ∙ ap (λ (l : List PointRow). added (length l) (loading Second office.site l list)) c.deref-2.ensures.value in
     let request : RequestRow = record { caller = c.args.caller.now; key = c.args.key.now; body = body.List list; outcome = told } in
     let is_request : c.in_ok-request.request ≡ request = c.in_ok-request.ensures ∙ (λ i. record request { outcome = is_told i }) in
     let change : c.request_change-change.result ≡ asked_change more None request = c.request_change-change.ensures ∙ (λ i. asked_change (is_more i) None (is_request i)) in
@@ -109,3 +109,18 @@ returns-in_err-commit-clause-leaves g c clean =
     (c.in_err-commit.ensures.leaves clean kept h.0
     (new_loaded more request c.request_change-change.result kept change copy.1 (numbered kept copy.0) unused) left m))
     (known ++ more) refl)
+
+pub returns-in_err-commit-clause-goes : goal.returns-in_err-commit-clause-goes
+returns-in_err-commit-clause-goes g c clean =
+    let office = c.args.self.now in
+    let old : Tables → Type 0 = g.K.Neighbours.holds office.keeper in
+    let new : Tables → Type 0 = g.K.Neighbours.holds c.commit.new.keeper in
+    let known = office.points.items in
+    let seen = Load c.args.caller.now c.args.key.now c.args.list.now in
+    let told = told_so c.from_residual-in_err-commit.result in
+    let store : is_store told ≡ true =
+    ap is_store (request_err c.from_residual-in_err-commit.result (refused_store c.in_err-commit.field-0.0) c.from_residual-in_err-commit.ensures.1) in
+    goes_from (StandsUnused office (c.args.caller.now, c.args.key.now)) (StandsFor old office.site known office.matcher) (StandsFor new office.site c.reserve.new.self.items office.matcher)
+    seen told (λ before stands. stands.0)
+    (subst (λ (l : List PointRow). Goes (StandsFor old office.site known office.matcher) (StandsFor new office.site l office.matcher) seen told) (sym c.reserve.ensures.items)
+    (store_goes old office.site known office.matcher new (λ kept h copy. c.in_err-commit.ensures.err kept h) office.matcher (λ conn. refl) seen told store))

@@ -29,7 +29,7 @@ returns-clause-value g c clean before stands =
     let office = c.args.self.now in
     let known = c.in-Some.row in
     let name = c.args.point.now in
-    let named : known_named office.points.items name ≡ Some known = rw (c.deref.ensures.value, c.as_bytes.ensures.value) at (sym c.known_named.ensures ∙ c.in-Some.is) in
+    let named : known_named office.points.items name ≡ Some known = rw (c.deref.ensures.value, c.as_bytes.ensures.value) at (sym c.find.ensures ∙ c.in-Some.is) in
     let found : known_named (points before) name ≡ Some known = ap (λ l. known_named l name) (sym stands.points) ∙ named in
     let counts : totals.is_counter known.point.role ≡ true = ap totals.is_counter c.in-Counter.is in
     ap Some (c.in_ok-total.ensures.value clean (tables before) stands.tables) ∙ stored_is before name known found counts
