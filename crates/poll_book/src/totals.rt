@@ -119,7 +119,8 @@ fn begin_total(totals: &mut Vec<TotalRow>, point: &PointRow)
     }
 }
 
-/// Puts the total 0 for each of these points that is a counter, where there is room for all.
+/// Puts the total 0 for each of these points that is a counter, where there is room for all. They are put from
+/// the first to the last: new points come behind all others, so no total has to move.
 pub(crate) fn begin_totals(totals: &mut Vec<TotalRow>, points: &[PointRow])
     requires rising { IsRising total_point totals.old.items }
     requires room { vec_len totals.old + length points.now ≤ vec_capacity totals.old }
@@ -127,9 +128,7 @@ pub(crate) fn begin_totals(totals: &mut Vec<TotalRow>, points: &[PointRow])
     ensures put { as_sums totals.new.items ≡ with_sums (totals_of points.now []) (as_sums totals.old.items) }
     ensures room { (more : ℕ) → vec_len totals.old + length points.now + more ≤ vec_capacity totals.old → vec_len totals.new + more ≤ vec_capacity totals.new }
 {
-    let mut left = points.len();
-    while left > 0 {
-        left -= 1;
-        begin_total(totals, &points[left]);
+    for point in points {
+        begin_total(totals, point);
     }
 }

@@ -1,4 +1,4 @@
-use Rattle.std.proofs.Common.{◌≡◌, ◌+◌, ◌≤◌, drop, [], ℕ, length, vec_len}
+use Rattle.std.proofs.Common.{◌≡◌, ◌+◌, ◌≤◌, take, [], ℕ, length, vec_len}
 use Rattle.std.specs.Prelude.{vec_capacity}
 use Rattle.poll_book.specs.Tables.{with_sums}
 use Rattle.poll_book.specs.Totals.{totals_of}
@@ -7,13 +7,9 @@ use Rattle.poll_book.specs.Histories.{IsRising}
 use Rattle.poll_book.specs.Marks.{total_point}
 use Rattle.poll_book.proofs.totals.begin_totals.Given as goal
 
-abbrev pub invariant-loop-left : goal.invariant-loop-left
-invariant-loop-left l = record {
-  in_range : l.left ≤ length l.points;
+abbrev pub invariant-loop-point : goal.invariant-loop-point
+invariant-loop-point l = record {
   rising : IsRising total_point l.totals.items;
-  room : (more : ℕ) → vec_len l.fn.totals + length l.points + more ≤ vec_capacity l.fn.totals → vec_len l.totals + l.left + more ≤ vec_capacity l.totals;
-  put : as_sums l.totals.items ≡ with_sums (totals_of (drop l.left l.points) []) (as_sums l.fn.totals.items);
+  room : (more : ℕ) → vec_len l.fn.totals + length l.points + more ≤ vec_capacity l.fn.totals → vec_len l.totals + length l.points + more ≤ vec_capacity l.totals + l.point-index;
+  put : as_sums l.totals.items ≡ with_sums (totals_of (take l.point-index l.points) []) (as_sums l.fn.totals.items);
 }
-
-abbrev pub decreases-loop-left : goal.decreases-loop-left
-decreases-loop-left l = l.left
