@@ -1,11 +1,12 @@
 -- The fault of a record, from its halves.
-use Rattle.std.proofs.Common.{◌≡◌, ℕ, List, ◌++◌, Bool, true, false, Some, None, length, refl, ◌∙◌}
+use Rattle.std.proofs.Common.{◌≡◌, ℕ, List, ◌++◌, Bool, true, false, cond, not, Some, None, length, refl, sym, ◌∙◌}
 use Rattle.std.proofs.lemmas.List.{length-map}
 use Rattle.std.specs.List.{list_any}
 use Rattle.std.specs.Str.{bytes_eq}
 use Rattle.sunspec.specs.declared.point_type.PointType.{PointType}
 use Rattle.point_list.specs.Columns.{Record, field}
 use Rattle.point_list.specs.Lists.{first_failed, place_checks, meaning_checks, whole_checks, fault_below, names_of, address_in, type_in, ends_in_time}
+use Rattle.point_list.specs.Judged.{fault_of_name}
 use Rattle.point_list.specs.declared.error.ListFault.{ListFault}
 use Rattle.point_list.specs.declared.error.ListFault.TheVariants.{Twice}
 use Rattle.point_list.specs.declared.point.ListRow.{ListRow}
@@ -30,14 +31,18 @@ behind_meaning : (columns : ℕ) (known : List ℕ → Bool) (rows : List ListRo
     → fault_below columns known (names_of rows) r ≡ first_failed (whole_checks (names_of rows) r)
 behind_meaning columns known rows r place meaning = behind_place columns known rows r place ∙ failed-behind (meaning_checks r) (whole_checks (names_of rows) r) meaning
 
-pub below-twice : (columns : ℕ) (known : List ℕ → Bool) (rows : List ListRow) (r : Record) (address : ℕ) (kind : PointType) → first_failed (place_checks columns known (length rows) r) ≡ None → first_failed (meaning_checks r) ≡ None
-    → address_in r ≡ Some address → type_in r ≡ Some kind → ends_in_time (Some address) (Some kind) ≡ true
-    → list_any (λ name. bytes_eq (field r 0) name) (names_of rows) ≡ true → fault_below columns known (names_of rows) r ≡ Some (Twice, 1)
-below-twice columns known rows r address kind place meaning a k ends any =
-    behind_meaning columns known rows r place meaning ∙ rw (a, k, ends, any) refl
+unless : {A : Type 0} (b : Bool) (x y : A) → cond (not b) x y ≡ cond b y x
+unless true x y = refl
+unless false x y = refl
 
-pub below-none : (columns : ℕ) (known : List ℕ → Bool) (rows : List ListRow) (r : Record) (address : ℕ) (kind : PointType) → first_failed (place_checks columns known (length rows) r) ≡ None → first_failed (meaning_checks r) ≡ None
+-- where it ends in time too, only its name is left
+pub below-name : (columns : ℕ) (known : List ℕ → Bool) (rows : List ListRow) (r : Record) (address : ℕ) (kind : PointType) → first_failed (place_checks columns known (length rows) r) ≡ None → first_failed (meaning_checks r) ≡ None
     → address_in r ≡ Some address → type_in r ≡ Some kind → ends_in_time (Some address) (Some kind) ≡ true
-    → list_any (λ name. bytes_eq (field r 0) name) (names_of rows) ≡ false → fault_below columns known (names_of rows) r ≡ None
-below-none columns known rows r address kind place meaning a k ends any =
-    behind_meaning columns known rows r place meaning ∙ rw (a, k, ends, any) refl
+    → fault_below columns known (names_of rows) r ≡ fault_of_name (names_of rows) r
+below-name columns known rows r address kind place meaning a k ends =
+    behind_meaning columns known rows r place meaning ∙ rw (a, k, ends) (unless (list_any (λ name. bytes_eq (field r 0) name) (names_of rows)) None (Some (Twice, 1)))
+
+-- what the name's fault is, where it is known whether a set of those names had the name
+pub fault_unless_new : (names : List (List ℕ)) (r : Record) (is_new has : Bool) → is_new ≡ not has → has ≡ list_any (λ name. bytes_eq (field r 0) name) names
+    → fault_of_name names r ≡ cond is_new None (Some (Twice, 1))
+fault_unless_new names r is_new has e h = rw (e, h) (sym (unless (list_any (λ name. bytes_eq (field r 0) name) names) None (Some (Twice, 1))))

@@ -1,5 +1,5 @@
 -- A body of records, record by record.
-use Rattle.std.proofs.Common.{◌≡◌, ◌<◌, ◌+◌, ◌||◌, ℕ, zero, suc, List, [], ◌∷◌, ◌++◌, length, map, take, get_or, refl, ap, sym, ◌∙◌, arith, subst, Option, Some, None, Bool, true, false, cond}
+use Rattle.std.proofs.Common.{◌≡◌, ◌<◌, ◌+◌, ◌||◌, ℕ, zero, suc, List, [], ◌∷◌, ◌++◌, length, map, take, get_or, refl, ap, sym, ◌∙◌, arith, subst, Option, Some, None, Bool, true, false, cond, ◌==◌, nat_lt}
 use borrow.Author.Tests.{ltb-true}
 use Rattle.std.proofs.lemmas.Bool.Decides.{Decides-eqb}
 use Rattle.std.proofs.lemmas.List.{take_more, length-map, length-take-le, map-append}
@@ -8,7 +8,9 @@ use Rattle.std.specs.Str.{bytes_eq}
 use Rattle.csv.specs.Records.{Row, fields_of}
 use Rattle.point_list.specs.Columns.{Record, field}
 use Rattle.point_list.specs.Lists.{Says, SaysRow, SayRows, fault_below, fault_of, names_of, names_in}
+use Rattle.point_list.specs.Name.{is_name}
 use Rattle.point_list.specs.declared.error.ListFault.{ListFault}
+use Rattle.point_list.specs.declared.error.ListFault.TheVariants.{BadCsv, BadName, TooManyPoints, UnknownDevice}
 use Rattle.point_list.specs.declared.point.ListRow.{ListRow}
 
 -- the record at a place
@@ -100,3 +102,12 @@ few_names columns known names r h =
     let count = passed _ _ _ h in
     let few = passed _ _ _ count.1 in
     ltb-true (length names) 10000 few.0
+
+-- the device of a faultless record is known
+pub known_device : (columns : ℕ) (known : List ℕ → Bool) (names : List (List ℕ)) (r : Record) → fault_below columns known names r ≡ None → known (field r 1) ≡ true
+unfolding fault_below
+known_device columns known names r h =
+    let count = passed (length r == columns) _ (BadCsv, 0) h in
+    let few = passed (nat_lt (length names) 10000) _ (TooManyPoints, 0) count.1 in
+    let name = passed (is_name (field r 0)) _ (BadName, 1) few.1 in
+    (passed (known (field r 1)) _ (UnknownDevice, 2) name.1).0

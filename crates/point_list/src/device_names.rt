@@ -28,7 +28,10 @@ fn add_device<'a>(names: &mut Texts<'a>, name: &'a [u8]) -> Result<(), AllocErro
     ensures { OnOk result ((text : List ℕ) → has_text names.new text ≡ ((is_label text && bytes_eq text name.now) || has_text names.old text)) }
 {
     if is_label(name) {
-        names.add(name)
+        match names.add(name) {
+            Ok(_) => Ok(()),
+            Err(e) => Err(e),
+        }
     } else {
         Ok(())
     }

@@ -1,13 +1,11 @@
 //! What a record of a list says, or its first fault.
-ghost use Rattle.std.specs.Prelude.{◌≡◌, ℕ, List, None, Some, IfOk, IfErr, if◌then◌else◌, true};
-ghost use Rattle.std.specs.List.{list_any};
-ghost use Rattle.std.specs.Str.{bytes_eq};
+ghost use Rattle.std.specs.Prelude.{◌≡◌, ℕ, List, length, None, Some, IfOk, IfErr, if◌then◌else◌, true};
+ghost use Rattle.std.specs.List.{All};
 ghost use Rattle.csv.specs.Records.{fields_of};
 ghost use Rattle.point_list.specs.Label.{is_label};
 ghost use Rattle.point_list.specs.DeviceNames.{has_device};
-ghost use Rattle.point_list.specs.Texts.{has_text};
 ghost use Rattle.point_list.specs.Lists.{SaysRow, ends_in_time, fault_below, first_failed, meaning_checks, place_checks, names_of, table_in};
-ghost use Rattle.point_list.specs.Judged.{SaysPlace, SaysMeaning};
+ghost use Rattle.point_list.specs.Judged.{SaysPlace, SaysMeaning, fault_of_name};
 
 use crate::columns::{
     address_unless, field_of, is_left_out, model_in, order_in, role_in, roll_in, scale_in,
@@ -18,8 +16,8 @@ use crate::error::ListFault;
 use crate::label::Label;
 use crate::list::MOST_POINTS;
 use crate::name::Name;
+use crate::naming::is_same_name;
 use crate::point::{ListRow, Point, Role};
-use crate::texts::Texts;
 use csv::ByteRecord;
 use mb_pdu::Table;
 use sunspec::{PointType, WordOrder};
@@ -44,11 +42,18 @@ pub(crate) struct Meaning {
     order: WordOrder,
 }
 
-/// The device of this name, if there is one.
-fn device_named(devices: &DeviceNames<'_>, text: &[u8]) -> Option<Label>
-    requires { has_device devices.now text.now ≡ true → is_label text.now ≡ true }
+/// The device of this name, if there is one. Mostly it is that of the row before, which needn't be looked for
+/// again.
+fn device_named(devices: &DeviceNames<'_>, rows: &[ListRow], text: &[u8]) -> Option<Label>
+    requires labels { has_device devices.now text.now ≡ true → is_label text.now ≡ true }
+    requires rows { All (λ row. has_device devices.now row.point.device ≡ true) rows.now }
     ensures { result ≡ (if has_device devices.now text.now then Some text.now else None) }
 {
+    if let Some(row) = rows.last()
+        && is_same_name(row.point.device.as_bytes(), text)
+    {
+        return Some(row.point.device);
+    }
     if !devices.has(text) {
         return None;
     }
@@ -62,24 +67,25 @@ fn device_named(devices: &DeviceNames<'_>, text: &[u8]) -> Option<Label>
 fn place_in(
     columns: usize,
     devices: &DeviceNames<'_>,
-    before: usize,
+    rows: &[ListRow],
     record: &ByteRecord,
 ) -> Result<Place, (ListFault, u8)>
-    requires { (text : List ℕ) → has_device devices.now text ≡ true → is_label text ≡ true }
-    ensures place { IfOk result (λ x. (first_failed (place_checks columns (has_device devices.now) before (fields_of record.now)) ≡ None)
+    requires devices { (text : List ℕ) → has_device devices.now text ≡ true → is_label text ≡ true }
+    requires rows { All (λ row. has_device devices.now row.point.device ≡ true) rows.now }
+    ensures place { IfOk result (λ x. (first_failed (place_checks columns (has_device devices.now) (length rows.now) (fields_of record.now)) ≡ None)
         × SaysPlace (fields_of record.now) x) }
-    ensures fault { IfErr result (λ e. first_failed (place_checks columns (has_device devices.now) before (fields_of record.now)) ≡ Some e) }
+    ensures fault { IfErr result (λ e. first_failed (place_checks columns (has_device devices.now) (length rows.now) (fields_of record.now)) ≡ Some e) }
 {
     if record.len() != columns {
         return Err((ListFault::BadCsv, 0));
     }
-    if before >= MOST_POINTS {
+    if rows.len() >= MOST_POINTS {
         return Err((ListFault::TooManyPoints, 0));
     }
     let Some(name) = Name::new(field_of(record, 0)) else {
         return Err((ListFault::BadName, 1));
     };
-    let Some(device) = device_named(devices, field_of(record, 1)) else {
+    let Some(device) = device_named(devices, rows, field_of(record, 1)) else {
         return Err((ListFault::UnknownDevice, 2));
     };
     let Some(table) = table_named(field_of(record, 2)) else {
@@ -141,24 +147,23 @@ fn ends_in_time(address: u16, kind: PointType) -> bool
     address as u32 + kind.registers() as u32 <= 65536
 }
 
-/// The row of a record of this number below so many columns and these rows, whose names the set has, or
-/// its first fault.
+/// The row of a record of this number below so many columns and these rows, or its first fault. Its name
+/// is left to check among those of the rows, which is the last check of a record.
 #[tactic(auto, unfolding(crate::specs::Lists::fault_below))]
 pub(crate) fn row_in(
     columns: usize,
     devices: &DeviceNames<'_>,
-    names: &Texts<'_>,
     rows: &[ListRow],
     number: u32,
     record: &ByteRecord,
 ) -> Result<ListRow, (ListFault, u8)>
     requires devices { (text : List ℕ) → has_device devices.now text ≡ true → is_label text ≡ true }
-    requires names { (text : List ℕ) → has_text names.now text ≡ list_any (λ name. bytes_eq text name) (names_of rows.now) }
-    ensures row { IfOk result (λ x. (fault_below columns (has_device devices.now) (names_of rows.now) (fields_of record.now) ≡ None)
+    requires rows { All (λ row. has_device devices.now row.point.device ≡ true) rows.now }
+    ensures row { IfOk result (λ x. (fault_below columns (has_device devices.now) (names_of rows.now) (fields_of record.now) ≡ fault_of_name (names_of rows.now) (fields_of record.now))
         × SaysRow number (fields_of record.now) x) }
     ensures fault { IfErr result (λ e. fault_below columns (has_device devices.now) (names_of rows.now) (fields_of record.now) ≡ Some e) }
 {
-    let place = match place_in(columns, devices, rows.len(), record) {
+    let place = match place_in(columns, devices, rows, record) {
         Ok(place) => place,
         Err(e) => return Err(e),
     };
@@ -168,9 +173,6 @@ pub(crate) fn row_in(
     };
     if !ends_in_time(place.address, meaning.kind) {
         return Err((ListFault::BadAddress, 4));
-    }
-    if names.has(place.name.as_bytes()) {
-        return Err((ListFault::Twice, 1));
     }
     let point = Point {
         name: place.name,

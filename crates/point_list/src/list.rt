@@ -98,12 +98,16 @@ fn rows_of(
     let mut names = Texts::new(alloc);
     let mut number = 2;
     for record in body {
-        let row = match row_in(columns, devices, &names, rows.as_slice(), number, record) {
+        let row = match row_in(columns, devices, rows.as_slice(), number, record) {
             Ok(row) => row,
             Err((fault, column)) => return Err(ListError::new(fault, number, column)),
         };
-        if names.add(field_of(record, 0)).is_err() {
-            return Err(ListError::memory());
+        let is_new = match names.add(field_of(record, 0)) {
+            Ok(is_new) => is_new,
+            Err(_) => return Err(ListError::memory()),
+        };
+        if !is_new {
+            return Err(ListError::new(ListFault::Twice, number, 1));
         }
         if rows.push(row).is_err() {
             return Err(ListError::memory());
