@@ -13,6 +13,7 @@ pub mod Causing
 pub mod Cutting
 pub mod Rounding
 pub mod Planned
+pub mod Chosen
 pub mod Doable
 pub mod Sixteen
 pub mod Lacked

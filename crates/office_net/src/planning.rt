@@ -26,15 +26,14 @@ fn is_readable(row: &PointRow) -> bool
     can_be_read(&row.point)
 }
 
-/// The known points of a device that can be read.
+/// The known points of a device that can be read. Most are of other devices, so that is asked first.
 fn points_of(alloc: Global, known: &[PointRow], device: &str) -> Result<Vec<Point>, AllocError>
     ensures read { IfOk result (λ points. points.items ≡ points_on (readable known.now) device.now) }
     ensures all { IfOk result (λ points. All CanBeRead points.items) }
 {
     known
         .iter()
-        .filter(|row| is_readable(row))
-        .filter(|row| is_of(row, device))
+        .filter(|row| is_of(row, device) && is_readable(row))
         .map(|row| row.point)
         .collect(alloc)
 }
