@@ -1,15 +1,16 @@
-use Rattle.std.proofs.Common.{ap, arith, length, rules, sym, subst, ◌∙◌, ◌≡◌, ◌++◌, ◌+◌, append_assoc}
+use Rattle.std.proofs.Common.{ap, arith, length, refl, rules, sym, subst, ℕ, List, [], ◌∙◌, ◌≡◌, ◌++◌, ◌+◌, append_assoc}
 use Rattle.std.specs.Prelude.{IfOk}
 use Rattle.std.specs.Io.KnownBytes.{Appends}
 use Rattle.mb_mbap.specs.Counted.{inner_of}
 use Rattle.office_core.specs.History.{tables}
 use Rattle.office_script.specs.Printing.{report_of}
-use Rattle.office_script.specs.Scripts.{Course, steps_of, from_line}
+use Rattle.office_script.specs.Scripts.{Course, after, steps_of, from_line}
 use Rattle.office_script.specs.Playing.{Follows}
 use Rattle.office_script.specs.declared.player.Played.TheVariants.{On, Faulty}
 use Rattle.office_script.proofs.Acted.{on_ok}
+use Rattle.std.proofs.Math.Nat.{le_refl}
 use Rattle.office_script.proofs.Played.{line_played, whole_written, owed_after, report_owed}
-use Rattle.std.proofs.KnownBytes.{Appends-trans}
+use Rattle.std.proofs.KnownBytes.{Appends-nil, Appends-trans}
 use Rattle.office_script.proofs.player.play.Goals as goal
 
 pub loop-rest-preserved : goal.loop-rest-preserved
@@ -88,3 +89,12 @@ returns-in_err-play_line-clause-memory g c = λ before stood memory.
     let (now, stands, owed) = was.2 in
     let last = (from_line now c.loop-rest.number (steps_of c.loop-rest.number c.loop-rest.rest.now)).text in
     (was.0, out ++ last, sym (append_assoc was.0 out last) ∙ ap (λ (course : Course). course.text) owed, was.1)
+
+pub loop-rest-init : goal.loop-rest-init
+loop-rest-init g c = record {
+  owed = λ before stood.
+      let whole = from_line before c.args.first (steps_of c.args.first c.args.text.now) in
+      ([], Appends-nil (g.W.Write.contents (inner_of c.args.writer.now)), (before, stood, ap (λ (out : List ℕ). after out whole) c.new-out.ensures.items));
+  failures = refl;
+  room = le_refl (c.args.first + length c.args.text.now);
+}
