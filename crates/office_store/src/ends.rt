@@ -15,6 +15,10 @@ use poll_book::{PointRow, ReadingRow, StoreFault, VoidRow};
 use sqlite::{Alter, Connection};
 use std::alloc::Global;
 
+/// The greatest number of a point of which the end of voids is remembered: an office has no greater one, and what is
+/// remembered takes room up to the greatest number.
+const MOST_REMEMBERED: u32 = 10_000;
+
 /// A slot for each point, by the points' numbers, that all its rows of a table stand before: 0 where it has none, and
 /// nothing where it isn't known.
 #[derive(Drop)]
@@ -86,14 +90,18 @@ impl Ends {
         }
     }
 
-    /// Follows the voided slot of a change, if it was written.
+    /// Follows the voided slot of a change, if it was written. Where it wasn't nothing stays known, since the database may
+    /// be closed, which the next question has to find.
     pub(crate) fn follow_void(&mut self, void: Option<VoidRow>, is_written: bool)
         ensures written { is_written ≡ true → (table : Voids) → AreEnds self.old.known.items table → AreEnds self.new.known.items (with_voided void table) }
-        ensures same { is_written ≡ false → self.new ≡ self.old }
+        ensures forgotten { is_written ≡ false → (table : Voids) → AreEnds self.new.known.items table }
     {
-        match void {
-            Some(row) if is_written => self.raise(row.point, row.slot),
-            _ => {}
+        if !is_written {
+            self.known.clear();
+            return;
+        }
+        if let Some(row) = void {
+            self.raise(row.point, row.slot);
         }
     }
 }
@@ -201,7 +209,7 @@ pub(crate) fn is_void<S: Alter>(
     ensures keeps { Keeps (state S.Store connection.old) (state S.Store connection.new) }
     ensures idle { connection.new.in_transaction ≡ false }
 {
-    if is_behind_voids(connection, ends, point, slot) {
+    if point <= MOST_REMEMBERED && is_behind_voids(connection, ends, point, slot) {
         return Ok(false);
     }
     voids::is_void(connection, point, slot)

@@ -56,7 +56,7 @@ returns-clause-err g c =
     let ends : HasEnds new c.follow.new.self.known.items kept =
     λ clean. subst (λ (ends : Ends). AreEnds ends.known.items kept.readings) (sym (c.follow.ensures.same written)) (held.1 (done.clean clean)) in
     let void_ends : HasVoidEnds new c.follow_void.new.self.known.items kept =
-    λ clean. subst (λ (ends : Ends). AreEnds ends.known.items kept.voids) (sym (c.follow_void.ensures.same written)) (held.2 (done.clean clean)) in
+    λ clean. c.follow_void.ensures.forgotten written kept.voids in
     (noted, ends, void_ends) in
     told_err c.apply-written.result c.counted.result c.counted.ensures.answer still done.err
 
