@@ -7,6 +7,7 @@ pub mod TextSets
 pub mod Checks
 pub mod Judging
 pub mod Whole
+pub mod RecordsRead
 pub mod DeviceNames
 pub mod Models
 pub mod Rows

@@ -7,6 +7,7 @@ pub mod DeviceNames
 pub mod Columns
 pub mod Edition
 pub mod Lists
+pub mod Records
 pub mod Judged
 pub mod Header
 pub mod FaultTexts

@@ -15,6 +15,7 @@ mod list;
 mod name;
 mod naming;
 mod point;
+mod records;
 mod resolving;
 mod site;
 mod site_error;

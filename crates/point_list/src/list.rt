@@ -14,10 +14,11 @@ use crate::device_names::DeviceNames;
 use crate::error::{ListError, ListFault};
 use crate::judge::row_in;
 use crate::point::ListRow;
+use crate::records::records;
 use crate::site::Site;
 use crate::texts::Texts;
-use csv::{ByteRecord, ErrorKind, ReaderBuilder};
-use std::alloc::{AllocError, Global};
+use csv::ByteRecord;
+use std::alloc::Global;
 
 /// The most points of a list.
 pub const MOST_POINTS: usize = 10_000;
@@ -54,32 +55,6 @@ fn is_header(record: &ByteRecord) -> bool
     ensures { result ≡ is_header Second (fields_of record.now) }
 {
     is_plain_header(record) || is_header_with_words(record)
-}
-
-/// The records of a text.
-fn records(alloc: Global, bytes: &[u8]) -> Result<Vec<ByteRecord>, AllocError>
-    ensures { IfOk result (λ v. map fields_of v.items ≡ records_of bytes.now) }
-{
-    // Flexible, so that the number of fields is left to the checks.
-    let reader = ReaderBuilder::new()
-        .has_headers(false)
-        .flexible(true)
-        .from_reader(alloc, bytes);
-    let mut rows = Vec::new(alloc);
-    for row in reader.into_byte_records() {
-        let row = match row {
-            Ok(row) => row,
-            Err(e) => match e.into_kind() {
-                ErrorKind::Io(_) => return Err(AllocError),
-                ErrorKind::OutOfMemory => return Err(AllocError),
-                _ => unreachable!(),
-            },
-        };
-        if rows.push(row).is_err() {
-            return Err(AllocError);
-        }
-    }
-    Ok(rows)
 }
 
 /// The rows of a body of records below so many columns, or its first fault.

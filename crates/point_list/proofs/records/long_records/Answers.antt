@@ -6,7 +6,7 @@ use Rattle.csv.specs.Records.{fields_of}
 use Rattle.csv.specs.declared.parser.State.TheVariants as st
 use Rattle.csv.proofs.ReadFacts.{rows-end, rows-more}
 use Rattle.point_list.proofs.Whole.{all_records, only_stops}
-use Rattle.point_list.proofs.list.records.Goals as goal
+use Rattle.point_list.proofs.records.long_records.Goals as goal
 
 pub loop-row-init : goal.loop-row-init
 unfolding Reached
