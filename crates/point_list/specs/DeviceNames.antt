@@ -11,4 +11,4 @@ use Rattle.point_list.specs.declared.site.Device.{Device}
 -- whether a text is the name of a device, and one that a point can have
 abbrev pub has_device : DeviceNames → List ℕ → Bool
 has_device (Plain devices) text = is_label text && list_any (λ (d : Device). bytes_eq text d.name) devices.now
-has_device (Sorted names) text = has_text names text
+has_device (Sorted names) text = is_label text && has_text names text

@@ -80,7 +80,7 @@ impl<'a> DeviceNames<'a> {
     {
         match self {
             DeviceNames::Plain(devices) => is_label(text) && is_among(devices, text),
-            DeviceNames::Sorted(names) => names.has(text),
+            DeviceNames::Sorted(names) => is_label(text) && names.has(text),
         }
     }
 }

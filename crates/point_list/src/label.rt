@@ -1,8 +1,12 @@
-ghost use Rattle.std.specs.Prelude.{◌≡◌, ◌≤◌, length, if◌then◌else◌, Some, None, IsTrue, MatchResult, false, true};
+ghost use Rattle.std.specs.Prelude.{◌≡◌, ◌≤◌, length, if◌then◌else◌, Some, None, IsTrue, MatchResult, false, true, nat_eq, refl};
 ghost use Rattle.std.specs.Char.{is_ascii};
+ghost use Rattle.std.specs.Cmp.{partial_equiv_from_equiv};
+ghost use Rattle.std.specs.Cmp.Lexicographic.{pointwise, nat_list_eq_equiv, slice_cmp, nat_list_cmp_total, texts_po, texts_ties};
 ghost use Rattle.std.specs.List.{list_all};
+ghost use Rattle.std.specs.Ordering.{nat_cmp};
 ghost use Rattle.point_list.specs.Label.{is_label};
 
+use std::cmp::Ordering;
 use std::marker::Model;
 use std::str::FromStr;
 use std::{fmt, str};
@@ -10,7 +14,7 @@ use sunspec::FixedText;
 use thiserror::Error;
 
 /// A text of 1 to 64 ASCII characters, in the value itself. Contracts see its bytes.
-#[derive(Clone, Copy, PartialEq, Eq, PartialOrd, Ord, Hash)]
+#[derive(Clone, Copy, Hash)]
 pub struct Label {
     text: FixedText<64>,
 }
@@ -43,6 +47,14 @@ pub(crate) fn is_label(text: &[u8]) -> bool
     !text.is_empty() && text.len() <= 64 && is_ascii(text)
 }
 
+/// A label as text. It is ASCII, so no byte is looked at.
+pub(crate) fn as_text(label: &[u8]) -> &str
+    requires { is_label label.now ≡ true }
+    ensures { result.now ≡ label.now }
+{
+    unsafe { str::from_utf8_unchecked(label) }
+}
+
 impl Label {
     /// The label that a text is, if it is one.
     pub fn new(text: &[u8]) -> Option<Label>
@@ -68,10 +80,47 @@ impl Label {
         ensures value { result.now ≡ self.now }
         ensures label { is_label self.now ≡ true }
     {
-        match str::from_utf8(self.as_bytes()) {
-            Ok(text) => text,
-            Err(_) => unreachable!(),
-        }
+        as_text(self.as_bytes())
+    }
+}
+
+// As text, which is compared by words, where bytes are compared a few at a time.
+impl PartialEq for Label {
+    ghost eq = { pointwise nat_eq };
+
+    ghost laws = { partial_equiv_from_equiv nat_list_eq_equiv };
+
+    fn eq(&self, other: &Label) -> bool {
+        self.as_str() == other.as_str()
+    }
+}
+
+impl Eq for Label {
+    ghost laws = { nat_list_eq_equiv };
+}
+
+/// Labels are ordered by their bytes.
+impl PartialOrd for Label {
+    ghost partial_cmp = { λ a b. Some (slice_cmp nat_cmp a b) };
+
+    ghost laws = { texts_po };
+
+    fn partial_cmp(&self, other: &Label) -> Option<Ordering> {
+        Some(self.cmp(other))
+    }
+}
+
+impl Ord for Label {
+    ghost cmp = { slice_cmp nat_cmp };
+
+    ghost total = { nat_list_cmp_total };
+
+    ghost matches_partial_cmp = { λ a b. refl };
+
+    ghost matches_eq = { texts_ties };
+
+    fn cmp(&self, other: &Label) -> Ordering {
+        self.as_str().cmp(other.as_str())
     }
 }
 

@@ -11,9 +11,16 @@ use Rattle.point_list.specs.Lists.{fault_below, names_of}
 use Rattle.point_list.specs.Texts.{has_text}
 use Rattle.point_list.specs.declared.error.ListFault.TheVariants.{Twice}
 use Rattle.point_list.specs.declared.point.ListRow.{ListRow}
-use Rattle.point_list.proofs.Judging.{fault_unless_new}
+use Rattle.point_list.proofs.Judging.{fault_unless_new, named}
+use Rattle.point_list.proofs.Names.{name_is_label}
 use Rattle.point_list.proofs.Rows.{few_names, known_device, more_faultless, more_names, more_rows, known_more}
 use Rattle.point_list.proofs.list.rows_of.Goals as goal
+
+pub add-requires : goal.add-requires
+add-requires c =
+    let r = fields_of c.record-item.result in
+    let judged = rw c.as_slice.ensures.value at c.in-Ok.ensures.row in
+    name_is_label c.field_of.result.now (rw c.field_of.ensures (named c.args.columns (has_device c.args.devices.now) (names_of c.loop-record.rows.items) r judged.0))
 
 pub loop-record-preserved : goal.loop-record-preserved
 loop-record-preserved c =
