@@ -1,3 +1,4 @@
+pub mod Callers
 pub mod Causes
 pub mod Entries
 pub mod Places

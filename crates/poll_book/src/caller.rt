@@ -1,14 +1,18 @@
 //! Who asks, and under which key: short words in the value itself.
-ghost use Rattle.std.specs.Prelude.{◌≡◌, if◌then◌else◌, Some, None, true};
+ghost use Rattle.std.specs.Prelude.{◌≡◌, if◌then◌else◌, Some, None, true, nat_eq, refl};
+ghost use Rattle.std.specs.Cmp.{partial_equiv_from_equiv};
+ghost use Rattle.std.specs.Cmp.Lexicographic.{pointwise, nat_list_eq_equiv, slice_cmp, nat_list_cmp_total, texts_po, texts_ties};
 ghost use Rattle.std.specs.List.{list_all};
+ghost use Rattle.std.specs.Ordering.{nat_cmp};
 ghost use Rattle.poll_book.specs.Callers.{is_caller, is_key, is_key_byte, is_word_within};
 
-use std::fmt;
+use std::cmp::Ordering;
 use std::marker::Model;
+use std::{fmt, str};
 use sunspec::FixedText;
 
 /// The name of a caller: 1 to 32 of `A-Z a-z 0-9 _ -`. Contracts see its bytes.
-#[derive(Clone, Copy, PartialEq, Eq, PartialOrd, Ord)]
+#[derive(Clone, Copy)]
 pub struct Caller {
     text: FixedText<32>,
 }
@@ -27,7 +31,7 @@ impl Model for Caller {
 }
 
 /// A key under which a caller asks: 1 to 64 of `A-Z a-z 0-9 _ -`. Contracts see its bytes.
-#[derive(Clone, Copy, PartialEq, Eq, PartialOrd, Ord)]
+#[derive(Clone, Copy)]
 pub struct Key {
     text: FixedText<64>,
 }
@@ -85,6 +89,13 @@ impl Caller {
     {
         self.text.as_bytes()
     }
+
+    // Its bytes are ASCII, so they are text.
+    fn as_text(&self) -> &str
+        ensures { result.now ≡ self.now }
+    {
+        unsafe { str::from_utf8_unchecked(self.as_bytes()) }
+    }
 }
 
 impl Key {
@@ -107,6 +118,90 @@ impl Key {
         ensures key { is_key self.now ≡ true }
     {
         self.text.as_bytes()
+    }
+
+    // Its bytes are ASCII, so they are text.
+    fn as_text(&self) -> &str
+        ensures { result.now ≡ self.now }
+    {
+        unsafe { str::from_utf8_unchecked(self.as_bytes()) }
+    }
+}
+
+// Callers and keys are compared as texts, by words, where bytes are compared a few at a time.
+impl PartialEq for Caller {
+    ghost eq = { pointwise nat_eq };
+
+    ghost laws = { partial_equiv_from_equiv nat_list_eq_equiv };
+
+    fn eq(&self, other: &Caller) -> bool {
+        self.as_text() == other.as_text()
+    }
+}
+
+impl Eq for Caller {
+    ghost laws = { nat_list_eq_equiv };
+}
+
+impl PartialOrd for Caller {
+    ghost partial_cmp = { λ a b. Some (slice_cmp nat_cmp a b) };
+
+    ghost laws = { texts_po };
+
+    fn partial_cmp(&self, other: &Caller) -> Option<Ordering> {
+        Some(self.cmp(other))
+    }
+}
+
+impl Ord for Caller {
+    ghost cmp = { slice_cmp nat_cmp };
+
+    ghost total = { nat_list_cmp_total };
+
+    ghost matches_partial_cmp = { λ a b. refl };
+
+    ghost matches_eq = { texts_ties };
+
+    fn cmp(&self, other: &Caller) -> Ordering {
+        self.as_text().cmp(other.as_text())
+    }
+}
+
+impl PartialEq for Key {
+    ghost eq = { pointwise nat_eq };
+
+    ghost laws = { partial_equiv_from_equiv nat_list_eq_equiv };
+
+    fn eq(&self, other: &Key) -> bool {
+        self.as_text() == other.as_text()
+    }
+}
+
+impl Eq for Key {
+    ghost laws = { nat_list_eq_equiv };
+}
+
+impl PartialOrd for Key {
+    ghost partial_cmp = { λ a b. Some (slice_cmp nat_cmp a b) };
+
+    ghost laws = { texts_po };
+
+    fn partial_cmp(&self, other: &Key) -> Option<Ordering> {
+        Some(self.cmp(other))
+    }
+}
+
+impl Ord for Key {
+    ghost cmp = { slice_cmp nat_cmp };
+
+    ghost total = { nat_list_cmp_total };
+
+    ghost matches_partial_cmp = { λ a b. refl };
+
+    ghost matches_eq = { texts_ties };
+
+    fn cmp(&self, other: &Key) -> Ordering {
+        self.as_text().cmp(other.as_text())
     }
 }
 
