@@ -131,6 +131,32 @@ pub all_there : (known : List PointRow) (device : List ℕ) → points_at known 
 all_there known device =
     subst (λ (l : List PointRow). points_at l (places_from 0 device known) ≡ filter (is_of device) l) (take_all (length known) known (omega arith)) (points_there (length known) known device)
 
+-- where one of the places stands past some points, it and those behind it have none of them
+pub none_behind : (some : List PointRow) (n : ℕ) (device : List ℕ) (rest : List PointRow) (i : ℕ) → i < length (places_from n device rest)
+    → length some ≤ get_or (places_from n device rest) i 0 → points_at some (drop i (places_from n device rest)) ≡ []
+none_behind some n device [] i lt le = absurd (omega (arith, lt))
+none_behind some n device (row ∷ rest) i lt le = by (is_of device row) i lt le (none_behind some (n + 1) device rest)
+  where
+    next : List ℕ
+    next = places_from (n + 1) device rest
+
+    by : (b : Bool) (i : ℕ) → i < length (cond b (n ∷ next) next) → length some ≤ get_or (cond b (n ∷ next) next) i 0
+        → ((j : ℕ) → j < length next → length some ≤ get_or next j 0 → points_at some (drop j next) ≡ [])
+        → points_at some (drop i (cond b (n ∷ next) next)) ≡ []
+    by true zero lt le more = rw (slice_get_past some n le) (at_none some (n + 1) device rest (omega (arith, le)))
+    by true (suc j) lt le more = more j (omega (arith, lt)) le
+    by false i lt le more = more i lt le
+
+-- so the places in front of it are enough
+pub front_enough : (some : List PointRow) (known : List PointRow) (device : List ℕ) (places : List ℕ) (i : ℕ) → places ≡ places_from 0 device known → i < length places → length some ≤ get_or places i 0
+    → points_at some (take i places) ≡ points_at some places
+front_enough some known device places i is lt le =
+    let nothing : points_at some (drop i places) ≡ [] = rw is (none_behind some 0 device known i (rw is at lt) (rw is at le)) in
+    sym (append-nil (points_at some (take i places)))
+    ∙ ap (λ (l : List PointRow). points_at some (take i places) ++ l) (sym nothing)
+    ∙ sym (filter_map-append (slice_get some) (take i places) (drop i places))
+    ∙ ap (points_at some) (take-append-drop i places)
+
 -- ---- tests that only those of the device pass
 
 is_left : (a b : Bool) → (a && b) ≡ true → a ≡ true

@@ -46,6 +46,7 @@ pub mod OldHistories
 pub mod Fitting
 pub mod Voiding
 pub mod ByDevice
+pub mod Numbered
 pub mod ByName
 pub mod StepsLost
 pub mod SlotsLost

@@ -1,5 +1,6 @@
 //! Known points by their devices.
-ghost use Rattle.std.specs.Prelude.{◌≡◌, ◌≤◌, ◌<◌, ◌+◌, ◌++◌, ◌∷◌, [], cond, List, ℕ, IfSome, OnOk, OnErr, length};
+ghost use Rattle.std.specs.List.{position};
+ghost use Rattle.std.specs.Prelude.{◌≡◌, ◌≤◌, ◌<◌, ◌+◌, ◌++◌, ◌∷◌, ◌==◌, ◌&&◌, [], cond, List, ℕ, IfSome, OnOk, OnErr, length};
 ghost use Rattle.std.specs.Str.{bytes_eq};
 ghost use Rattle.poll_book.specs.declared.rows.PointRow.{PointRow};
 ghost use Rattle.office_core.specs.ByDevice.{AreDevicesOf, AreTheirs, listed};
@@ -9,12 +10,25 @@ use poll_book::PointRow;
 use std::alloc::{AllocError, Global};
 use std::collections::BTreeMap;
 
+/// So many points are put in by a call beside those that it is told to, however many there are.
+const AT_ONCE: usize = 16;
+
 /// The places of the first so many known points by the names of their devices, of each device in the points' order.
 #[derive(Drop)]
 pub(crate) struct ByDevice {
     alloc: Global,
     count: usize,
+    // Whether these points are numbered on from 1, as an office numbers them.
+    in_order: bool,
     places: BTreeMap<Label, Vec<u32>>,
+}
+
+/// Whether points that are numbered on, or aren't, are so with one more behind so many.
+fn goes_on(in_order: bool, number: u32, count: usize) -> bool
+    requires { count ≤ 10000 }
+    ensures { result ≡ (in_order && number == count + 1) }
+{
+    in_order && number as usize == count + 1
 }
 
 impl ByDevice {
@@ -25,6 +39,7 @@ impl ByDevice {
         ByDevice {
             alloc,
             count: 0,
+            in_order: true,
             places: BTreeMap::new(alloc),
         }
     }
@@ -32,6 +47,7 @@ impl ByDevice {
     /// Puts a place behind those of a device. Without memory for it all stays.
     fn put(&mut self, device: Label, place: u32) -> Result<(), AllocError>
         ensures count { self.new.count ≡ self.old.count }
+        ensures in_order { self.new.in_order ≡ self.old.in_order }
         ensures put { OnOk result ((other : List ℕ) → listed self.new other ≡ cond (bytes_eq device other) (listed self.old other ++ place ∷ []) (listed self.old other)) }
         ensures err { OnErr result ((other : List ℕ) → listed self.new other ≡ listed self.old other) }
     {
@@ -47,19 +63,37 @@ impl ByDevice {
         }
     }
 
-    /// Puts the points in that don't stand in it, as far as there is memory.
-    pub(crate) fn follow(&mut self, known: &[PointRow])
+    /// Puts points in that don't stand in it yet: so many, and a few more, as far as there is memory.
+    pub(crate) fn follow(&mut self, known: &[PointRow], some: usize)
         requires few { length known.now ≤ 10000 }
         requires of { AreDevicesOf known.now self.old }
         ensures { AreDevicesOf known.now self.new }
     {
-        while self.count < known.len() {
-            let device = known[self.count].point.device;
-            let Ok(()) = self.put(device, self.count as u32) else {
+        let missing = known.len() - self.count;
+        let end = self.count + missing.min(some.saturating_add(AT_ONCE));
+        while self.count < end {
+            let row = known[self.count];
+            let Ok(()) = self.put(row.point.device, self.count as u32) else {
                 return;
             };
+            self.in_order = goes_on(self.in_order, row.number, self.count);
             self.count += 1;
         }
+    }
+
+    /// The place of the first known point of a number. It is looked for one by one where the points aren't known to be
+    /// numbered on.
+    pub(crate) fn place_numbered(&self, known: &[PointRow], number: u32) -> Option<usize>
+        requires { AreDevicesOf known.now self.now }
+        ensures { result ≡ position (λ row. row.number == number) known.now }
+    {
+        if !self.in_order || self.count < known.len() {
+            return known.iter().position(|row| row.number == number);
+        }
+        if number == 0 || number as usize > known.len() {
+            return None;
+        }
+        Some(number as usize - 1)
     }
 
     /// The places of the points of a device, where all known points stand in it.

@@ -12,6 +12,9 @@ use poll_book::PointRow;
 use std::alloc::{AllocError, Global};
 use std::collections::BTreeMap;
 
+/// So many points are put in by a call beside those that it is told to, however many there are.
+const AT_ONCE: usize = 16;
+
 /// The places of the first so many known points by their names, of each name the first.
 #[derive(Drop)]
 pub(crate) struct ByName {
@@ -45,13 +48,15 @@ impl ByName {
         }
     }
 
-    /// Puts the points in that don't stand in it.
-    pub(crate) fn follow(&mut self, known: &[PointRow]) -> Result<(), AllocError>
+    /// Puts points in that don't stand in it yet: so many, and a few more.
+    pub(crate) fn follow(&mut self, known: &[PointRow], some: usize) -> Result<(), AllocError>
         requires few { length known.now ≤ 10000 }
         requires of { AreNamesOf known.now self.old }
         ensures { AreNamesOf known.now self.new }
     {
-        while self.count < known.len() {
+        let missing = known.len() - self.count;
+        let end = self.count + missing.min(some.saturating_add(AT_ONCE));
+        while self.count < end {
             let name = known[self.count].point.name;
             self.put(name, self.count as u32)?;
             self.count += 1;

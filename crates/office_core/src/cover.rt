@@ -1,6 +1,7 @@
 //! Which points a read covers, and what a reply gives to them.
-ghost use Rattle.std.specs.Prelude.{◌≡◌, ◌&&◌, ◌≤◌, ◌<◌, ◌+◌, ◌∷◌, [], true, false, IfOk, length, take, drop, get_or};
+ghost use Rattle.std.specs.Prelude.{◌≡◌, ◌&&◌, ◌≤◌, ◌<◌, ◌+◌, ◌∷◌, [], true, false, ℕ, List, IfOk, length, take, drop, get_or};
 ghost use Rattle.sunspec.specs.PointType.{row};
+ghost use Rattle.poll_book.specs.declared.rows.PointRow.{PointRow as ARow};
 ghost use Rattle.office_core.specs.Cover as cover;
 ghost use Rattle.office_core.specs.ByDevice.{AreDevicesOf, AreTheirs, points_at, places_from};
 ghost use Rattle.office_core.specs.Cover.{Brings};
@@ -68,7 +69,7 @@ fn lies_whole(read: &Read, point: &Point) -> bool
 }
 
 /// The point is of the device and of the table that is read, and lies whole in the read.
-// Each reply tries all points, most of which `starts_in` or the end of the device's name rejects.
+// Each reply tries all points of its device that were known, most of which `starts_in` rejects.
 #[inline(always)]
 pub(crate) fn covers(device: &[u8], read: &Read, point: &Point) -> bool
     ensures { result ≡ cover.covers device.now read.now point.now }
@@ -171,7 +172,7 @@ fn words_in(read: &Read, reply: &Reply, point: &Point) -> Registers
     }
 }
 
-/// What a reply gives to the points that its query covers, of those the first ones that were known.
+/// What a reply gives to those of these points that its query covers.
 fn covered(
     alloc: Global,
     known: &[PointRow],
@@ -193,7 +194,7 @@ fn covered(
     Ok(rows)
 }
 
-/// The same of the points at the places of those of the device, some of which weren't known.
+/// The same of the points at these places.
 fn covered_at(
     alloc: Global,
     known: &[PointRow],
@@ -217,6 +218,18 @@ fn covered_at(
     Ok(rows)
 }
 
+/// Those of rising places that stand before so many points.
+fn before(places: &[u32], count: usize) -> &[u32]
+    ensures { (known : List ARow) (device : List ℕ) → places.now ≡ places_from 0 device known → points_at (take count known) result.now ≡ points_at (take count known) places.now }
+{
+    for end in 0..places.len() {
+        if places[end] as usize >= count {
+            return &places[..end];
+        }
+    }
+    places
+}
+
 /// What a reply gives to the points that its query covers, of those the first `count` ones, that were known.
 fn covered_of(
     alloc: Global,
@@ -233,7 +246,10 @@ fn covered_of(
     ensures { IfOk result (λ rows. rows.items ≡ cover.given_of (take count known.now) device.now read.now (cover.reply_cells reply.now)) }
 {
     match devices.places(known, device) {
-        Some(places) => covered_at(alloc, &known[..count], places, device, read, reply),
+        Some(places) => {
+            let places = before(places, count);
+            covered_at(alloc, &known[..count], places, device, read, reply)
+        }
         None => covered(alloc, &known[..count], device, read, reply),
     }
 }

@@ -16,6 +16,9 @@ use point_list::{ListError, ListFault, Point, Site, is_same_name, read_list, res
 use poll_book::{Outcome, PointRow, Reason, RequestFault, StoreFault};
 use std::alloc::{AllocError, Global};
 
+/// From so many rows on all known points are put in by name, however many they are.
+const MANY: usize = 16;
+
 fn place_named(known: &[PointRow], name: &[u8]) -> Option<usize>
     ensures { result ≡ position (λ point. bytes_eq point.point.name name.now) known.now }
 {
@@ -100,21 +103,36 @@ fn refused(fault: RequestFault, row: u32, column: u8) -> Outcome
     Outcome::RefusedFor(Reason { fault, row, column })
 }
 
+/// Puts all known points in by name before so many rows are looked for, if the list is long enough to pay for it. It is
+/// refused where there is no memory for that.
+fn prepare(names: &mut ByName, known: &[PointRow], rows: usize) -> Result<(), AllocError>
+    requires names_of { AreNamesOf known.now names.old }
+    requires many { length known.now ≤ 10000 }
+    ensures { AreNamesOf known.now names.new }
+{
+    if rows >= MANY {
+        return names.follow(known, known.len());
+    }
+    Ok(())
+}
+
 /// What becomes of a list of these points, and the rows of those that it adds.
 fn judge_points(
     alloc: Global,
     known: &[PointRow],
-    names: &ByName,
+    names: &mut ByName,
     points: &[Point],
 ) -> Result<(Outcome, Vec<PointRow>), StoreFault>
-    requires names_of { AreNamesOf known.now names.now }
+    requires names_of { AreNamesOf known.now names.old }
     requires many { length known.now ≤ 10000 }
     requires few { length points.now ≤ 10000 }
+    ensures names_of { AreNamesOf known.now names.new }
     ensures outcome { IfOk result (λ x. (rows : List ListRow) → ArePointsOf rows points.now → x.0 ≡ loads.outcome (loads.loading_of known.now (Ok rows))) }
     ensures added { IfOk result (λ x. (rows : List ListRow) → ArePointsOf rows points.now → x.1.items ≡ loads.added (length known.now) (loads.loading_of known.now (Ok rows))) }
     ensures few { IfOk result (λ x. length known.now + length x.1.items ≤ 10000) }
     ensures memory { IfErr result (λ e. e ≡ StoreFault.Memory) }
 {
+    prepare(names, known, points.len())?;
     let new = match new_points(alloc, known, names, points)? {
         Ok(new) => new,
         Err(row) => {
@@ -163,12 +181,13 @@ pub(crate) fn judge(
     alloc: Global,
     site: &Site,
     known: &[PointRow],
-    names: &ByName,
+    names: &mut ByName,
     list: &[u8],
 ) -> Result<(Outcome, Vec<PointRow>), StoreFault>
     requires sound { IsSound site.now }
-    requires names_of { AreNamesOf known.now names.now }
+    requires names_of { AreNamesOf known.now names.old }
     requires many { length known.now ≤ 10000 }
+    ensures names_of { AreNamesOf known.now names.new }
     ensures outcome { IfOk result (λ x. x.0 ≡ loads.outcome (loads.loading Second site.now known.now list.now)) }
     ensures added { IfOk result (λ x. x.1.items ≡ loads.added (length known.now) (loads.loading Second site.now known.now list.now)) }
     ensures few { IfOk result (λ x. length known.now + length x.1.items ≤ 10000) }

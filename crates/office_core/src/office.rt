@@ -93,8 +93,19 @@ fn add_points(
     ensures names { AreNamesOf points.new.items by_name.new }
 {
     push_points(points, rows);
-    by_device.follow(points);
-    let _ = by_name.follow(points);
+    by_device.follow(points, rows.len());
+    let _ = by_name.follow(points, rows.len());
+}
+
+/// Puts points in behind an arrival that looked for those of a device.
+fn follow_behind(by_device: &mut ByDevice, points: &[PointRow], arrival: &Arrival)
+    requires few { length points.now ≤ 10000 }
+    requires devices { AreDevicesOf points.now by_device.old }
+    ensures { AreDevicesOf points.now by_device.new }
+{
+    if let Arrival::Recorded(_) = arrival {
+        by_device.follow(points, 0);
+    }
 }
 
 /// The number of the last connection: the keeper's, but never less than one that is open, whatever
@@ -191,16 +202,12 @@ impl<K: Keeper> Office<K> {
         if points.len() > 10000 {
             return Err((OfficeError::Store(StoreFault::Other), keeper));
         }
-        let mut by_device = ByDevice::new(alloc);
-        by_device.follow(&points);
-        let mut by_name = ByName::new(alloc);
-        let _ = by_name.follow(&points);
         Ok(Office {
             keeper,
             site,
             points,
-            by_device,
-            by_name,
+            by_device: ByDevice::new(alloc),
+            by_name: ByName::new(alloc),
             matcher: Matcher::new(alloc),
             alloc,
         })
@@ -251,8 +258,8 @@ impl<K: Keeper> Office<K> {
         ensures same { is_refusal (told_so result) ≡ true → IsAlike self.old self.new }
         ensures clean { K.is_clean (keeper_of self.new) → K.is_clean (keeper_of self.old) }
     {
-        self.by_name.follow(&self.points)?;
-        let (outcome, points) = judge(self.alloc, &self.site, &self.points, &self.by_name, list)?;
+        let names = &mut self.by_name;
+        let (outcome, points) = judge(self.alloc, &self.site, &self.points, names, list)?;
         let request = list_row(self.alloc, caller, key, list, outcome)?;
         self.points.reserve(points.len())?;
         let change = request_change(self.alloc, points, None, request);
@@ -320,6 +327,7 @@ impl<K: Keeper> Office<K> {
         let request = order_row(self.alloc, caller, key, point, value, outcome)?;
         let change = request_change(self.alloc, Vec::new(self.alloc), setting, request);
         write(&mut self.keeper, change)?;
+        let _ = self.by_name.follow(&self.points, 0);
         Ok(RequestAnswer::Kept {
             first: true,
             outcome,
@@ -379,6 +387,7 @@ impl<K: Keeper> Office<K> {
         )?;
         let request = void_row(self.alloc, caller, key, point, slot, outcome)?;
         write(&mut self.keeper, with_request(change, request))?;
+        let _ = self.by_name.follow(&self.points, 0);
         Ok(RequestAnswer::Kept {
             first: true,
             outcome,
@@ -465,7 +474,14 @@ impl<K: Keeper> Office<K> {
         ensures clean { K.is_clean (keeper_of self.new) → K.is_clean (keeper_of self.old) }
     {
         let line = self.matcher.line_of(conn);
-        let asked = judge_send(&mut self.keeper, &self.site, &self.points, line, number)?;
+        let asked = judge_send(
+            &mut self.keeper,
+            &self.site,
+            &self.points,
+            &self.by_device,
+            line,
+            number,
+        )?;
         Ok(self.matcher.next_query(conn, asked)?)
     }
 
@@ -494,6 +510,7 @@ impl<K: Keeper> Office<K> {
             &found.reply,
         )?;
         self.matcher.settle(conn, found.number);
+        follow_behind(&mut self.by_device, &self.points, &arrival);
         Ok(arrival)
     }
 
@@ -576,7 +593,9 @@ impl<K: Keeper> Office<K> {
             return Ok(None);
         };
         let rows = self.keeper.readings(self.alloc, &row, from, to)?;
-        Ok(Some(shown(self.alloc, &mut self.keeper, &row, rows)?))
+        let told = shown(self.alloc, &mut self.keeper, &row, rows)?;
+        let _ = self.by_name.follow(&self.points, 0);
+        Ok(Some(told))
     }
 
     /// Whether some known point of a device that a read covers has no reading in the slot.
@@ -589,15 +608,16 @@ impl<K: Keeper> Office<K> {
         ensures leaves { K.is_clean (keeper_of self.new) → LeavesNoMore self.old self.new }
         ensures clean { K.is_clean (keeper_of self.new) → K.is_clean (keeper_of self.old) }
     {
-        let device = device.as_bytes();
-        Ok(some_lacks(
+        let lacks = some_lacks(
             &mut self.keeper,
             &self.points,
             &self.by_device,
-            device,
+            device.as_bytes(),
             slot,
             read,
-        )?)
+        )?;
+        self.by_device.follow(&self.points, 0);
+        Ok(lacks)
     }
 
     /// How far a counter went by its counted readings; `None` where no counter of this name is
@@ -617,7 +637,9 @@ impl<K: Keeper> Office<K> {
         let Role::Counter = row.point.role else {
             return Ok(None);
         };
-        Ok(Some(self.keeper.total(&row)?))
+        let total = self.keeper.total(&row)?;
+        let _ = self.by_name.follow(&self.points, 0);
+        Ok(Some(total))
     }
 
     /// The first request of a caller under a key, and what became of it; `None` where the key wasn't

@@ -1,17 +1,18 @@
 //! What becomes of an order, and what is sent for it.
-ghost use Rattle.std.specs.Prelude.{◌≡◌, ◌≤◌, ℕ, IfErr, IfOk, MatchResult, Some, None, true, length, ◌==◌};
-ghost use Rattle.std.specs.List.{position};
+ghost use Rattle.std.specs.Prelude.{◌≡◌, ◌≤◌, ℕ, IfErr, IfOk, MatchResult, Some, None, true, length};
 ghost use Rattle.poll_match.specs.Queries.{is_valid};
 ghost use Rattle.poll_book.specs.Tables.{Tables, Within};
 ghost use Rattle.poll_book.specs.Orders.{Settings, last_order, oldest_waiting, point_at};
 ghost use Rattle.poll_book.specs.Fault.{Accounts};
 ghost use Rattle.office_core.specs.Errors.{IsCaused, IsCounted};
+ghost use Rattle.office_core.specs.ByDevice.{AreDevicesOf};
 ghost use Rattle.office_core.specs.ByName.{AreNamesOf};
 ghost use Rattle.office_core.specs.Loads.{known_named};
 ghost use Rattle.office_core.specs.Orders as order;
 ghost use Rattle.office_core.specs.Registers as registers;
 ghost use Rattle.office_core.specs.Sending.{IsAddressed, IsRefused, IsSent};
 
+use crate::by_device::ByDevice;
 use crate::by_name::ByName;
 use crate::error::OfficeError;
 use crate::site::{Target, find_target};
@@ -107,17 +108,12 @@ pub(crate) fn judge_order<K: Keeper>(
     Ok(place_order(alloc, orders, known, value)?)
 }
 
-fn place_numbered(known: &[PointRow], number: u32) -> Option<usize>
-    ensures { result ≡ position (λ row. row.number == number) known.now }
-{
-    known.iter().position(|row| row.number == number)
-}
-
 /// The point of a number.
-fn point_numbered(known: &[PointRow], number: u32) -> Option<PointRow>
+fn point_numbered(known: &[PointRow], devices: &ByDevice, number: u32) -> Option<PointRow>
+    requires { AreDevicesOf known.now devices.now }
     ensures { result ≡ point_at known.now number }
 {
-    match place_numbered(known, number) {
+    match devices.place_numbered(known, number) {
         Some(place) => Some(known[place]),
         None => None,
     }
@@ -128,14 +124,16 @@ fn point_numbered(known: &[PointRow], number: u32) -> Option<PointRow>
 fn judge_setting(
     site: &Site,
     known: &[PointRow],
+    devices: &ByDevice,
     line: u16,
     setting: &Setting,
 ) -> Result<(PointRow, Target), OfficeError>
-    requires { length site.now.devices ≤ 65536 }
+    requires few { length site.now.devices ≤ 65536 }
+    requires devices { AreDevicesOf known.now devices.now }
     ensures { MatchResult result (IsAddressed site.now known.now line setting.now)
         (λ e. (table : Settings) (made number : ℕ) → order.send_fault_of (Some setting.now) line site.now known.now table made number ≡ Some e) }
 {
-    let Some(row) = point_numbered(known, setting.point) else {
+    let Some(row) = point_numbered(known, devices, setting.point) else {
         return Err(OfficeError::WrongLine);
     };
     let Some(to) = find_target(site, row.point.device.as_str()) else {
@@ -172,10 +170,12 @@ pub(crate) fn judge_send<K: Keeper>(
     keeper: &mut K,
     site: &Site,
     known: &[PointRow],
+    devices: &ByDevice,
     line: Option<u16>,
     number: u32,
 ) -> Result<Asked, OfficeError>
-    requires { length site.now.devices ≤ 65536 }
+    requires few { length site.now.devices ≤ 65536 }
+    requires devices { AreDevicesOf known.now devices.now }
     ensures value { K.is_clean keeper.new → (kept : Tables) → K.holds keeper.old kept → known.now ≡ kept.points
         → MatchResult result (λ asked. IsSent line site.now known.now kept.settings number asked)
         (λ e. IsRefused line site.now known.now kept.settings number e) }
@@ -192,7 +192,7 @@ pub(crate) fn judge_send<K: Keeper>(
     let Some(setting) = keeper.setting(number)? else {
         return Err(OfficeError::NoOrder);
     };
-    let (row, to) = judge_setting(site, known, line, &setting)?;
+    let (row, to) = judge_setting(site, known, devices, line, &setting)?;
     if !is_next(keeper, row.point.device.as_str(), number)? {
         return Err(OfficeError::NotNext);
     }

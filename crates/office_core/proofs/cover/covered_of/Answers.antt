@@ -12,5 +12,9 @@ returns-in-Some c =
     let device = c.args.device.now in
     let read = c.args.read.now in
     let words = cover.reply_cells c.args.reply.now in
-    let same = ap (λ (places : List ℕ). cover.given_of (points_at (take c.args.count known) places) device read words) c.in-Some.ensures ∙ given_there c.args.count known device read words in
+    let front = c.before-places.ensures known device c.in-Some.ensures in
+    let same =
+    ap (λ (rows : List PointRow). cover.given_of rows device read words)
+    (front ∙ ap (points_at (take c.args.count known)) c.in-Some.ensures)
+    ∙ given_there c.args.count known device read words in
     subst (λ (l : List (PointRow × List ℕ)). IfOk c.covered_at.result (λ rows. rows.items ≡ l)) same c.covered_at.ensures

@@ -33,8 +33,8 @@ returns-clause-goes g c clean =
     let list = c.args.list.now in
     let more = added (length known) (loading Second office.site known list) in
     let told = outcome (loading Second office.site known list) in
-    let is_told : c.in_ok-outcome.outcome ≡ told = c.in_ok-outcome.ensures.outcome ∙ ap (λ (l : List PointRow). outcome (loading Second office.site l list)) c.deref-2.ensures.value in
-    let is_more : c.in_ok-outcome.points.items ≡ more = c.in_ok-outcome.ensures.added ∙ ap (λ (l : List PointRow). added (length l) (loading Second office.site l list)) c.deref-2.ensures.value in
+    let is_told : c.in_ok-outcome.outcome ≡ told = c.in_ok-outcome.ensures.outcome ∙ ap (λ (l : List PointRow). outcome (loading Second office.site l list)) c.deref.ensures.value in
+    let is_more : c.in_ok-outcome.points.items ≡ more = c.in_ok-outcome.ensures.added ∙ ap (λ (l : List PointRow). added (length l) (loading Second office.site l list)) c.deref.ensures.value in
     let request : RequestRow = record { caller = c.args.caller.now; key = c.args.key.now; body = body.List list; outcome = told } in
     let is_request : c.in_ok-request.request ≡ request = c.in_ok-request.ensures ∙ (λ i. record request { outcome = is_told i }) in
     let change : c.request_change-change.result ≡ asked_change more None request = c.request_change-change.ensures ∙ (λ i. asked_change (is_more i) None (is_request i)) in
@@ -55,7 +55,7 @@ invariant_of-self-2 g c =
     let rows = c.in_ok-outcome.points.items in
     let more : c.add_points.new.points.items ≡ known ++ rows =
     c.add_points.ensures.points ∙ (λ i. c.reserve.ensures.items i ++ (c.as_slice.ensures ∙ ap (λ (x : Change). x.points) c.request_change-change.ensures) i) in
-    record { few = omega (arith, ap length more, length-append known rows, c.in_ok-outcome.ensures.few, ap length c.deref-2.ensures.value); devices = c.add_points.ensures.devices; names = c.add_points.ensures.names; sound = c.args.self.now.sound }
+    record { few = omega (arith, ap length more, length-append known rows, c.in_ok-outcome.ensures.few, ap length c.deref.ensures.value); devices = c.add_points.ensures.devices; names = c.add_points.ensures.names; sound = c.args.self.now.sound }
 
 pub returns-clause-leaves : goal.returns-clause-leaves
 returns-clause-leaves g c clean =
@@ -67,8 +67,8 @@ returns-clause-leaves g c clean =
     let list = c.args.list.now in
     let more = added (length known) (loading Second office.site known list) in
     let told = outcome (loading Second office.site known list) in
-    let is_told : c.in_ok-outcome.outcome ≡ told = c.in_ok-outcome.ensures.outcome ∙ ap (λ (l : List PointRow). outcome (loading Second office.site l list)) c.deref-2.ensures.value in
-    let is_more : c.in_ok-outcome.points.items ≡ more = c.in_ok-outcome.ensures.added ∙ ap (λ (l : List PointRow). added (length l) (loading Second office.site l list)) c.deref-2.ensures.value in
+    let is_told : c.in_ok-outcome.outcome ≡ told = c.in_ok-outcome.ensures.outcome ∙ ap (λ (l : List PointRow). outcome (loading Second office.site l list)) c.deref.ensures.value in
+    let is_more : c.in_ok-outcome.points.items ≡ more = c.in_ok-outcome.ensures.added ∙ ap (λ (l : List PointRow). added (length l) (loading Second office.site l list)) c.deref.ensures.value in
     let request : RequestRow = record { caller = c.args.caller.now; key = c.args.key.now; body = body.List list; outcome = told } in
     let is_request : c.in_ok-request.request ≡ request = c.in_ok-request.ensures ∙ (λ i. record request { outcome = is_told i }) in
     let change : c.request_change-change.result ≡ asked_change more None request = c.request_change-change.ensures ∙ (λ i. asked_change (is_more i) None (is_request i)) in
@@ -92,8 +92,8 @@ returns-in_err-commit-clause-leaves g c clean =
     let list = c.args.list.now in
     let more = added (length known) (loading Second office.site known list) in
     let told = outcome (loading Second office.site known list) in
-    let is_told : c.in_ok-outcome.outcome ≡ told = c.in_ok-outcome.ensures.outcome ∙ ap (λ (l : List PointRow). outcome (loading Second office.site l list)) c.deref-2.ensures.value in
-    let is_more : c.in_ok-outcome.points.items ≡ more = c.in_ok-outcome.ensures.added ∙ ap (λ (l : List PointRow). added (length l) (loading Second office.site l list)) c.deref-2.ensures.value in
+    let is_told : c.in_ok-outcome.outcome ≡ told = c.in_ok-outcome.ensures.outcome ∙ ap (λ (l : List PointRow). outcome (loading Second office.site l list)) c.deref.ensures.value in
+    let is_more : c.in_ok-outcome.points.items ≡ more = c.in_ok-outcome.ensures.added ∙ ap (λ (l : List PointRow). added (length l) (loading Second office.site l list)) c.deref.ensures.value in
     let request : RequestRow = record { caller = c.args.caller.now; key = c.args.key.now; body = body.List list; outcome = told } in
     let is_request : c.in_ok-request.request ≡ request = c.in_ok-request.ensures ∙ (λ i. record request { outcome = is_told i }) in
     let change : c.request_change-change.result ≡ asked_change more None request = c.request_change-change.ensures ∙ (λ i. asked_change (is_more i) None (is_request i)) in
