@@ -1,7 +1,7 @@
 //! Jobs that a user waits for, over offices in memory, on inputs that follow from a seed: `replay SEED` plays the script
 //! of a plant, `points SEED` one that makes 10,000 points known line by line, `lists SEED` loads and plans lists of
-//! 10,000 points, `orders SEED` has orders carried out. Each prints a digest of all that was answered. `small SEED` does
-//! a little of each.
+//! 10,000 points, `orders SEED` has orders carried out, `settings SEED` on a site of 10,000 points. Each prints a digest
+//! of all that was answered. `small SEED` does a little of each.
 #![tactic(auto)]
 
 use crate::work::Size;
@@ -20,6 +20,7 @@ fn done(rt: &HostRuntime, name: &str, seed: u32) -> Option<io::Result<()>> {
         "points" => scripts::points(rt, seed, Size::Whole),
         "lists" => lists::loaded(rt, seed, Size::Whole),
         "orders" => orders::carried_out(rt, seed, Size::Whole),
+        "settings" => orders::on_full_site(rt, seed, Size::Whole),
         "small" => each(rt, seed),
         _ => return None,
     })
@@ -30,7 +31,8 @@ fn each(rt: &HostRuntime, seed: u32) -> io::Result<()> {
     scripts::replayed(rt, seed, Size::Small)?;
     scripts::points(rt, seed, Size::Small)?;
     lists::loaded(rt, seed, Size::Small)?;
-    orders::carried_out(rt, seed, Size::Small)
+    orders::carried_out(rt, seed, Size::Small)?;
+    orders::on_full_site(rt, seed, Size::Small)
 }
 
 /// What the words of the command line ask for; `None` where they ask for nothing.
@@ -51,6 +53,6 @@ fn asked(rt: &HostRuntime) -> Result<Option<io::Result<()>>> {
 fn main(rt: HostRuntime) -> Result<()> {
     match asked(&rt)? {
         Some(done) => Ok(done?),
-        None => bail!("usage: workloads replay|points|lists|orders|small SEED"),
+        None => bail!("usage: workloads replay|points|lists|orders|settings|small SEED"),
     }
 }

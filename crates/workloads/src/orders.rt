@@ -1,4 +1,5 @@
-//! Orders over 243 devices, a few of them waiting at a time: each is ordered, sent and settled by the device's echo.
+//! Orders over 243 devices, a few of them waiting at a time: each is ordered, sent and settled by the device's echo. The
+//! devices have their settings alone, or some forty points more each.
 use crate::work::{Size, granted, print_digest};
 use mb_mbap::Frame;
 use office_core::{Arrival, Office};
@@ -12,10 +13,11 @@ use workload_plant::{Dice, Digest, Plant};
 /// So many orders wait at a time.
 const WAITING: u32 = 8;
 
-/// The settings of all devices.
+/// The points of all devices in turn, the setting of each behind its others.
 fn list(alloc: Global, plant: &Plant) -> Result<String, AllocError> {
     let mut text = String::from_str(alloc, HEADER)?;
     for device in 0..plant.devices {
+        plant.push_points(alloc, &mut text, "", device)?;
         plant.push_setting(&mut text, "", device)?;
     }
     Ok(text)
@@ -110,7 +112,7 @@ fn carry_out(
     Some(())
 }
 
-/// An office that knows the settings.
+/// An office that knows the points.
 fn office_of(alloc: Global, plant: &Plant) -> Option<Office<MemKeeper>> {
     let site = plant.site(alloc).ok()?;
     let mut office = begun(alloc, MemKeeper::new(alloc), site.as_str())
@@ -120,21 +122,28 @@ fn office_of(alloc: Global, plant: &Plant) -> Option<Office<MemKeeper>> {
     Some(office)
 }
 
-pub fn carried_out(rt: &HostRuntime, seed: u32, size: Size) -> io::Result<()> {
+/// So many orders over devices with so many points beside their settings.
+fn ordered(rt: &HostRuntime, name: &str, seed: u32, points: u32, count: u32) -> io::Result<()> {
     let plant = Plant {
         lines: 5,
         devices: 243,
-        points: 0,
+        points,
         seed,
     };
     let mut digest = Digest::new();
     let mut office = granted(office_of(rt.alloc(), &plant))?;
-    granted(carry_out(
-        rt.alloc(),
-        &mut digest,
-        &mut office,
-        &plant,
-        size.of(300_000, 500),
-    ))?;
-    print_digest(rt, "orders", &digest)
+    // Of settings alone nothing more is told than what is sent, and that all are settled.
+    if points > 0 {
+        digest.add_number(office.points().len() as u64);
+    }
+    granted(carry_out(rt.alloc(), &mut digest, &mut office, &plant, count))?;
+    print_digest(rt, name, &digest)
+}
+
+pub fn carried_out(rt: &HostRuntime, seed: u32, size: Size) -> io::Result<()> {
+    ordered(rt, "orders", seed, 0, size.of(300_000, 500))
+}
+
+pub fn on_full_site(rt: &HostRuntime, seed: u32, size: Size) -> io::Result<()> {
+    ordered(rt, "settings", seed, size.of(40, 4), size.of(120_000, 500))
 }
