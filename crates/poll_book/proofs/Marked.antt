@@ -1,17 +1,24 @@
 -- What marks save: orders that don't wait on a device are passed.
-use Rattle.std.proofs.Common.{◌≡◌, ℕ, zero, suc, ◌+◌, ◌<◌, ◌≤◌, true, false, cond, List, [], ◌∷◌, ◌++◌, length, get_or, set, take, drop, Some, refl, sym, ap, subst, ◌∙◌, arith, append-nil, length-append}
-use Rattle.std.specs.Prelude.{All, ◌&&◌, option_map}
+use Rattle.std.proofs.Common.{◌≡◌, ℕ, zero, suc, ◌+◌, ◌<◌, ◌≤◌, Bool, true, false, cond, List, [], ◌∷◌, ◌++◌, length, get_or, set, take, drop, Option, Some, None, Result, Ok, Err, refl, sym, ap, subst, ◌∙◌, arith, append-nil, length-append}
+use Rattle.std.specs.Prelude.{All, ◌&&◌, OnErr, OnOk, option_map}
+use Rattle.std.specs.BTreeMap.{Updates, get, is_at}
+use Rattle.std.specs.Cmp.Lexicographic.{slice_cmp}
 use Rattle.std.specs.List.{slice_get}
+use Rattle.std.specs.Map.{lookup}
+use Rattle.std.specs.Option.{unwrap_or}
+use Rattle.std.specs.Ordering.{nat_cmp}
+use Rattle.std.specs.Str.{bytes_eq}
 use Rattle.std.proofs.Math.Seq.{split_at}
 use Rattle.std.proofs.Math.ListN.{length-set}
 use Rattle.std.proofs.lemmas.List.{take-append-le, take_all}
 use Rattle.std.proofs.lemmas.List.Elements.{All-head, All-tail, All-cons, All-more}
+use Rattle.std.proofs.lemmas.Map.Text.{is_eq-slice_cmp}
 use Rattle.std.proofs.lemmas.Option.{slice_get-get_or, slice_get_past}
+use Rattle.std.proofs.lemmas.Slice.Eq.{bytes_eq-Decides}
 use Rattle.poll_book.specs.declared.rows.PointRow.{PointRow}
 use Rattle.poll_book.specs.declared.rows.SettingRow.{SettingRow}
-use Rattle.poll_book.specs.declared.marks.Mark.{Mark}
 use Rattle.poll_book.specs.Orders.{as_setting, is_of, is_waiting, oldest_waiting, point_at, waits_on}
-use Rattle.poll_book.specs.Marks.{settings_of, IsPast, AreRight}
+use Rattle.poll_book.specs.Marks.{settings_of, AreRight, IsPast, Marks, past_in}
 
 module _ (points : List PointRow) (device : List ℕ) where
   -- orders that don't wait are passed
@@ -54,24 +61,58 @@ take-set_all P (suc n) [] at y here h = h
 take-set_all P (suc n) (x ∷ xs) zero y here h = All-cons P y (take n xs) here (All-tail P x (take n xs) h)
 take-set_all P (suc n) (x ∷ xs) (suc at) y here h = All-cons P x (take n (set xs at y)) (All-head P x (take n xs) h) (take-set_all P n xs at y here (All-tail P x (take n xs) h))
 
--- an order that doesn't wait, written over another, leaves the marks right
-pub right_over : (points : List PointRow) (orders : List SettingRow) (marks : List Mark) (at : ℕ) (row : SettingRow) → is_waiting row.state ≡ false → AreRight points orders marks
-    → AreRight points (set orders at row) marks
-right_over points orders marks at row settled right k d lt =
-    let mark = get_or marks k d in
-    let past = right k d lt in
-    record {
-      in_range = omega (arith, past.in_range, length-set orders at row);
-      none = take-set_all (λ (x : SettingRow). waits_on points mark.device (as_setting x) ≡ false) mark.past orders at row
-          (ap (λ b. b && is_of mark.device (point_at points row.point)) settled) past.none;
-    }
+-- the label of a text is that text
+pub label_is : (b : Bool) (label text : List ℕ) → Some label ≡ cond b (Some text) None → label ≡ text
+label_is true label text e = cc
+label_is false label text e = absurd (cc)
 
--- and so does one that comes last
-pub right_last : (points : List PointRow) (orders : List SettingRow) (marks : List Mark) (row : SettingRow) → AreRight points orders marks → AreRight points (orders ++ row ∷ []) marks
-right_last points orders marks row right k d lt =
-    let mark = get_or marks k d in
-    let past = right k d lt in
-    record {
-      in_range = omega (arith, past.in_range, length-append orders (row ∷ []));
-      none = subst (All (λ (x : SettingRow). waits_on points mark.device (as_setting x) ≡ false)) (sym (take-append-le mark.past orders (row ∷ []) past.in_range)) past.none;
-    }
+module _ (points : List PointRow) (orders : List SettingRow) where
+  -- the same marks say the same
+  right_same : (old new : Marks) → new.entries ≡ old.entries → AreRight points orders old → AreRight points orders new
+  right_same old new same right device =
+      subst (λ (es : List (List ℕ × ℕ)). IsPast points orders device (unwrap_or (lookup (is_at (slice_cmp nat_cmp device)) es) 0)) (sym same) (right device)
+
+  -- no mark has passed an order
+  pub right_empty : (marks : Marks) → marks.entries ≡ [] → AreRight points orders marks
+  right_empty marks empty device =
+      subst (λ (es : List (List ℕ × ℕ)). IsPast points orders device (unwrap_or (lookup (is_at (slice_cmp nat_cmp device)) es) 0)) (sym empty) (past_none points device orders)
+
+  -- a mark that is set is right where so many orders are passed, and the others stay
+  right_put : (old new : Marks) (device : List ℕ) (past : ℕ)
+      → ((other : List ℕ) → get (slice_cmp nat_cmp) new other ≡ cond (is_at (slice_cmp nat_cmp device) other) (Some past) (get (slice_cmp nat_cmp) old other))
+      → AreRight points orders old → IsPast points orders device past → AreRight points orders new
+  right_put old new device past updates right here other =
+      subst (λ (o : Option ℕ). IsPast points orders other (unwrap_or o 0))
+      (sym (updates other ∙ ap (λ (b : Bool). cond b (Some past) (get (slice_cmp nat_cmp) old other)) (is_eq-slice_cmp device other)))
+      (by (bytes_eq device other) refl)
+    where
+      by : (b : Bool) → bytes_eq device other ≡ b → IsPast points orders other (unwrap_or (cond b (Some past) (get (slice_cmp nat_cmp) old other)) 0)
+      by true e = subst (λ (name : List ℕ). IsPast points orders name past) ((bytes_eq-Decides device other).0 e) here
+      by false e = right other
+
+  -- so it is where memory may be refused for it, and the marks are what they were
+  pub right_set : {X E : Type 0} (result : Result X E) (old new : Marks) (device : List ℕ) (past : ℕ)
+      → OnOk result (Updates (slice_cmp nat_cmp) old new device (Some past))
+      → OnErr result (new.entries ≡ old.entries)
+      → AreRight points orders old → IsPast points orders device past → AreRight points orders new
+  right_set (Ok x) old new device past updates same right here = right_put old new device past updates.0 right here
+  right_set (Err e) old new device past updates same right here = right_same old new same right
+
+  -- an order that doesn't wait, written over another, leaves the marks right
+  pub right_over : (marks : Marks) (at : ℕ) (row : SettingRow) → is_waiting row.state ≡ false → AreRight points orders marks → AreRight points (set orders at row) marks
+  right_over marks at row settled right device =
+      let past = right device in
+      record {
+        in_range = omega (arith, past.in_range, length-set orders at row);
+        none = take-set_all (λ (x : SettingRow). waits_on points device (as_setting x) ≡ false) (past_in marks device) orders at row
+            (ap (λ b. b && is_of device (point_at points row.point)) settled) past.none;
+      }
+
+  -- and so does one that comes last
+  pub right_last : (marks : Marks) (row : SettingRow) → AreRight points orders marks → AreRight points (orders ++ row ∷ []) marks
+  right_last marks row right device =
+      let past = right device in
+      record {
+        in_range = omega (arith, past.in_range, length-append orders (row ∷ []));
+        none = subst (All (λ (x : SettingRow). waits_on points device (as_setting x) ≡ false)) (sym (take-append-le (past_in marks device) orders (row ∷ []) past.in_range)) past.none;
+      }

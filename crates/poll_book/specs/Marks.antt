@@ -1,9 +1,12 @@
 -- How the keeper in memory finds an order, a point by its number, and the oldest order that waits on a device.
 use Rattle.std.specs.Prelude.{◌≡◌, ℕ, ◌+◌, ◌<◌, ◌≤◌, false, List, All, map, take, length, get_or}
+use Rattle.std.specs.BTreeMap.{BTreeMap, get}
+use Rattle.std.specs.Cmp.Lexicographic.{slice_cmp}
+use Rattle.std.specs.Option.{unwrap_or}
+use Rattle.std.specs.Ordering.{nat_cmp}
 use Rattle.poll_book.specs.declared.rows.PointRow.{PointRow}
 use Rattle.poll_book.specs.declared.rows.SettingRow.{SettingRow}
 use Rattle.poll_book.specs.declared.rows.TotalRow.{TotalRow}
-use Rattle.poll_book.specs.declared.marks.Mark.{Mark}
 use Rattle.poll_book.specs.declared.history.History.{History}
 use Rattle.poll_book.specs.Histories.{AreOrdered, IsRising}
 use Rattle.poll_book.specs.Orders.{Settings, as_setting, waits_on}
@@ -22,9 +25,17 @@ pub record IsPast (points : List PointRow) (orders : List SettingRow) (device : 
   pub in_range : past ≤ length orders
   pub none : All (λ row. waits_on points device (as_setting row) ≡ false) (take past orders)
 
--- each mark says so of its device
-abbrev pub AreRight : List PointRow → List SettingRow → List Mark → Type 0
-AreRight points orders marks = All (λ mark. IsPast points orders mark.device mark.past) marks
+-- how many first orders were passed, by the names of devices
+abbrev pub Marks : Type 0
+Marks = BTreeMap (List ℕ) ℕ
+
+-- how many first orders the device's mark has passed, 0 where it has none
+abbrev pub past_in : Marks → List ℕ → ℕ
+past_in marks device = unwrap_or (get (slice_cmp nat_cmp) marks device) 0
+
+-- the marks say so of each device
+abbrev pub AreRight : List PointRow → List SettingRow → Marks → Type 0
+AreRight points orders marks = (device : List ℕ) → IsPast points orders device (past_in marks device)
 
 -- so many first points are numbered on from 1
 pub record AreCounted (points : List PointRow) (count : ℕ) : Type 0 where
@@ -32,7 +43,7 @@ pub record AreCounted (points : List PointRow) (count : ℕ) : Type 0 where
   pub numbered : (i : ℕ) (d : PointRow) → i < count → (get_or points i d).number ≡ i + 1
 
 -- what a keeper in memory keeps true of its lists
-pub record AreKept (points : List PointRow) (count : ℕ) (histories : List History) (totals : List TotalRow) (orders : List SettingRow) (marks : List Mark) : Type 0 where
+pub record AreKept (points : List PointRow) (count : ℕ) (histories : List History) (totals : List TotalRow) (orders : List SettingRow) (marks : Marks) : Type 0 where
   pub counted : AreCounted points count
   pub ordered : AreOrdered histories
   pub by_point : IsRising total_point totals

@@ -1,37 +1,25 @@
-ghost use Rattle.std.specs.Prelude.{◌≡◌, ◌<◌, ◌++◌, List, IfSome, length, option_map, slice_get, slice_index_or};
+ghost use Rattle.std.specs.Prelude.{◌≡◌, ◌++◌, List, option_map, slice_get};
 ghost use Rattle.poll_book.specs.Orders.{as_setting, oldest_waiting};
 ghost use Rattle.poll_book.specs.Marks.{AreCounted, AreRight, IsPast, settings_of};
-ghost use Rattle.poll_book.specs.declared.marks.Mark.{Mark as Marked};
 ghost use Rattle.poll_book.specs.declared.rows.PointRow.{PointRow as Known};
 ghost use Rattle.poll_book.specs.declared.rows.SettingRow.{SettingRow as Order};
 
 use crate::points::waits_on;
 use crate::rows::{PointRow, SettingRow};
-use point_list::{Label, is_same_name};
+use point_list::Label;
+use std::collections::BTreeMap;
 
-/// How far the orders were searched for a device: none of so many first ones waits on it. So each
-/// order is passed once for each device.
-#[derive(Clone, Copy)]
-pub(crate) struct Mark {
-    pub device: Label,
-    pub past: usize,
-}
+/// How far the orders were searched for each device, by its name: none of so many first ones waits on
+/// it. So each order is passed once for each device.
+pub(crate) type Marks = BTreeMap<Label, usize>;
 
-/// The place of the device's mark.
-fn mark_place(marks: &[Mark], device: &str) -> Option<usize>
-    ensures place { IfSome result (λ place. place < length marks.now) }
-    ensures found { IfSome result (λ place. (d : Marked) → (slice_index_or marks.now place d).device ≡ device.now) }
-{
-    marks.iter().position(|mark| is_same_name(mark.device.as_bytes(), device.as_bytes()))
-}
-
-/// How many first orders the device's mark has passed.
-pub(crate) fn past_of(marks: &[Mark], device: &str) -> usize
+/// How many first orders the device's mark has passed, 0 where it has none.
+pub(crate) fn past_of(marks: &Marks, device: &str) -> usize
     ensures { (points : List Known) → (orders : List Order) → AreRight points orders marks.now
         → IsPast points orders device.now result }
 {
-    match mark_place(marks, device) {
-        Some(place) => marks[place].past,
+    match Label::new(device.as_bytes()) {
+        Some(device) => marks.get(&device).copied().unwrap_or(0),
         None => 0,
     }
 }
@@ -58,25 +46,21 @@ pub(crate) fn next_waiting(
     orders.len()
 }
 
-/// Sets the device's mark. A new mark is left out where memory is refused, or where the device's name
-/// is no label: a mark only saves work.
-pub(crate) fn set_mark(marks: &mut Vec<Mark>, device: &str, past: usize)
-    ensures { (points : List Known) → (orders : List Order) → AreRight points orders marks.old.items
-        → IsPast points orders device.now past → AreRight points orders marks.new.items }
+/// Sets the device's mark, over the one that it has. A new mark is left out where memory is refused, or
+/// where the device's name is no label: a mark only saves work.
+pub(crate) fn set_mark(marks: &mut Marks, device: &str, past: usize)
+    ensures { (points : List Known) → (orders : List Order) → AreRight points orders marks.old
+        → IsPast points orders device.now past → AreRight points orders marks.new }
 {
-    if let Some(place) = mark_place(marks, device) {
-        marks[place].past = past;
-        return;
-    }
     if let Some(device) = Label::new(device.as_bytes()) {
-        let _ = marks.push(Mark { device, past });
+        let _ = marks.insert(device, past);
     }
 }
 
 /// Forgets the marks where points come: an order may wait on a device that had none.
-pub(crate) fn forget_for(marks: &mut Vec<Mark>, added: &[PointRow])
-    ensures { (points : List Known) → (orders : List Order) → AreRight points orders marks.old.items
-        → AreRight (points ++ added.now) orders marks.new.items }
+pub(crate) fn forget_for(marks: &mut Marks, added: &[PointRow])
+    ensures { (points : List Known) → (orders : List Order) → AreRight points orders marks.old
+        → AreRight (points ++ added.now) orders marks.new }
 {
     if !added.is_empty() {
         marks.clear();

@@ -14,7 +14,7 @@ use crate::asked::{copy_of_request, put_request, request_at};
 use crate::caller::{Caller, Key};
 use crate::histories::{make_histories, put_all, slots_in, staged};
 use crate::history::{History, SlotRow, slot_place};
-use crate::marks::{Mark, forget_for, next_waiting, past_of, set_mark};
+use crate::marks::{Marks, forget_for, next_waiting, past_of, set_mark};
 use crate::nearest::{first_counted, last_counted, slots_after, slots_before};
 use crate::orders::{copy_of_setting, last_number, order_at, put_order, setting_at};
 use crate::points::add_points;
@@ -28,7 +28,7 @@ use std::marker::Model;
 
 /// The readings of each point stand by slot in a vector of their own: a look-up is a binary search,
 /// and a reading after all others of its point is appended. Orders stand by number in a vector,
-/// requests in a map.
+/// requests and marks in a map each.
 #[derive(Drop)]
 pub(crate) struct MemTables {
     points: Vec<PointRow>,
@@ -38,7 +38,7 @@ pub(crate) struct MemTables {
     voids: Voids,
     totals: Vec<TotalRow>,
     orders: Vec<SettingRow>,
-    marks: Vec<Mark>,
+    marks: Marks,
     requests: BTreeMap<(Caller, Key), Request>,
     connections: u32,
     alloc: Global,
@@ -63,7 +63,7 @@ impl Model for MemTables {
       connections = k.connections;
     } };
 
-    ghost invariant = { λ k. AreKept k.points.items k.counted k.histories.items k.totals.items k.orders.items k.marks.items };
+    ghost invariant = { λ k. AreKept k.points.items k.counted k.histories.items k.totals.items k.orders.items k.marks };
 }
 
 impl MemTables {
@@ -78,7 +78,7 @@ impl MemTables {
             voids: BTreeMap::new(alloc),
             totals: Vec::new(alloc),
             orders: Vec::new(alloc),
-            marks: Vec::new(alloc),
+            marks: BTreeMap::new(alloc),
             requests: BTreeMap::new(alloc),
             connections: 0,
             alloc,

@@ -5,7 +5,7 @@ ghost use Rattle.poll_book.specs.Histories.{IsAt, IsGap, IsRising};
 ghost use Rattle.poll_book.specs.Marks.{AreRight, number_of, settings_of};
 ghost use Rattle.poll_book.specs.declared.rows.PointRow.{PointRow as Known};
 
-use crate::marks::Mark;
+use crate::marks::Marks;
 use crate::points::is_waiting;
 use crate::rows::{Setting, SettingRow};
 use std::alloc::AllocError;
@@ -119,13 +119,13 @@ pub(crate) fn last_number(orders: &[SettingRow]) -> u32
 
 /// Puts an order under its number. There is room for one more. The marks stay where it comes last, or
 /// settles another; else an order may wait that they have passed, and they are forgotten.
-fn put_row(orders: &mut Vec<SettingRow>, marks: &mut Vec<Mark>, row: SettingRow)
+fn put_row(orders: &mut Vec<SettingRow>, marks: &mut Marks, row: SettingRow)
     requires rising { IsRising number_of orders.old.items }
     requires room { vec_len orders.old < vec_capacity orders.old }
     ensures rising { IsRising number_of orders.new.items }
     ensures put { settings_of orders.new.items ≡ with_order (Some row) (settings_of orders.old.items) }
-    ensures right { (points : List Known) → AreRight points orders.old.items marks.old.items
-        → AreRight points orders.new.items marks.new.items }
+    ensures right { (points : List Known) → AreRight points orders.old.items marks.old
+        → AreRight points orders.new.items marks.new }
 {
     match order_place(orders, row.number) {
         Ok(place) => {
@@ -146,15 +146,15 @@ fn put_row(orders: &mut Vec<SettingRow>, marks: &mut Vec<Mark>, row: SettingRow)
 /// Puts the order of a change, if it has one, under its number. There is room for one more.
 pub(crate) fn put_order(
     orders: &mut Vec<SettingRow>,
-    marks: &mut Vec<Mark>,
+    marks: &mut Marks,
     setting: Option<SettingRow>,
 )
     requires rising { IsRising number_of orders.old.items }
     requires room { vec_len orders.old < vec_capacity orders.old }
     ensures rising { IsRising number_of orders.new.items }
     ensures put { settings_of orders.new.items ≡ with_order setting (settings_of orders.old.items) }
-    ensures right { (points : List Known) → AreRight points orders.old.items marks.old.items
-        → AreRight points orders.new.items marks.new.items }
+    ensures right { (points : List Known) → AreRight points orders.old.items marks.old
+        → AreRight points orders.new.items marks.new }
 {
     if let Some(row) = setting {
         put_row(orders, marks, row);

@@ -1,11 +1,10 @@
-use Rattle.std.proofs.Common.{◌≡◌, List, Vec, Global, set, refl, ap, sym, subst, ◌∙◌, arith}
+use Rattle.std.proofs.Common.{◌≡◌, set, refl, ap, sym, subst, ◌∙◌, arith}
 use Rattle.std.specs.List.{insert}
-use Rattle.poll_book.specs.declared.marks.Mark.{Mark}
 use Rattle.poll_book.specs.Marks.{AreRight, number_of, settings_of}
 use Rattle.poll_book.specs.Histories.{IsAt, IsGap}
 use Rattle.poll_book.proofs.Places.{rising_insert}
 use Rattle.poll_book.proofs.Numbers.{put_over, put_in}
-use Rattle.poll_book.proofs.Marked.{right_over}
+use Rattle.poll_book.proofs.Marked.{right_empty, right_over}
 use Rattle.poll_book.proofs.orders.put_row.Goals as goal
 use Rattle.poll_book.proofs.orders.put_row.Goals.{then-is_waiting, else-is_waiting}
 
@@ -18,11 +17,10 @@ returns-after-is_waiting-clause-right c = λ points right.
     let orders = set c.args.orders.now.items c.in-Ok.place c.args.row in
     elim c.if-is_waiting.branch [
       | then-is_waiting w ↦
-          subst (λ (marks : Vec Mark Global). AreRight points orders marks.items) (sym w.marks-is)
-          (subst (λ (marks : List Mark). AreRight points orders marks) (sym w.clear.ensures.items) (λ k d lt. absurd (omega arith)))
+          subst (AreRight points orders) (sym w.marks-is) (right_empty points orders w.clear.new.self w.clear.ensures.empty)
       | else-is_waiting w ↦
-          subst (λ (marks : Vec Mark Global). AreRight points orders marks.items) (sym w.marks-is)
-          (right_over points c.args.orders.now.items c.args.marks.now.items c.in-Ok.place c.args.row (sym c.is_waiting.ensures ∙ w.if-is_waiting.false) right)
+          subst (AreRight points orders) (sym w.marks-is)
+          (right_over points c.args.orders.now.items c.args.marks.now c.in-Ok.place c.args.row (sym c.is_waiting.ensures ∙ w.if-is_waiting.false) right)
     ]
 
 gap : (c : goal.Joined-insert) → IsGap number_of c.args.orders.now.items c.args.row.number c.in-Err.place

@@ -5,6 +5,15 @@ use Rattle.poll_book.specs.Histories.{HaveHistories}
 use Rattle.poll_book.specs.Marks.{AreRight}
 use Rattle.poll_book.proofs.mem_tables.MemTables.write.Goals as goal
 
+pub invariant_of-self-in_err-reserve : goal.invariant_of-self-in_err-reserve
+invariant_of-self-in_err-reserve c = record {
+  counted = rw c.reserve.ensures.items c.self.invariant.counted;
+  ordered = c.staged.ensures.ordered;
+  by_point = c.self.invariant.by_point;
+  rising = c.self.invariant.rising;
+  right = rw c.reserve.ensures.items c.self.invariant.right;
+}
+
 pub invariant_of-self-in_err-reserve-3 : goal.invariant_of-self-in_err-reserve-3
 invariant_of-self-in_err-reserve-3 c = record {
   counted = rw c.reserve.ensures.items c.self.invariant.counted;
@@ -57,6 +66,6 @@ invariant_of-self-2 c = record {
   rising = c.put_order.ensures.rising;
   right =
       c.put_order.ensures.right c.add_points-self-inside.new.points.items
-      (subst (λ (points : List PointRow). AreRight points c.reserve-3.new.self.items c.forget_for.new.marks.items) (sym c.add_points-self-inside.ensures.added)
+      (subst (λ (points : List PointRow). AreRight points c.reserve-3.new.self.items c.forget_for.new.marks) (sym c.add_points-self-inside.ensures.added)
       (c.forget_for.ensures c.reserve.new.self.items c.reserve-3.new.self.items (rw (c.reserve.ensures.items, c.reserve-3.ensures.items) c.self.invariant.right)));
 }
