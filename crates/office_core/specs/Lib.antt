@@ -28,3 +28,4 @@ pub mod ByDevice
 pub mod ByName
 pub mod Lacking
 pub mod Looking
+pub mod Arriving

@@ -30,6 +30,7 @@ use crate::showing::{ShownReading, shown};
 use crate::site::{Target, find_target, has_devices, line_place};
 use crate::voids::judge_void;
 use mb_mbap::Frame;
+use mb_pdu::Reply;
 use point_list::{Role, Site};
 use poll_book::{Caller, Keeper, Key, OrderState, PointRow, Request, SettingRow, StoreFault};
 use poll_match::{Asked, Conn, Matcher};
@@ -174,7 +175,11 @@ impl<K: Keeper> Office<K> {
     ghost use Rattle.office_core.specs.Lacking.{lacks};
     ghost use Rattle.poll_book.specs.Orders.{as_setting, last_order, oldest_waiting};
     ghost use Rattle.office_core.specs.Errors.{IsCaused, IsOfStore, is_of_store};
+    ghost use Rattle.poll_match.specs.Window.{KeepsQuery, held};
+    ghost use Rattle.mb_mbap.specs.declared.frame.Frame.{Frame as AFrame};
+    ghost use Rattle.office_core.specs.Arriving.{IsAnswered};
     ghost use Rattle.office_core.specs.Looking.{covered_of};
+    ghost use Rattle.office_core.specs.Queries.{Answers};
     ghost use Rattle.office_core.specs.Offices.{AnswerCaused, CauseFrom, CountedFrom, IsAlike, LeavesNoMore, LeavesRun, LeavesSo, LeavesUnused, Shows, Stands, StandsUnused, arrived, asked_so, keeper_of, opened, order_state_of, points_of, readings_of, site_of, told_so, total_of};
 
     /// An office over what a keeper holds, with no connection open. A keeper that can't be read is
@@ -499,17 +504,59 @@ impl<K: Keeper> Office<K> {
         ensures same { OnErr result (IsAlike self.old self.new) }
         ensures clean { K.is_clean (keeper_of self.new) → K.is_clean (keeper_of self.old) }
     {
+        let Some(found) = self.matcher.find_brief(conn, frame)? else {
+            return self.arrive_bits(conn, frame);
+        };
+        let reply = found.reply.into_reply();
+        self.take_reply(conn, found.number, &found.asked, &reply)
+    }
+
+    // The same, by a call that finds bits too. It serves for any frame, but it moves room for 2,000 bits from call to
+    // call.
+    fn arrive_bits(&mut self, conn: Conn, frame: &Frame) -> Result<Arrival, OfficeError>
+        ensures goes { K.is_clean (keeper_of self.new) → Goes (Stands self.old) (Stands self.new) (Event.Arrive conn frame.now) (arrived result) }
+        ensures leaves { K.is_clean (keeper_of self.new) → LeavesSo self.old self.new (Event.Arrive conn frame.now) (arrived result) }
+        ensures cause { IfErr result (λ e. IsCaused (CauseFrom self.old self.new) e) }
+        ensures counted { K.refused (keeper_of self.old) ≤ K.refused (keeper_of self.new) }
+        ensures looks { IsRaisedAtMost (5 * length (covered_of self.old conn frame.now)) (K.looked (keeper_of self.old)) (K.looked (keeper_of self.new)) }
+        ensures same { OnErr result (IsAlike self.old self.new) }
+        ensures clean { K.is_clean (keeper_of self.new) → K.is_clean (keeper_of self.old) }
+    {
         let found = self.matcher.find(conn, frame)?;
+        self.take_reply(conn, found.number, &found.asked, &found.reply)
+    }
+
+    // Writes what a reply to a query of a connection brings, and marks the query as answered.
+    fn take_reply(
+        &mut self,
+        conn: Conn,
+        number: u32,
+        asked: &Asked,
+        reply: &Reply,
+    ) -> Result<Arrival, OfficeError>
+        requires kept { KeepsQuery (held conn self.old.matcher) number }
+        requires answers { Answers asked.now reply.now }
+        ensures goes { (frame : AFrame) → IsAnswered self.old.matcher conn frame number asked.now reply.now → K.is_clean (keeper_of self.new)
+            → Goes (Stands self.old) (Stands self.new) (Event.Arrive conn frame) (arrived result) }
+        ensures leaves { (frame : AFrame) → IsAnswered self.old.matcher conn frame number asked.now reply.now → K.is_clean (keeper_of self.new)
+            → LeavesSo self.old self.new (Event.Arrive conn frame) (arrived result) }
+        ensures cause { IfErr result (λ e. IsCaused (CauseFrom self.old self.new) e) }
+        ensures counted { K.refused (keeper_of self.old) ≤ K.refused (keeper_of self.new) }
+        ensures looks { (frame : AFrame) → IsAnswered self.old.matcher conn frame number asked.now reply.now
+            → IsRaisedAtMost (5 * length (covered_of self.old conn frame)) (K.looked (keeper_of self.old)) (K.looked (keeper_of self.new)) }
+        ensures same { OnErr result (IsAlike self.old self.new) }
+        ensures clean { K.is_clean (keeper_of self.new) → K.is_clean (keeper_of self.old) }
+    {
         let arrival = bring(
             self.alloc,
             &mut self.keeper,
             &self.site,
             &self.points,
             &self.by_device,
-            &found.asked,
-            &found.reply,
+            asked,
+            reply,
         )?;
-        self.matcher.settle(conn, found.number);
+        self.matcher.settle(conn, number);
         follow_behind(&mut self.by_device, &self.points, &arrival);
         Ok(arrival)
     }

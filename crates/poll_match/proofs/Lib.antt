@@ -5,3 +5,4 @@ pub mod Connections
 pub mod Places
 pub mod Least
 pub mod Greatest
+pub mod Briefs

@@ -1,3 +1,4 @@
 pub mod Queries
 pub mod Window
 pub mod ConnectionFields
+pub mod Briefs

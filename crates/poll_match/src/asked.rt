@@ -1,8 +1,9 @@
-ghost use Rattle.std.specs.Prelude.{◌≡◌, ◌<◌, ◌≤◌, length};
+ghost use Rattle.std.specs.Prelude.{◌≡◌, ◌<◌, ◌≤◌, length, true};
+ghost use Rattle.mb_pdu.specs.Grammar.{spells};
 ghost use Rattle.mb_pdu.specs.declared.request.Request.TheVariants.{WriteRegisters};
-ghost use Rattle.poll_match.specs.Queries.{CanBeAsked, payload, registers_payload, request_of, unit_id_of, word_at, write_request};
+ghost use Rattle.poll_match.specs.Queries.{CanBeAsked, is_valid, payload, registers_payload, request_of, unit_id_of, word_at, write_request};
 
-use mb_pdu::{Registers, Request};
+use mb_pdu::{Registers, Request, Unit, pair_unit, registers_unit};
 use read_planner::Read;
 use std::mem::size_of;
 use sunspec::{Content, PointType};
@@ -64,6 +65,18 @@ impl Payload {
         }
     }
 
+    /// The spelling of its request at an address.
+    pub(crate) fn unit(self, address: u16) -> Unit
+        ensures { spells (write_request address self) result }
+    {
+        match self {
+            Payload::Coil(on) => pair_unit(5, address, if on { 0xFF00 } else { 0 }),
+            Payload::One(value) => pair_unit(6, address, value),
+            Payload::Two(words) => registers_unit(address, &words),
+            Payload::Four(words) => registers_unit(address, &words),
+        }
+    }
+
     /// The request that writes it at an address.
     fn request(self, address: u16) -> Request
         ensures { result ≡ write_request address self }
@@ -115,6 +128,23 @@ impl Asked {
                 payload,
                 ..
             } => payload.request(*address),
+        }
+    }
+
+    /// The spelling of its request, which isn't made: it would have room for 2,000 bits.
+    pub(crate) fn unit(&self) -> Unit
+        requires { is_valid self.now ≡ true }
+        ensures { spells (request_of self.now) result }
+    {
+        match self {
+            Asked::Read { read, .. } => {
+                pair_unit(read.function, read.span.start, read.span.quantity)
+            }
+            Asked::Write {
+                address,
+                payload,
+                ..
+            } => payload.unit(*address),
         }
     }
 

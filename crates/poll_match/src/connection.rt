@@ -1,10 +1,12 @@
 //! An open connection with its queries.
 ghost use Rattle.std.specs.Prelude.{◌≡◌, ◌≤◌, ◌<◌, ◌-◌, [], IfOk, OnOk, OnErr, IfErr, Some, None, true};
 ghost use Rattle.mb_pdu.specs.Replies.{spells_reply};
+ghost use Rattle.poll_match.specs.Briefs.{FindsBriefly};
 ghost use Rattle.poll_match.specs.Queries.{CanBeAsked, is_valid, request_of};
 ghost use Rattle.poll_match.specs.Window.{IsKept, IsNextFrame, Names, next_refusal, numbered, query_at, query_refusal, refusal, with_next, with_settled};
 
 use crate::asked::{Asked, Matched};
+use crate::brief::{FoundBrief, brief_reply_to};
 use crate::conn::Conn;
 use crate::error::MatchError;
 use crate::matcher::Found;
@@ -146,7 +148,7 @@ impl Connection {
         Ok(Frame {
             transaction: (made % 65536) as u16,
             unit_id: asked.unit_id(),
-            unit: asked.request().encode(),
+            unit: asked.unit(),
         })
     }
 
@@ -169,6 +171,29 @@ impl Connection {
                 asked: query.asked,
                 reply,
             }),
+            Err(e) => Err(e),
+        }
+    }
+
+    /// The query that a frame answers, with a reply without bits. Of one that reads bits nothing is told.
+    pub(crate) fn find_brief(&self, frame: &Frame) -> Result<Option<FoundBrief>, MatchError>
+        ensures { FindsBriefly (Some self.now) frame.now result }
+    {
+        let Some(number) = numbered(frame.transaction, self.made) else {
+            return Err(MatchError::NoQuery);
+        };
+        let Some(query) = self.query_at(number) else {
+            return Err(MatchError::NoQuery);
+        };
+        if query.asked.reads_bits() {
+            return Ok(None);
+        }
+        match brief_reply_to(&query, frame) {
+            Ok(reply) => Ok(Some(FoundBrief {
+                number,
+                asked: query.asked,
+                reply,
+            })),
             Err(e) => Err(e),
         }
     }

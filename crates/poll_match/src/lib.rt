@@ -5,12 +5,14 @@
 #![tactic(auto)]
 
 mod asked;
+mod brief;
 mod conn;
 mod connection;
 mod error;
 mod matcher;
 
 pub use asked::{Asked, Matched, Payload};
+pub use brief::{BriefReply, FoundBrief};
 pub use conn::Conn;
 pub use error::MatchError;
 pub use matcher::{Found, Matcher};

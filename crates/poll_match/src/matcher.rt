@@ -1,9 +1,11 @@
 //! The open connections and their queries.
 ghost use Rattle.std.specs.Prelude.{◌≡◌, ℕ, [], IfOk, IfErr, OnOk, OnErr, IfSome, IfNone, Some, None, true, ◌==◌, if◌then◌else◌};
+ghost use Rattle.poll_match.specs.Briefs.{FindsBriefly};
 ghost use Rattle.poll_match.specs.Queries.{is_valid};
 ghost use Rattle.poll_match.specs.Window.{Changes, IsLeastOf, IsNextFrame, KeepsQuery, LeastIn, Names, closed, fresh, greater, greatest_of, held, lesser, line_of, made_of, next_refusal, place, refusal, with_answer, with_query};
 
 use crate::asked::Asked;
+use crate::brief::FoundBrief;
 use crate::conn::Conn;
 use crate::connection::Connection;
 use crate::error::MatchError;
@@ -205,6 +207,17 @@ impl Matcher {
     {
         match place_of(&self.connections, conn) {
             Some(place) => self.connections[place].find(frame),
+            None => Err(MatchError::NoConnection),
+        }
+    }
+
+    /// As `find`, without room for 2,000 bits: of a frame that names a query of coils or discrete inputs it tells
+    /// `None`, whatever the frame brings. Else it finds what `find` finds, or the same refusal. It takes no memory.
+    pub fn find_brief(&self, conn: Conn, frame: &Frame) -> Result<Option<FoundBrief>, MatchError>
+        ensures { FindsBriefly (held conn self.now) frame.now result }
+    {
+        match place_of(&self.connections, conn) {
+            Some(place) => self.connections[place].find_brief(frame),
             None => Err(MatchError::NoConnection),
         }
     }

@@ -1,17 +1,11 @@
-use Rattle.std.proofs.Common.{◌∙◌, ◌∷◌, false, subst, sym, ap, refl}
-use Rattle.poll_match.specs.Window.{held}
+use Rattle.std.proofs.Common.{sym, subst}
 use Rattle.poll_book.specs.Tables.{Tables}
 use Rattle.office_core.specs.declared.event.Event.TheVariants.{Arrive}
-use Rattle.office_core.specs.declared.event.EventAnswer.TheVariants as answer
-use Rattle.office_core.specs.Errors.{refused_by, refused_store}
-use Rattle.office_core.specs.Keeping.{IsCopy, brought, arrival_of}
-use Rattle.office_core.specs.Leavings.{LeftAfter}
+use Rattle.office_core.specs.Errors.{refused_by}
 use Rattle.office_core.specs.Offices.{arrived}
-use Rattle.office_core.specs.Standing.{Goes, StandsFor, is_store}
-use Rattle.office_core.specs.History.{tables}
-use Rattle.office_core.proofs.Looked.{looks_named}
-use Rattle.office_core.proofs.Leaving.{At, Left, leaves_made, leaves_still, leaves_tried, tried_is}
-use Rattle.office_core.proofs.Steps.{arrival_refused_goes, arrival_goes, arrival_made, copy_of}
+use Rattle.office_core.specs.Standing.{Goes, StandsFor}
+use Rattle.office_core.proofs.Leaving.{At, leaves_still}
+use Rattle.office_core.proofs.Steps.{arrival_refused_goes}
 use Rattle.office_core.proofs.Telling.{arrived_err}
 use Rattle.office_core.proofs.office.Office.arrive.Goals as goal
 
@@ -20,19 +14,7 @@ returns-in_err-found-clause-goes g c clean =
     let office = c.args.self.now in
     let stands = StandsFor (g.K.Neighbours.holds office.keeper) office.site office.points.items office.matcher in
     subst (Goes stands stands (Arrive c.args.conn c.args.frame.now)) (sym (arrived_err c.from_residual.result (refused_by c.in_err-found.field-0.0) c.from_residual.ensures.1))
-    (arrival_refused_goes (g.K.Neighbours.holds office.keeper) office.site office.points.items office.matcher c.args.conn c.args.frame.now c.in_err-found.field-0.0 c.in_err-found.ensures.refused)
-
-pub returns-clause-goes : goal.returns-clause-goes
-returns-clause-goes g c clean =
-    let office = c.args.self.now in
-    let holds = g.K.Neighbours.holds in
-    let f = c.in_ok-found.found in
-    arrival_goes (holds office.keeper) office.site office.points.items office.matcher c.args.conn c.args.frame.now f.number f.asked f.reply c.in_ok-found.ensures.accepted c.in_ok-found.ensures.found
-    (holds c.bring.new.keeper)
-    (λ kept h copy. subst (λ l. holds c.bring.new.keeper (brought office.site l f.asked f.reply kept)) c.deref.ensures.value
-    (c.in_ok-arrival.ensures.kept clean kept h (subst (λ l. IsCopy l kept) (sym c.deref.ensures.value) copy)))
-    c.settle.new.self c.settle.ensures c.in_ok-arrival.arrival
-    (λ kept h. c.in_ok-arrival.ensures.told clean kept h ∙ ap (λ l. arrival_of office.site l f.asked f.reply kept) c.deref.ensures.value)
+    (arrival_refused_goes (g.K.Neighbours.holds office.keeper) office.site office.points.items office.matcher c.args.conn c.args.frame.now c.in_err-found.field-0.0 c.in_err-found.ensures.1)
 
 pub returns-in_err-found-clause-leaves : goal.returns-in_err-found-clause-leaves
 returns-in_err-found-clause-leaves g c clean =
@@ -43,52 +25,4 @@ returns-in_err-found-clause-leaves g c clean =
     leaves_still holds may may office.site known office.matcher office.matcher (Arrive c.args.conn c.args.frame.now) (arrived c.from_residual.result) (λ kept m. m)
     (λ at. subst (Goes (StandsFor (At holds at) office.site known office.matcher) (StandsFor (At holds at) office.site known office.matcher) (Arrive c.args.conn c.args.frame.now))
     (sym (arrived_err c.from_residual.result (refused_by c.in_err-found.field-0.0) c.from_residual.ensures.1))
-    (arrival_refused_goes (At holds at) office.site known office.matcher c.args.conn c.args.frame.now c.in_err-found.field-0.0 c.in_err-found.ensures.refused))
-
-pub returns-in_err-arrival-clause-leaves : goal.returns-in_err-arrival-clause-leaves
-returns-in_err-arrival-clause-leaves g c clean =
-    let office = c.args.self.now in
-    let holds : Tables → Type 0 = g.K.Neighbours.holds office.keeper in
-    let may : Tables → Type 0 = g.K.Neighbours.may_leave office.keeper in
-    let may' : Tables → Type 0 = g.K.Neighbours.may_leave c.bring.new.keeper in
-    let known = office.points.items in
-    let f = c.in_ok-found.found in
-    leaves_tried (StandsFor holds office.site known office.matcher) may may' (Arrive c.args.conn c.args.frame.now) (arrived c.from_residual-in_err-arrival.result)
-    (ap is_store (arrived_err c.from_residual-in_err-arrival.result (refused_store c.in_err-arrival.field-0.0) c.from_residual-in_err-arrival.ensures.1))
-    (λ before happening stands can sees left m.
-    let copy = copy_of holds office.site known office.matcher before stands in
-    tried_is may may (brought office.site c.deref.result.now f.asked f.reply (tables before)) (tables (happening ∷ before)) left (λ t was. was)
-    (ap (λ l. brought office.site l f.asked f.reply (tables before)) c.deref.ensures.value
-    ∙ arrival_made holds office.site known office.matcher c.args.conn c.args.frame.now f.number f.asked f.reply c.in_ok-found.ensures.accepted c.in_ok-found.ensures.found before happening stands can sees)
-    (c.in_err-arrival.ensures.leaves clean (tables before) stands.tables (subst (λ l. IsCopy l (tables before)) (sym c.deref.ensures.value) copy) left m))
-
-pub returns-clause-leaves : goal.returns-clause-leaves
-returns-clause-leaves g c clean =
-    let office = c.args.self.now in
-    let holds : Tables → Type 0 = g.K.Neighbours.holds office.keeper in
-    let may : Tables → Type 0 = g.K.Neighbours.may_leave office.keeper in
-    let may' : Tables → Type 0 = g.K.Neighbours.may_leave c.bring.new.keeper in
-    let known = office.points.items in
-    let f = c.in_ok-found.found in
-    leaves_made holds may may' office.site known office.matcher office.site known c.settle.new.self (Arrive c.args.conn c.args.frame.now)
-    (answer.Arrived c.in_ok-arrival.arrival) (answer.Arrived c.in_ok-arrival.arrival) false refl refl
-    (λ at. arrival_goes (At holds at) office.site known office.matcher c.args.conn c.args.frame.now f.number f.asked f.reply c.in_ok-found.ensures.accepted c.in_ok-found.ensures.found
-    (Left may may' at false)
-    (λ kept h copy left m. subst (λ (x : Tables × Tables). LeftAfter may x.0 x.1 false left) (λ i. (h.1 i, brought office.site (c.deref.ensures.value i) f.asked f.reply kept))
-    (c.in_ok-arrival.ensures.leaves clean kept h.0 (subst (λ l. IsCopy l kept) (sym c.deref.ensures.value) copy) left m))
-    c.settle.new.self c.settle.ensures c.in_ok-arrival.arrival
-    (λ kept h. c.in_ok-arrival.ensures.told clean kept h.0 ∙ ap (λ l. arrival_of office.site l f.asked f.reply kept) c.deref.ensures.value))
-
-pub returns-clause-looks : goal.returns-clause-looks
-returns-clause-looks g c =
-    let office = c.args.self.now in
-    let f = c.in_ok-found.found in
-    looks_named office.site office.points.items c.deref.result.now (held c.args.conn office.matcher) c.args.frame.now f.number f.asked f.reply
-    (g.K.Neighbours.looked office.keeper) (g.K.Neighbours.looked c.bring.new.keeper) c.in_ok-found.ensures.found c.deref.ensures.value c.bring.ensures.looks
-
-pub returns-in_err-arrival-clause-looks : goal.returns-in_err-arrival-clause-looks
-returns-in_err-arrival-clause-looks g c =
-    let office = c.args.self.now in
-    let f = c.in_ok-found.found in
-    looks_named office.site office.points.items c.deref.result.now (held c.args.conn office.matcher) c.args.frame.now f.number f.asked f.reply
-    (g.K.Neighbours.looked office.keeper) (g.K.Neighbours.looked c.bring.new.keeper) c.in_ok-found.ensures.found c.deref.ensures.value c.bring.ensures.looks
+    (arrival_refused_goes (At holds at) office.site known office.matcher c.args.conn c.args.frame.now c.in_err-found.field-0.0 c.in_err-found.ensures.1))
