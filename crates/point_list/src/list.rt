@@ -70,6 +70,8 @@ fn rows_of(
     ensures fault { IfErr result (λ e. IsMemory e ⊎ IsFirstInBody columns (has_device devices.now) (map fields_of body.now) e) }
 {
     let mut rows = Vec::new(alloc);
+    // Room for all at once; where that is refused, it is asked for as rows come.
+    let _ = rows.reserve(body.len().min(MOST_POINTS));
     let mut names = Texts::new(alloc);
     let mut number = 2;
     for record in body {

@@ -8,7 +8,7 @@ ghost use Rattle.point_list.specs.Resolving.{first_misplaced, misplaced, model_a
 ghost use Rattle.point_list.specs.Sites.{IsSound};
 
 use crate::error::{ListError, ListFault};
-use crate::list::read_list;
+use crate::list::{MOST_POINTS, read_list};
 use crate::point::{ListRow, Point};
 use crate::site::Site;
 use std::alloc::Global;
@@ -65,6 +65,8 @@ pub fn resolve(alloc: Global, rows: Vec<ListRow>, site: &Site) -> Result<Vec<Poi
     ensures fault { IfErr result (λ e. IsMemory e ⊎ (first_misplaced site.now rows.items ≡ Some e)) }
 {
     let mut points = Vec::new(alloc);
+    // Room for all at once; where that is refused, it is asked for as points come.
+    let _ = points.reserve(rows.len().min(MOST_POINTS));
     for row in rows.as_slice() {
         let point = match placed(site, row) {
             Ok(point) => point,
