@@ -3,7 +3,7 @@ use Rattle.std.proofs.Common.{◌≡◌, ℕ, zero, suc, ◌+◌, ◌<◌, ◌�
 use Rattle.std.specs.Prelude.{All, ◌&&◌, OnErr, OnOk, option_map}
 use Rattle.std.specs.BTreeMap.{Updates, get, is_at}
 use Rattle.std.specs.Cmp.Lexicographic.{slice_cmp}
-use Rattle.std.specs.List.{slice_get}
+use Rattle.std.specs.List.{insert, slice_get}
 use Rattle.std.specs.Map.{lookup}
 use Rattle.std.specs.Option.{unwrap_or}
 use Rattle.std.specs.Ordering.{nat_cmp}
@@ -11,6 +11,7 @@ use Rattle.std.specs.Str.{bytes_eq}
 use Rattle.std.proofs.Math.Seq.{split_at}
 use Rattle.std.proofs.Math.ListN.{length-set}
 use Rattle.std.proofs.lemmas.List.{take-append-le, take_all}
+use Rattle.std.proofs.lemmas.List.Edits.{insert_end}
 use Rattle.std.proofs.lemmas.List.Elements.{All-head, All-tail, All-cons, All-more}
 use Rattle.std.proofs.lemmas.Map.Text.{is_eq-slice_cmp}
 use Rattle.std.proofs.lemmas.Option.{slice_get-get_or, slice_get_past}
@@ -18,7 +19,8 @@ use Rattle.std.proofs.lemmas.Slice.Eq.{bytes_eq-Decides}
 use Rattle.poll_book.specs.declared.rows.PointRow.{PointRow}
 use Rattle.poll_book.specs.declared.rows.SettingRow.{SettingRow}
 use Rattle.poll_book.specs.Orders.{as_setting, is_of, is_waiting, oldest_waiting, point_at, waits_on}
-use Rattle.poll_book.specs.Marks.{settings_of, AreRight, IsPast, Marks, past_in}
+use Rattle.poll_book.specs.Marks.{settings_of, ArePast, AreRight, AreSettled, IsPast, Past, past_in}
+use Rattle.poll_book.specs.declared.marks.Marks.{Marks}
 
 module _ (points : List PointRow) (device : List ℕ) where
   -- orders that don't wait are passed
@@ -54,6 +56,20 @@ module _ (points : List PointRow) (device : List ℕ) where
   past_more orders at d past in_range other =
       record { in_range = omega (arith, in_range); none = All-more (λ row. waits_on points device (as_setting row) ≡ false) orders at d in_range past.none other }
 
+  -- where none of so many first orders waits at all, they are passed
+  pub past_settled : (orders : List SettingRow) (count : ℕ) → AreSettled orders count → IsPast points orders device count
+  past_settled orders count settled =
+      record {
+        in_range = settled.in_range;
+        none = λ k d lt. ap (λ b. b && is_of device (point_at points (get_or (take count orders) k d).point)) (settled.none k d lt);
+      }
+
+-- one more order that doesn't wait
+pub settled_more : (orders : List SettingRow) (count : ℕ) (d : SettingRow) → AreSettled orders count → count < length orders → is_waiting (get_or orders count d).state ≡ false
+    → AreSettled orders (count + 1)
+settled_more orders count d settled in_range here =
+    record { in_range = omega (arith, in_range); none = All-more (λ row. is_waiting row.state ≡ false) orders count d in_range settled.none here }
+
 -- what holds of the first elements, after a write of one of which it holds
 take-set_all : {X : Type 0} (P : X → Type 0) (n : ℕ) (l : List X) (at : ℕ) (y : X) → P y → All P (take n l) → All P (take n (set l at y))
 take-set_all P zero l at y here h = h
@@ -68,20 +84,15 @@ label_is false label text e = absurd (cc)
 
 module _ (points : List PointRow) (orders : List SettingRow) where
   -- the same marks say the same
-  right_same : (old new : Marks) → new.entries ≡ old.entries → AreRight points orders old → AreRight points orders new
-  right_same old new same right device =
+  past_same : (old new : Past) → new.entries ≡ old.entries → ArePast points orders old → ArePast points orders new
+  past_same old new same right device =
       subst (λ (es : List (List ℕ × ℕ)). IsPast points orders device (unwrap_or (lookup (is_at (slice_cmp nat_cmp device)) es) 0)) (sym same) (right device)
 
-  -- no mark has passed an order
-  pub right_empty : (marks : Marks) → marks.entries ≡ [] → AreRight points orders marks
-  right_empty marks empty device =
-      subst (λ (es : List (List ℕ × ℕ)). IsPast points orders device (unwrap_or (lookup (is_at (slice_cmp nat_cmp device)) es) 0)) (sym empty) (past_none points device orders)
-
   -- a mark that is set is right where so many orders are passed, and the others stay
-  right_put : (old new : Marks) (device : List ℕ) (past : ℕ)
+  past_put : (old new : Past) (device : List ℕ) (past : ℕ)
       → ((other : List ℕ) → get (slice_cmp nat_cmp) new other ≡ cond (is_at (slice_cmp nat_cmp device) other) (Some past) (get (slice_cmp nat_cmp) old other))
-      → AreRight points orders old → IsPast points orders device past → AreRight points orders new
-  right_put old new device past updates right here other =
+      → ArePast points orders old → IsPast points orders device past → ArePast points orders new
+  past_put old new device past updates right here other =
       subst (λ (o : Option ℕ). IsPast points orders other (unwrap_or o 0))
       (sym (updates other ∙ ap (λ (b : Bool). cond b (Some past) (get (slice_cmp nat_cmp) old other)) (is_eq-slice_cmp device other)))
       (by (bytes_eq device other) refl)
@@ -91,28 +102,39 @@ module _ (points : List PointRow) (orders : List SettingRow) where
       by false e = right other
 
   -- so it is where memory may be refused for it, and the marks are what they were
-  pub right_set : {X E : Type 0} (result : Result X E) (old new : Marks) (device : List ℕ) (past : ℕ)
+  pub past_set : {X E : Type 0} (result : Result X E) (old new : Past) (device : List ℕ) (past : ℕ)
       → OnOk result (Updates (slice_cmp nat_cmp) old new device (Some past))
       → OnErr result (new.entries ≡ old.entries)
-      → AreRight points orders old → IsPast points orders device past → AreRight points orders new
-  right_set (Ok x) old new device past updates same right here = right_put old new device past updates.0 right here
-  right_set (Err e) old new device past updates same right here = right_same old new same right
+      → ArePast points orders old → IsPast points orders device past → ArePast points orders new
+  past_set (Ok x) old new device past updates same right here = past_put old new device past updates.0 right here
+  past_set (Err e) old new device past updates same right here = past_same old new same right
 
   -- an order that doesn't wait, written over another, leaves the marks right
   pub right_over : (marks : Marks) (at : ℕ) (row : SettingRow) → is_waiting row.state ≡ false → AreRight points orders marks → AreRight points (set orders at row) marks
-  right_over marks at row settled right device =
-      let past = right device in
-      record {
-        in_range = omega (arith, past.in_range, length-set orders at row);
-        none = take-set_all (λ (x : SettingRow). waits_on points device (as_setting x) ≡ false) (past_in marks device) orders at row
-            (ap (λ b. b && is_of device (point_at points row.point)) settled) past.none;
-      }
+  right_over marks at row settled right = (
+    λ device. let past = right.0 device in
+        record {
+          in_range = omega (arith, past.in_range, length-set orders at row);
+          none = take-set_all (λ (x : SettingRow). waits_on points device (as_setting x) ≡ false) (past_in marks.past device) orders at row
+              (ap (λ b. b && is_of device (point_at points row.point)) settled) past.none;
+        },
+    record {
+      in_range = omega (arith, right.1.in_range, length-set orders at row);
+      none = take-set_all (λ (x : SettingRow). is_waiting x.state ≡ false) marks.settled orders at row settled right.1.none;
+    },
+  )
 
   -- and so does one that comes last
-  pub right_last : (marks : Marks) (row : SettingRow) → AreRight points orders marks → AreRight points (orders ++ row ∷ []) marks
-  right_last marks row right device =
-      let past = right device in
-      record {
-        in_range = omega (arith, past.in_range, length-append orders (row ∷ []));
-        none = subst (All (λ (x : SettingRow). waits_on points device (as_setting x) ≡ false)) (sym (take-append-le (past_in marks device) orders (row ∷ []) past.in_range)) past.none;
-      }
+  pub right_last : (marks : Marks) (at : ℕ) (row : SettingRow) → at ≡ length orders → AreRight points orders marks → AreRight points (insert orders at row) marks
+  right_last marks at row last right =
+      subst (λ l. AreRight points l marks) (sym (ap (λ i. insert orders i row) last ∙ insert_end orders row)) (
+        λ device. let past = right.0 device in
+            record {
+              in_range = omega (arith, past.in_range, length-append orders (row ∷ []));
+              none = subst (All (λ (x : SettingRow). waits_on points device (as_setting x) ≡ false)) (sym (take-append-le (past_in marks.past device) orders (row ∷ []) past.in_range)) past.none;
+            },
+        record {
+          in_range = omega (arith, right.1.in_range, length-append orders (row ∷ []));
+          none = subst (All (λ (x : SettingRow). is_waiting x.state ≡ false)) (sym (take-append-le marks.settled orders (row ∷ []) right.1.in_range)) right.1.none;
+        },
+      )

@@ -4,12 +4,13 @@ use Rattle.std.specs.BTreeMap.{BTreeMap, get}
 use Rattle.std.specs.Cmp.Lexicographic.{slice_cmp}
 use Rattle.std.specs.Option.{unwrap_or}
 use Rattle.std.specs.Ordering.{nat_cmp}
+use Rattle.poll_book.specs.declared.marks.Marks.{Marks}
 use Rattle.poll_book.specs.declared.rows.PointRow.{PointRow}
 use Rattle.poll_book.specs.declared.rows.SettingRow.{SettingRow}
 use Rattle.poll_book.specs.declared.rows.TotalRow.{TotalRow}
 use Rattle.poll_book.specs.declared.history.History.{History}
 use Rattle.poll_book.specs.Histories.{AreOrdered, IsRising}
-use Rattle.poll_book.specs.Orders.{Settings, as_setting, waits_on}
+use Rattle.poll_book.specs.Orders.{Settings, as_setting, is_waiting, waits_on}
 
 abbrev pub number_of : SettingRow → ℕ
 number_of row = row.number
@@ -26,16 +27,25 @@ pub record IsPast (points : List PointRow) (orders : List SettingRow) (device : 
   pub none : All (λ row. waits_on points device (as_setting row) ≡ false) (take past orders)
 
 -- how many first orders were passed, by the names of devices
-abbrev pub Marks : Type 0
-Marks = BTreeMap (List ℕ) ℕ
+abbrev pub Past : Type 0
+Past = BTreeMap (List ℕ) ℕ
 
 -- how many first orders the device's mark has passed, 0 where it has none
-abbrev pub past_in : Marks → List ℕ → ℕ
-past_in marks device = unwrap_or (get (slice_cmp nat_cmp) marks device) 0
+abbrev pub past_in : Past → List ℕ → ℕ
+past_in past device = unwrap_or (get (slice_cmp nat_cmp) past device) 0
 
--- the marks say so of each device
+-- each device's mark is right
+abbrev pub ArePast : List PointRow → List SettingRow → Past → Type 0
+ArePast points orders past = (device : List ℕ) → IsPast points orders device (past_in past device)
+
+-- none of so many first orders waits at all
+pub record AreSettled (orders : List SettingRow) (count : ℕ) : Type 0 where
+  pub in_range : count ≤ length orders
+  pub none : All (λ row. is_waiting row.state ≡ false) (take count orders)
+
+-- the marks are right
 abbrev pub AreRight : List PointRow → List SettingRow → Marks → Type 0
-AreRight points orders marks = (device : List ℕ) → IsPast points orders device (past_in marks device)
+AreRight points orders marks = ArePast points orders marks.past × AreSettled orders marks.settled
 
 -- so many first points are numbered on from 1
 pub record AreCounted (points : List PointRow) (count : ℕ) : Type 0 where

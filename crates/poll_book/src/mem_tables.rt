@@ -14,7 +14,7 @@ use crate::asked::{copy_of_request, put_request, request_at};
 use crate::caller::{Caller, Key};
 use crate::histories::{make_histories, put_all, slots_in, staged};
 use crate::history::{History, SlotRow, slot_place};
-use crate::marks::{Marks, forget_for, next_waiting, past_of, set_mark};
+use crate::marks::{Marks, forget_for, next_waiting, pass_settled, past_of, set_mark};
 use crate::nearest::{first_counted, last_counted, slots_after, slots_before};
 use crate::orders::{copy_of_setting, last_number, order_at, put_order, setting_at};
 use crate::points::add_points;
@@ -28,7 +28,7 @@ use std::marker::Model;
 
 /// The readings of each point stand by slot in a vector of their own: a look-up is a binary search,
 /// and a reading after all others of its point is appended. Orders stand by number in a vector,
-/// requests and marks in a map each.
+/// requests in a map.
 #[derive(Drop)]
 pub(crate) struct MemTables {
     points: Vec<PointRow>,
@@ -78,7 +78,7 @@ impl MemTables {
             voids: BTreeMap::new(alloc),
             totals: Vec::new(alloc),
             orders: Vec::new(alloc),
-            marks: BTreeMap::new(alloc),
+            marks: Marks::new(alloc),
             requests: BTreeMap::new(alloc),
             connections: 0,
             alloc,
@@ -185,6 +185,7 @@ impl MemTables {
         ensures value { IfOk result (λ found. option_map as_setting found ≡ oldest_waiting self.old.points device.now self.old.settings) }
         ensures same { self.new ≡ self.old }
     {
+        pass_settled(&mut self.marks, &self.orders);
         let from = past_of(&self.marks, device);
         let place = next_waiting(&self.points, self.counted, &self.orders, device, from);
         set_mark(&mut self.marks, device, place);

@@ -130,13 +130,13 @@ fn put_row(orders: &mut Vec<SettingRow>, marks: &mut Marks, row: SettingRow)
     match order_place(orders, row.number) {
         Ok(place) => {
             if is_waiting(row.state) {
-                marks.clear();
+                marks.forget();
             }
             orders[place] = row;
         }
         Err(place) => {
             if place < orders.len() {
-                marks.clear();
+                marks.forget();
             }
             let _ = orders.insert(place, row);
         }
