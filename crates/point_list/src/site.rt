@@ -5,7 +5,6 @@ ghost use Rattle.point_list.specs.Sites.{device_of, line_of};
 
 use crate::agreeing::disagreement;
 use crate::items::Items;
-use crate::naming::is_same_name;
 use crate::text::Text;
 use std::alloc::Global;
 use sunspec::Model;
@@ -87,7 +86,9 @@ impl Device {
     pub fn place(devices: &[Device], name: &str) -> Option<usize>
         ensures { result ≡ device_of devices.now name.now }
     {
-        devices.iter().position(|device| is_same_name(device.name.as_bytes(), name.as_bytes()))
+        devices
+            .iter()
+            .position(|device| device.name.as_str() == name)
     }
 }
 
