@@ -1,11 +1,17 @@
 -- Words as texts, and as bytes.
-use Rattle.std.proofs.Common.{◌≡◌, ◌<◌, ℕ, zero, suc, true, List, [], ◌∷◌, ◌++◌, length, take, get_or, refl, ap, arith, Option, Some, None}
+use Rattle.std.proofs.Common.{◌≡◌, ◌<◌, ◌+◌, ◌*◌, ◌/◌, ◌%◌, ◌==◌, ℕ, zero, suc, Bool, true, false, cond, List, [], ◌∷◌, ◌++◌, length, take, get_or, slice_index, refl, ap, ◌∙◌, arith, Option, Some, None, Result, Ok, Err}
+use Rattle.std.specs.Prelude.{option_map}
 use Rattle.std.proofs.lemmas.Bool.{and_parts}
+use Rattle.std.proofs.lemmas.Bool.Decides.{nat_tests}
 use Rattle.std.proofs.lemmas.Str.{IsUtf8-from_ascii}
 use Rattle.std.specs.Borrow.{Bor}
+use Rattle.std.specs.Result.{result_ok}
 use Rattle.std.specs.Str.{IsUtf8}
 use Rattle.point_list.proofs.Labels.{all_ascii}
-use Rattle.office_script.specs.Words.{is_text, texts, byte_of, bytes_of, onto_bytes}
+use Rattle.hex.specs.Hex.{hex_digit_value, digit_or_error, decode_pairs, decode_sized, ◌>>=◌}
+use Rattle.hex.specs.declared.error.FromHexError.{FromHexError}
+use Rattle.hex.specs.declared.error.FromHexError.TheVariants.{OddLength, InvalidStringLength}
+use Rattle.office_script.specs.Words.{is_text, joined, texts, byte_of, bytes_of, onto_bytes}
 
 -- a word of ASCII is UTF-8
 pub is_utf8 : (word : List ℕ) → is_text word ≡ true → IsUtf8 word
@@ -47,3 +53,42 @@ bytes-none (w ∷ ws) (suc i) d lt none = rw (bytes-none ws i d (omega arith) no
     by : (o : Option ℕ) → onto_bytes o None ≡ None
     by None = refl
     by (Some b) = refl
+
+longer : (n : ℕ) → (suc (suc (suc n)) % 2 == 1) ≡ false → (suc (suc (suc n)) / 2 == 1) ≡ false
+longer n even = grind (arith, nat_tests, even)
+
+-- what decoding into room for one byte gives, of a word
+pub byte_read : (word : List ℕ) → result_ok (decode_sized word 1) ≡ option_map (λ b. b ∷ []) (byte_of word)
+unfolding decode_pairs
+byte_read [] = refl
+byte_read (x ∷ []) = refl
+byte_read (high ∷ low ∷ []) = by (hex_digit_value high) (hex_digit_value low)
+  where
+    by : (o p : Option ℕ) → result_ok ((digit_or_error high 0 o >>= (λ h. digit_or_error low 1 p >>= (λ l. Ok (h * 16 + l)))) >>= (λ b. Ok (b ∷ []))) ≡ option_map (λ b. b ∷ []) (joined o p)
+    by None p = refl
+    by (Some h) None = refl
+    by (Some h) (Some l) = refl
+byte_read (x ∷ y ∷ z ∷ rest) = by (length (x ∷ y ∷ z ∷ rest) % 2 == 1) (length (x ∷ y ∷ z ∷ rest) / 2 == 1) (λ even. longer (length rest) even)
+  where
+    pairs : Result (List ℕ) FromHexError
+    pairs = decode_pairs 0 (x ∷ y ∷ z ∷ rest)
+
+    by : (odd one : Bool) → (odd ≡ false → one ≡ false) → result_ok (cond odd (Err OddLength) (cond one pairs (Err InvalidStringLength))) ≡ None
+    by true one h = refl
+    by false one h = rw (h refl) refl
+
+-- the byte that was decoded from a word
+pub byte_ok : (word bytes : List ℕ) → Ok bytes ≡ decode_sized word 1 → Some (slice_index bytes 0) ≡ byte_of word
+byte_ok word bytes e = by (byte_of word) (ap result_ok e ∙ byte_read word)
+  where
+    by : (o : Option ℕ) → Some bytes ≡ option_map (λ b. b ∷ []) o → Some (slice_index bytes 0) ≡ o
+    by None e = absurd (cc)
+    by (Some b) e = let one : bytes ≡ b ∷ [] = cc in ap (λ bs. Some (slice_index bs 0)) one
+
+-- and none where none was
+pub byte_err : (word : List ℕ) (error : FromHexError) → Err error ≡ decode_sized word 1 → None ≡ byte_of word
+byte_err word error e = by (byte_of word) (ap result_ok e ∙ byte_read word)
+  where
+    by : (o : Option ℕ) → None ≡ option_map (λ b. b ∷ []) o → None ≡ o
+    by None e = refl
+    by (Some b) e = absurd (cc)

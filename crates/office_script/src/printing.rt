@@ -3,7 +3,7 @@ ghost use Rattle.std.specs.Prelude.{◌≡◌, ◌++◌, OnOk, codes, decimal, f
 ghost use Rattle.mb_mbap.specs.Stream.{spelled};
 ghost use Rattle.office_script.specs.Printing.{answer_line, arrival_line, fault_line, line_end, numbered_line, refusal_line, refusal_name, request_line, spaced_byte};
 
-use crate::hexadecimal::push_digits;
+use crate::hexadecimal::push_byte;
 use itoa::Buffer;
 use mb_mbap::Frame;
 use office_core::{Arrival, EventAnswer, OfficeError, RequestAnswer};
@@ -26,21 +26,21 @@ fn push_numbered(out: &mut Vec<u8>, words: &[u8], number: u32) -> Result<(), All
     Ok(out.push(b'\n')?)
 }
 
-fn push_bytes(out: &mut Vec<u8>, bytes: &[u8]) -> Result<(), AllocError>
+fn push_bytes(alloc: Global, out: &mut Vec<u8>, bytes: &[u8]) -> Result<(), AllocError>
     ensures { OnOk result (out.new.items ≡ out.old.items ++ flat_map spaced_byte bytes.now) }
 {
     for byte in bytes {
         out.push(b' ')?;
-        push_digits(out, *byte)?;
+        push_byte(alloc, out, *byte)?;
     }
     Ok(())
 }
 
-fn push_query(out: &mut Vec<u8>, frame: &Frame) -> Result<(), AllocError>
+fn push_query(alloc: Global, out: &mut Vec<u8>, frame: &Frame) -> Result<(), AllocError>
     ensures { OnOk result (out.new.items ≡ out.old.items ++ (codes "query" ++ flat_map spaced_byte (spelled frame.now) ++ line_end)) }
 {
     out.extend_from_slice(b"query")?;
-    push_bytes(out, frame.encode().as_bytes())?;
+    push_bytes(alloc, out, frame.encode().as_bytes())?;
     Ok(out.push(b'\n')?)
 }
 
@@ -101,7 +101,7 @@ pub(crate) fn push_answer(
     match answer {
         EventAnswer::Request(told) => push_request(alloc, out, *told),
         EventAnswer::Opened(conn) => push_numbered(out, b"connection ", conn.number()),
-        EventAnswer::Query(frame) => push_query(out, frame),
+        EventAnswer::Query(frame) => push_query(alloc, out, frame),
         EventAnswer::Arrived(arrival) => push_arrival(out, *arrival),
         EventAnswer::Restarted => out.extend_from_slice(b"restarted\n"),
         EventAnswer::Refused(error) => push_refusal(out, refusal_name(*error)),
