@@ -11,7 +11,7 @@ use Rattle.poll_book.specs.Tables.{Sums, with_sum, with_sums}
 use Rattle.poll_book.specs.Totals.{is_counter, total, totals_of}
 
 -- the total of one point more that is accepted
-begun_more : (row : PointRow) (rows : List PointRow) (table : Sums)
+pub begun_more : (row : PointRow) (rows : List PointRow) (table : Sums)
     → with_sums (totals_of (row ∷ []) []) (with_sums (totals_of rows []) table) ≡ with_sums (totals_of (row ∷ rows) []) table
 begun_more row rows table = by (is_counter row.point.role)
   where

@@ -119,9 +119,8 @@ fn begin_total(totals: &mut Vec<TotalRow>, point: &PointRow)
     }
 }
 
-/// Puts the total 0 for each of these points that is a counter, where there is room for all. They are put from
-/// the first to the last: new points come behind all others, so no total has to move.
-pub(crate) fn begin_totals(totals: &mut Vec<TotalRow>, points: &[PointRow])
+/// Puts the total 0 for each of these points that is a counter, from the first to the last, where there is room for all.
+fn begin_upwards(totals: &mut Vec<TotalRow>, points: &[PointRow])
     requires rising { IsRising total_point totals.old.items }
     requires room { vec_len totals.old + length points.now ≤ vec_capacity totals.old }
     ensures rising { IsRising total_point totals.new.items }
@@ -130,5 +129,44 @@ pub(crate) fn begin_totals(totals: &mut Vec<TotalRow>, points: &[PointRow])
 {
     for point in points {
         begin_total(totals, point);
+    }
+}
+
+/// The same from the last to the first.
+fn begin_downwards(totals: &mut Vec<TotalRow>, points: &[PointRow])
+    requires rising { IsRising total_point totals.old.items }
+    requires room { vec_len totals.old + length points.now ≤ vec_capacity totals.old }
+    ensures rising { IsRising total_point totals.new.items }
+    ensures put { as_sums totals.new.items ≡ with_sums (totals_of points.now []) (as_sums totals.old.items) }
+    ensures room { (more : ℕ) → vec_len totals.old + length points.now + more ≤ vec_capacity totals.old → vec_len totals.new + more ≤ vec_capacity totals.new }
+{
+    let mut left = points.len();
+    while left > 0 {
+        left -= 1;
+        begin_total(totals, &points[left]);
+    }
+}
+
+/// Whether the last point has a smaller number than the first.
+fn end_lower(points: &[PointRow]) -> bool {
+    match points {
+        [first, .., last] => last.number < first.number,
+        _ => false,
+    }
+}
+
+/// Puts the total 0 for each of these points that is a counter, where there is room for all. Each total is 0, so any
+/// order will do: they are put as their numbers rise, as those of an office do, so that no total has to move.
+pub(crate) fn begin_totals(totals: &mut Vec<TotalRow>, points: &[PointRow])
+    requires rising { IsRising total_point totals.old.items }
+    requires room { vec_len totals.old + length points.now ≤ vec_capacity totals.old }
+    ensures rising { IsRising total_point totals.new.items }
+    ensures put { as_sums totals.new.items ≡ with_sums (totals_of points.now []) (as_sums totals.old.items) }
+    ensures room { (more : ℕ) → vec_len totals.old + length points.now + more ≤ vec_capacity totals.old → vec_len totals.new + more ≤ vec_capacity totals.new }
+{
+    if end_lower(points) {
+        begin_downwards(totals, points);
+    } else {
+        begin_upwards(totals, points);
     }
 }

@@ -5,7 +5,7 @@ use Rattle.poll_book.specs.Tables.{with_sums}
 use Rattle.poll_book.specs.Totals.{totals_of}
 use Rattle.poll_book.specs.Changes.{as_sums}
 use Rattle.poll_book.proofs.Summed.{begun_last}
-use Rattle.poll_book.proofs.totals.begin_totals.Goals as goal
+use Rattle.poll_book.proofs.totals.begin_upwards.Goals as goal
 
 pub loop-point-preserved : goal.loop-point-preserved
 loop-point-preserved c =

@@ -5,7 +5,7 @@ use Rattle.poll_book.specs.Totals.{totals_of}
 use Rattle.poll_book.specs.Changes.{as_sums}
 use Rattle.poll_book.specs.Histories.{IsRising}
 use Rattle.poll_book.specs.Marks.{total_point}
-use Rattle.poll_book.proofs.totals.begin_totals.Given as goal
+use Rattle.poll_book.proofs.totals.begin_upwards.Given as goal
 
 abbrev pub invariant-loop-point : goal.invariant-loop-point
 invariant-loop-point l = record {
