@@ -90,16 +90,11 @@ impl Ends {
         }
     }
 
-    /// Follows the voided slot of a change, if it was written. Where it wasn't nothing stays known, since the database may
-    /// be closed, which the next question has to find.
-    pub(crate) fn follow_void(&mut self, void: Option<VoidRow>, is_written: bool)
-        ensures written { is_written ≡ true → (table : Voids) → AreEnds self.old.known.items table → AreEnds self.new.known.items (with_voided void table) }
-        ensures forgotten { is_written ≡ false → (table : Voids) → AreEnds self.new.known.items table }
+    /// Follows the voided slot of a change, whether or not it was written: an end may stand too far behind.
+    pub(crate) fn follow_void(&mut self, void: Option<VoidRow>)
+        ensures same { (table : Voids) → AreEnds self.old.known.items table → AreEnds self.new.known.items table }
+        ensures voided { (table : Voids) → AreEnds self.old.known.items table → AreEnds self.new.known.items (with_voided void table) }
     {
-        if !is_written {
-            self.known.clear();
-            return;
-        }
         if let Some(row) = void {
             self.raise(row.point, row.slot);
         }
@@ -194,10 +189,12 @@ fn is_behind_voids<S: Alter>(
     }
 }
 
-/// Whether a slot of a point is voided. Behind the end of its voids none is.
+/// Whether a slot of a point is voided. Behind the end of its voids none is, but where the database may be closed it is
+/// asked all the same, since it may refuse.
 pub(crate) fn is_void<S: Alter>(
     connection: &mut Connection<S>,
     ends: &mut Ends,
+    may_be_closed: bool,
     point: u32,
     slot: u32,
 ) -> Result<bool, StoreFault>
@@ -209,7 +206,10 @@ pub(crate) fn is_void<S: Alter>(
     ensures keeps { Keeps (state S.Store connection.old) (state S.Store connection.new) }
     ensures idle { connection.new.in_transaction ≡ false }
 {
-    if point <= MOST_REMEMBERED && is_behind_voids(connection, ends, point, slot) {
+    if !may_be_closed
+        && point <= MOST_REMEMBERED
+        && is_behind_voids(connection, ends, point, slot)
+    {
         return Ok(false);
     }
     voids::is_void(connection, point, slot)

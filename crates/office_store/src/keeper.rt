@@ -40,6 +40,8 @@ pub struct SqlKeeper<S: Alter> {
     void_ends: Ends,
     // How many calls were refused, up to the greatest count.
     refusals: u64,
+    // How many were when a void was last told: where more are, the database may be closed.
+    told_at: u64,
     // How many look-ups were made, up to the greatest count.
     lookups: u64,
     ghost idle: { connection.in_transaction ≡ false },
@@ -101,6 +103,7 @@ impl<S: Alter> SqlKeeper<S> {
                         ends: Ends::new(alloc),
                         void_ends: Ends::new(alloc),
                         refusals: 0,
+                        told_at: 0,
                         lookups: 0,
                     })
                 } else {
@@ -183,9 +186,13 @@ impl<S: Alter> Neighbours for SqlKeeper<S> {
         let is = ends::is_void(
             &mut self.connection,
             &mut self.void_ends,
+            self.refusals != self.told_at,
             point.number,
             slot,
         );
+        if is.is_ok() {
+            self.told_at = self.refusals;
+        }
         counted(&mut self.refusals, is)
     }
 
@@ -279,7 +286,7 @@ impl<S: Alter> Keeper for SqlKeeper<S> {
         let is_written = written.is_ok();
         self.waiting = waiting::followed(self.waiting.take(), &change.setting, is_written);
         self.ends.follow(change.readings.as_slice(), is_written);
-        self.void_ends.follow_void(change.void, is_written);
+        self.void_ends.follow_void(change.void);
         counted(&mut self.refusals, written)
     }
 }

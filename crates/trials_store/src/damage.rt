@@ -1,7 +1,7 @@
 //! Files without room, files of which one call fails, and files with a damaged byte, under the database
 //! of an office: what it still answers is right, and the rest is refused.
 use crate::disks::{Failing, Which};
-use crate::plays::{POINTS, Playing, copies, done_on, new_tables, options};
+use crate::plays::{POINTS, Playing, Task, copies, done_on, new_tables, options};
 use office_core::OfficeError;
 use office_plays::steps::Happens::{self, Arrive, Ask, Load, Open, Order, Send};
 use poll_book::StoreFault;
@@ -24,7 +24,7 @@ const HAPPENINGS: &[Happens] = &[
 
 /// What is wrong with a file.
 #[derive(Clone, Copy, Debug)]
-enum Harm {
+pub(crate) enum Harm {
     /// It has little room.
     Room,
     /// One of its calls fails.
@@ -56,6 +56,15 @@ impl Harm {
             Harm::Call | Harm::Byte => StoreFault::Disk,
         }
     }
+
+    /// What happens to an office over such files.
+    fn playing(self) -> Playing {
+        Playing {
+            is_new: false,
+            happenings: HAPPENINGS,
+            fault: self.fault(),
+        }
+    }
 }
 
 /// Whether a greater step harms nothing: with room for all, or where fewer calls were made.
@@ -67,11 +76,12 @@ fn is_past(harm: Harm, files: &Files<Failing<Rot<Memory>>>, refused: Option<u32>
     }
 }
 
-/// How many events an office over harmed files refuses; `None` where a greater step harms nothing.
-fn refused(
+/// How often a task over harmed files is refused; `None` where a greater step harms nothing.
+fn refused<T: Task>(
     trial: &Trial<'_>,
     tables: &Files<Memory>,
     (harm, which): (Harm, Which),
+    task: &T,
     step: usize,
 ) -> Result<Option<u32>, OfficeError> {
     // A log that is to grow is never copied into the database file, else it is every few frames. Most pages
@@ -86,21 +96,38 @@ fn refused(
         log: Failing::new(Rot::new(files.log, log.2), log.0, log.1),
         db: Failing::new(Rot::new(files.db, db.2), db.0, db.1),
     };
-    let playing = Playing {
-        is_new: false,
-        happenings: HAPPENINGS,
-        fault: harm.fault(),
-    };
-    let (reached, files) = done_on(trial, files, options(1, frames), &playing)?;
+    let (reached, files) = done_on(trial, files, options(1, frames), task)?;
     let refused = reached.map(|reached| reached.refused);
-    Ok(if is_past(harm, &files, refused) {
-        None
-    } else {
-        Some(refused.unwrap_or(0))
-    })
+    if is_past(harm, &files, refused) {
+        trial.told(&"nothing harmed", &refused, &Some(0));
+        return Ok(None);
+    }
+    Ok(Some(refused.unwrap_or(0)))
 }
 
-/// Step by step, until none harms or for so many, so many offices refuse something.
+/// Does a task over harmed files of tables step by step, until none harms or for so many; so many times something is
+/// refused.
+pub(crate) fn are_harmed<T: Task>(
+    trial: &Trial<'_>,
+    tables: &Files<Memory>,
+    case: (Harm, Which),
+    task: &T,
+    steps: usize,
+    least: u32,
+) -> Result<(), OfficeError> {
+    let mut times = 0u32;
+    for step in 0..steps {
+        match refused(trial, tables, case, task, step)? {
+            None => break,
+            Some(0) => {}
+            Some(_) => times = times.saturating_add(1),
+        }
+    }
+    trial.told(&(case, times), &(times >= least), &true);
+    Ok(())
+}
+
+/// So many offices over harmed files refuse something.
 fn are_refused(
     trial: &Trial<'_>,
     case: (Harm, Which),
@@ -108,16 +135,7 @@ fn are_refused(
     least: u32,
 ) -> Result<(), OfficeError> {
     let tables = new_tables(trial)?;
-    let mut offices = 0u32;
-    for step in 0..steps {
-        match refused(trial, &tables, case, step)? {
-            None => break,
-            Some(0) => {}
-            Some(_) => offices = offices.saturating_add(1),
-        }
-    }
-    trial.told(&(case, offices), &(offices >= least), &true);
-    Ok(())
+    are_harmed(trial, &tables, case, &case.0.playing(), steps, least)
 }
 
 fn rooms(trial: &Trial<'_>) -> Result<(), OfficeError> {

@@ -1,6 +1,6 @@
 //! What an office over a database keeps: which databases and sites open, what a stop at each write leaves, also where
 //! tables of version 1 are moved; files that are full, that fail once, and that have a damaged byte; rows that no
-//! office writes; readings that are written together; the totals that are stored.
+//! office writes; readings that are written together; the totals that are stored; voids behind a change that is refused.
 #![tactic(auto)]
 
 #[cfg(test)]
@@ -21,3 +21,5 @@ mod stops;
 mod together;
 #[cfg(test)]
 mod totals;
+#[cfg(test)]
+mod voids;

@@ -121,12 +121,17 @@ pub(crate) fn empty_files(alloc: Global) -> Files<Memory>
     }
 }
 
-/// The files of new tables, which are in the log: it isn't copied.
-pub(crate) fn new_tables(trial: &Trial<'_>) -> Result<Files<Memory>, OfficeError> {
+/// The files of tables that are made so, which are in the log: it isn't copied.
+pub(crate) fn tables_of(trial: &Trial<'_>, making: &Playing) -> Result<Files<Memory>, OfficeError> {
     let files = empty_files(trial.alloc());
-    let (made, files) = done_on(trial, files, options(64, 1_000), &MAKING)?;
+    let (made, files) = done_on(trial, files, options(64, 1_000), making)?;
     trial.told(&"tables", &made.is_some(), &true);
     Ok(files)
+}
+
+/// The files of new tables.
+pub(crate) fn new_tables(trial: &Trial<'_>) -> Result<Files<Memory>, OfficeError> {
+    tables_of(trial, &MAKING)
 }
 
 /// What happens to an office, whose tables are made first where it is new. What its store refuses it
@@ -217,7 +222,10 @@ fn kept_in<S: Alter + Drop>(
 }
 
 /// The store that was refused. Refused memory ends the attempt.
-fn left<S: Alter + Drop>(error: OfficeError, connection: Connection<S>) -> Result<S, OfficeError> {
+pub(crate) fn left<S: Alter + Drop>(
+    error: OfficeError,
+    connection: Connection<S>,
+) -> Result<S, OfficeError> {
     if error == MEMORY {
         return Err(MEMORY);
     }

@@ -36,7 +36,7 @@ returns-clause-ok g c kept held fresh =
     subst (λ (rows : List ReadingRow). AreEnds c.follow.new.self.known.items (with_rows (as_rows rows) kept.readings)) c.as_slice.ensures
     (c.follow.ensures.written written kept.readings (held.1 (done.clean clean))) in
     let void_ends : HasVoidEnds new c.follow_void.new.self.known.items after =
-    λ clean. c.follow_void.ensures.written written kept.voids (held.2 (done.clean clean)) in
+    λ clean. c.follow_void.ensures.voided kept.voids (held.2 (done.clean clean)) in
     (noted, ends, void_ends) in
     told_ok c.apply-written.result c.counted.result c.counted.ensures.answer still (done.ok kept (λ before. (held.0 before).0) fresh)
 
@@ -56,7 +56,7 @@ returns-clause-err g c =
     let ends : HasEnds new c.follow.new.self.known.items kept =
     λ clean. subst (λ (ends : Ends). AreEnds ends.known.items kept.readings) (sym (c.follow.ensures.same written)) (held.1 (done.clean clean)) in
     let void_ends : HasVoidEnds new c.follow_void.new.self.known.items kept =
-    λ clean. c.follow_void.ensures.forgotten written kept.voids in
+    λ clean. c.follow_void.ensures.same kept.voids (held.2 (done.clean clean)) in
     (noted, ends, void_ends) in
     told_err c.apply-written.result c.counted.result c.counted.ensures.answer still done.err
 
