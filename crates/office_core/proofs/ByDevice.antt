@@ -77,11 +77,6 @@ one_more_there known i d device lt =
     ∙ sym (places_push 0 device (take i known) (get_or known i d))
     ∙ ap (places_from 0 device) (sym (take_more known i d lt))
 
--- the label of a text is that text
-pub label_is : (b : Bool) (label text : List ℕ) → Some label ≡ cond b (Some text) None → label ≡ text
-label_is true label text e = cc
-label_is false label text e = absurd (cc)
-
 -- ---- what stands at them
 
 -- past the end of the points nothing stands

@@ -2,7 +2,7 @@ use Rattle.std.proofs.Common.{◌∙◌, ◌≡◌, ap}
 use Rattle.std.proofs.lemmas.List.{take_all}
 use Rattle.point_list.specs.Label.{is_label}
 use Rattle.office_core.specs.ByDevice.{listed, places_from, places_in}
-use Rattle.office_core.proofs.ByDevice.{label_is}
+use Rattle.poll_book.proofs.Marked.{label_is}
 use Rattle.office_core.proofs.by_device.ByDevice.places.Goals as goal
 
 pub returns-in-Some : goal.returns-in-Some

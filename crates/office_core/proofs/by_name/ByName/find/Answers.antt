@@ -4,7 +4,7 @@ use Rattle.std.proofs.lemmas.List.{take_all}
 use Rattle.point_list.specs.Name.{is_name}
 use Rattle.poll_book.specs.declared.rows.PointRow.{PointRow}
 use Rattle.office_core.specs.ByName.{is_named, place_of, row_at}
-use Rattle.office_core.proofs.ByDevice.{label_is}
+use Rattle.poll_book.proofs.Marked.{label_is}
 use Rattle.office_core.proofs.ByName.{named_there}
 use Rattle.office_core.proofs.by_name.ByName.find.Goals as goal
 
