@@ -117,7 +117,7 @@ fn prepare(names: &mut ByName, known: &[PointRow], rows: usize) -> Result<(), Al
 }
 
 /// What becomes of a list of these points, and the rows of those that it adds.
-fn judge_points(
+fn judge_known(
     alloc: Global,
     known: &[PointRow],
     names: &mut ByName,
@@ -144,6 +144,29 @@ fn judge_points(
         return Ok((refused(fault, 0, 0), Vec::new(alloc)));
     }
     Ok((Outcome::Loaded(points.len() as u32), new))
+}
+
+/// The same. Where memory is refused, what the known points take by their names is given back.
+fn judge_points(
+    alloc: Global,
+    known: &[PointRow],
+    names: &mut ByName,
+    points: &[Point],
+) -> Result<(Outcome, Vec<PointRow>), StoreFault>
+    requires names_of { AreNamesOf known.now names.old }
+    requires many { length known.now ≤ 10000 }
+    requires few { length points.now ≤ 10000 }
+    ensures names_of { AreNamesOf known.now names.new }
+    ensures outcome { IfOk result (λ x. (rows : List ListRow) → ArePointsOf rows points.now → x.0 ≡ loads.outcome (loads.loading_of known.now (Ok rows))) }
+    ensures added { IfOk result (λ x. (rows : List ListRow) → ArePointsOf rows points.now → x.1.items ≡ loads.added (length known.now) (loads.loading_of known.now (Ok rows))) }
+    ensures few { IfOk result (λ x. length known.now + length x.1.items ≤ 10000) }
+    ensures memory { IfErr result (λ e. e ≡ StoreFault.Memory) }
+{
+    let judged = judge_known(alloc, known, names, points);
+    if judged.is_err() {
+        *names = ByName::new(alloc);
+    }
+    judged
 }
 
 fn judge_fault(alloc: Global, error: ListError) -> Result<(Outcome, Vec<PointRow>), StoreFault>

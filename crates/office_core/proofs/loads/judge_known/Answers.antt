@@ -4,7 +4,7 @@ use Rattle.point_list.specs.declared.point.ListRow.{ListRow}
 use Rattle.poll_book.specs.declared.requests.Outcome.TheVariants.{Loaded}
 use Rattle.office_core.specs.Loads as loads
 use Rattle.office_core.proofs.Loading.{overfull, taken_so}
-use Rattle.office_core.proofs.loads.judge_points.Goals as goal
+use Rattle.office_core.proofs.loads.judge_known.Goals as goal
 
 pub returns-then-known-len-gt10000-clause-outcome : goal.returns-then-known-len-gt10000-clause-outcome
 returns-then-known-len-gt10000-clause-outcome c = λ rows are.
