@@ -1,4 +1,6 @@
 //! The digest of what an office answers.
+use std::alloc::{AllocError, Global};
+use std::fmt::Debug;
 
 /// FNV-1a of 64 bits (Fowler, Noll, Vo) over all that was added.
 #[derive(Drop)]
@@ -17,6 +19,13 @@ impl Digest {
 
     pub fn add_number(&mut self, number: u64) {
         self.add(&number.to_be_bytes());
+    }
+
+    /// A value, as its `Debug` writes it.
+    pub fn add_value<T: Debug>(&mut self, alloc: Global, value: &T) -> Result<(), AllocError> {
+        let text = format!(in alloc; "{value:?}")?;
+        self.add(text.as_bytes());
+        Ok(())
     }
 
     pub fn number(&self) -> u64 {

@@ -4,7 +4,7 @@ use crate::work::{Size, granted, print_digest};
 use office_core::{Office, RequestAnswer};
 use office_net::{LineJob, jobs_of};
 use office_plays::builders::{HEADER, begun, named};
-use poll_book::MemKeeper;
+use poll_book::{MemKeeper, PointRow};
 use std::alloc::{AllocError, Global};
 use std::io;
 use workload_plant::{Dice, Digest, Plant};
@@ -37,16 +37,21 @@ fn add_load(
     list: &str,
 ) -> Option<()> {
     let answer = load(office, key, list)?;
-    let text = format!(in alloc; "{answer:?}").ok()?;
-    digest.add(text.as_bytes());
-    Some(())
+    digest.add_value(alloc, &answer).ok()
 }
 
-fn add_jobs(digest: &mut Digest, jobs: &[LineJob]) {
-    for job in jobs {
-        if let LineJob::Read { read, .. } = job {
-            digest.add_number(u64::from(read.span.start));
-            digest.add_number(u64::from(read.span.quantity));
+fn add_job(digest: &mut Digest, job: &LineJob) {
+    match job {
+        LineJob::Order { device } => {
+            digest.add(&[0]);
+            digest.add(device.as_bytes());
+        }
+        LineJob::Read { device, read } => {
+            digest.add(&[1]);
+            digest.add(device.as_bytes());
+            digest.add(&[read.function]);
+            digest.add(&read.span.start.to_be_bytes());
+            digest.add(&read.span.quantity.to_be_bytes());
         }
     }
 }
@@ -60,9 +65,26 @@ fn add_plans(
     for line in 0..lines {
         let line = u16::try_from(line).ok()?;
         let jobs = jobs_of(alloc, office.site(), office.points(), line).ok()?;
-        add_jobs(digest, &jobs);
+        for job in &jobs {
+            add_job(digest, job);
+        }
     }
     Some(())
+}
+
+// Field by field and not as a text, so that little of the time is the benchmark's own.
+fn add_point(digest: &mut Digest, row: &PointRow) {
+    let point = &row.point;
+    digest.add(&row.number.to_be_bytes());
+    digest.add(point.name.as_bytes());
+    digest.add(&point.address.to_be_bytes());
+    digest.add(point.device.as_bytes());
+    digest.add(&[point.table as u8, point.role as u8, point.order as u8]);
+    let kind = point.kind.row();
+    digest.add(&[kind.code]);
+    digest.add(&kind.registers.to_be_bytes());
+    digest.add(&point.scale.to_be_bytes());
+    digest.add_number(point.roll);
 }
 
 /// The list with one row more, of which the scale is wrong, behind which a right one stands.
@@ -83,7 +105,11 @@ fn add_office(alloc: Global, digest: &mut Digest, plant: &Plant, dice: &mut Dice
     add_load(alloc, digest, &mut office, "second", list.as_str())?;
     let wrong = wrong(alloc, list.as_str()).ok()?;
     add_load(alloc, digest, &mut office, "third", wrong.as_str())?;
-    add_plans(alloc, digest, &office, plant.lines)
+    add_plans(alloc, digest, &office, plant.lines)?;
+    for row in office.points() {
+        add_point(digest, row);
+    }
+    Some(())
 }
 
 /// Sites of 243 devices on 64 lines.

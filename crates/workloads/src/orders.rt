@@ -2,9 +2,9 @@
 //! devices have their settings alone, or some forty points more each.
 use crate::work::{Size, granted, print_digest};
 use mb_mbap::Frame;
-use office_core::{Arrival, Office};
+use office_core::{Arrival, Office, RequestAnswer};
 use office_plays::builders::{HEADER, begun, named};
-use poll_book::MemKeeper;
+use poll_book::{MemKeeper, Outcome};
 use poll_match::Conn;
 use std::alloc::{AllocError, Global};
 use std::io;
@@ -25,10 +25,9 @@ fn list(alloc: Global, plant: &Plant) -> Result<String, AllocError> {
 
 // The calls of an office stand in functions that promise nothing of them.
 
-fn load(office: &mut Office<MemKeeper>, list: &str) -> Option<()> {
+fn load(office: &mut Office<MemKeeper>, list: &str) -> Option<RequestAnswer> {
     let (caller, key) = named("list").ok()?;
-    office.load(&caller, &key, list.as_bytes()).ok()?;
-    Some(())
+    office.load(&caller, &key, list.as_bytes()).ok()
 }
 
 /// The order of a value for a device's setting, under the key of its number.
@@ -38,14 +37,13 @@ fn order(
     number: u32,
     device: u32,
     value: u32,
-) -> Option<()> {
+) -> Option<RequestAnswer> {
     let key = format!(in alloc; "order-{number}").ok()?;
     let point = format!(in alloc; "meter-{device}.limit").ok()?;
     let (caller, key) = named(key.as_str()).ok()?;
     office
         .order(&caller, &key, point.as_str(), i128::from(value))
-        .ok()?;
-    Some(())
+        .ok()
 }
 
 fn send(office: &mut Office<MemKeeper>, conn: Conn, number: u32) -> Option<Frame> {
@@ -65,6 +63,26 @@ fn conns(alloc: Global, office: &mut Office<MemKeeper>, lines: u32) -> Option<Ve
     Some(conns)
 }
 
+// Of an order that is accepted its number, and no text, so that little of the time is the benchmark's own.
+fn add_answer(alloc: Global, digest: &mut Digest, answer: &RequestAnswer) -> Option<()> {
+    match answer {
+        RequestAnswer::Kept {
+            first: true,
+            outcome: Outcome::Ordered(number),
+        } => digest.add_number(u64::from(*number)),
+        _ => digest.add_value(alloc, answer).ok()?,
+    }
+    Some(())
+}
+
+fn add_arrival(digest: &mut Digest, arrival: Arrival) {
+    match arrival {
+        Arrival::Settled => digest.add(&[0]),
+        Arrival::Recorded(count) => digest.add(&count.to_be_bytes()),
+        Arrival::Excepted(code) => digest.add(&[1, code]),
+    }
+}
+
 /// The order of a number is sent to its device, whose echo settles it.
 fn settle(
     digest: &mut Digest,
@@ -74,8 +92,7 @@ fn settle(
 ) -> Option<()> {
     let sent = send(office, conn, number)?;
     digest.add(sent.encode().as_bytes());
-    let arrival = arrive(office, conn, &sent)?;
-    digest.add_number(u64::from(arrival == Arrival::Settled));
+    add_arrival(digest, arrive(office, conn, &sent)?);
     Some(())
 }
 
@@ -96,13 +113,9 @@ fn carry_out(
     let mut dice = Dice::new(plant.seed);
     for before in 0..count {
         let number = before + 1;
-        order(
-            alloc,
-            office,
-            number,
-            device_of(plant, number),
-            dice.below(10_000),
-        )?;
+        let device = device_of(plant, number);
+        let answer = order(alloc, office, number, device, dice.below(10_000))?;
+        add_answer(alloc, digest, &answer)?;
         if number > WAITING {
             let due = number - WAITING;
             let line = plant.line_of(device_of(plant, due));
@@ -113,12 +126,13 @@ fn carry_out(
 }
 
 /// An office that knows the points.
-fn office_of(alloc: Global, plant: &Plant) -> Option<Office<MemKeeper>> {
+fn office_of(alloc: Global, digest: &mut Digest, plant: &Plant) -> Option<Office<MemKeeper>> {
     let site = plant.site(alloc).ok()?;
     let mut office = begun(alloc, MemKeeper::new(alloc), site.as_str())
         .ok()?
         .ok()?;
-    load(&mut office, list(alloc, plant).ok()?.as_str())?;
+    let answer = load(&mut office, list(alloc, plant).ok()?.as_str())?;
+    add_answer(alloc, digest, &answer)?;
     Some(office)
 }
 
@@ -131,11 +145,8 @@ fn ordered(rt: &HostRuntime, name: &str, seed: u32, points: u32, count: u32) -> 
         seed,
     };
     let mut digest = Digest::new();
-    let mut office = granted(office_of(rt.alloc(), &plant))?;
-    // Of settings alone nothing more is told than what is sent, and that all are settled.
-    if points > 0 {
-        digest.add_number(office.points().len() as u64);
-    }
+    let mut office = granted(office_of(rt.alloc(), &mut digest, &plant))?;
+    digest.add_number(office.points().len() as u64);
     granted(carry_out(rt.alloc(), &mut digest, &mut office, &plant, count))?;
     print_digest(rt, name, &digest)
 }

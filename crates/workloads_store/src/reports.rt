@@ -58,9 +58,9 @@ pub fn report<K: Keeper + Drop>(
         seed,
     };
     let slots = size.of(500, 6);
-    let mut office = granted(office_of(rt.alloc(), keeper, &plant))?;
-    let mut lines = granted(Lines::open(rt.alloc(), plant, &mut office))?;
     let mut digest = Digest::new();
+    let mut office = granted(office_of(rt.alloc(), keeper, &mut digest, &plant))?;
+    let mut lines = granted(Lines::open(rt.alloc(), plant, &mut office))?;
     granted(lines.poll_slots(&mut office, &mut digest, 0, 0..slots))?;
     granted(tell(
         rt.alloc(),

@@ -2,7 +2,7 @@
 //! polled later, many slots at once. A few slots of a counter are voided in between.
 use crate::work::{Size, granted, print_digest};
 use mb_mbap::Counted;
-use office_core::Office;
+use office_core::{Office, RequestAnswer, ShownReading};
 use office_net::{LineJob, jobs_of, poll_round};
 use office_plays::builders::{HEADER, begun, named};
 use poll_book::Keeper;
@@ -35,16 +35,19 @@ fn list(alloc: Global, plant: &Plant) -> Result<String, AllocError> {
 
 // The calls of an office stand in functions that promise nothing of them.
 
-fn load<K: Keeper>(office: &mut Office<K>, list: &str) -> Option<()> {
+fn load<K: Keeper>(office: &mut Office<K>, list: &str) -> Option<RequestAnswer> {
     let (caller, key) = named("list").ok()?;
-    office.load(&caller, &key, list.as_bytes()).ok()?;
-    Some(())
+    office.load(&caller, &key, list.as_bytes()).ok()
 }
 
-fn void<K: Keeper>(office: &mut Office<K>, key: &str, point: &str, slot: u32) -> Option<()> {
+fn void<K: Keeper>(
+    office: &mut Office<K>,
+    key: &str,
+    point: &str,
+    slot: u32,
+) -> Option<RequestAnswer> {
     let (caller, key) = named(key).ok()?;
-    office.void(&caller, &key, point, slot).ok()?;
-    Some(())
+    office.void(&caller, &key, point, slot).ok()
 }
 
 fn opened<K: Keeper>(office: &mut Office<K>, line: &str) -> Option<Conn> {
@@ -53,6 +56,16 @@ fn opened<K: Keeper>(office: &mut Office<K>, line: &str) -> Option<Conn> {
 
 fn total<K: Keeper>(office: &mut Office<K>, point: &str) -> Option<u128> {
     office.total(point).ok()?
+}
+
+fn readings<K: Keeper>(
+    office: &mut Office<K>,
+    point: &str,
+    slots: Range<u32>,
+) -> Option<Vec<ShownReading>> {
+    office
+        .readings(point, slots.start, slots.end.saturating_sub(1))
+        .ok()?
 }
 
 fn jobs<K: Keeper>(alloc: Global, office: &Office<K>, line: u32) -> Option<Vec<LineJob>> {
@@ -65,25 +78,34 @@ fn jobs<K: Keeper>(alloc: Global, office: &Office<K>, line: u32) -> Option<Vec<L
     .ok()
 }
 
-/// What a round over these bytes tells, as a text.
-fn round<K: Keeper>(
+/// Adds what a round over these bytes tells and writes.
+fn add_round<K: Keeper>(
     alloc: Global,
     office: &mut Office<K>,
+    digest: &mut Digest,
     conn: Conn,
     slot: u32,
     bytes: &[u8],
-) -> Option<String> {
+) -> Option<()> {
     let mut reader = Counted::new(bytes);
     let mut writer = Counted::new(Vec::new(alloc));
     let told = poll_round(alloc, office, conn, slot, &mut reader, &mut writer);
-    format!(in alloc; "{told:?}").ok()
+    digest.add_value(alloc, &told).ok()?;
+    digest.add(&writer.into_inner());
+    Some(())
 }
 
 /// An office of a plant over an empty keeper, which knows its points.
-pub fn office_of<K: Keeper + Drop>(alloc: Global, keeper: K, plant: &Plant) -> Option<Office<K>> {
+pub fn office_of<K: Keeper + Drop>(
+    alloc: Global,
+    keeper: K,
+    digest: &mut Digest,
+    plant: &Plant,
+) -> Option<Office<K>> {
     let site = plant.site(alloc).ok()?;
     let mut office = begun(alloc, keeper, site.as_str()).ok()?.ok()?;
-    load(&mut office, list(alloc, plant).ok()?.as_str())?;
+    let answer = load(&mut office, list(alloc, plant).ok()?.as_str())?;
+    digest.add_value(alloc, &answer).ok()?;
     Some(office)
 }
 
@@ -150,9 +172,7 @@ impl Lines {
         let conn = *self.conns.get(line as usize)?;
         let asked = self.asked.get_mut(line as usize)?;
         let bytes = replies(self.alloc, &self.plant, jobs, line, slot, asked)?;
-        let told = round(self.alloc, office, conn, slot, &bytes)?;
-        digest.add(told.as_bytes());
-        Some(())
+        add_round(self.alloc, office, digest, conn, slot, &bytes)
     }
 
     /// Rounds of a line in these slots.
@@ -189,6 +209,7 @@ impl Lines {
 fn void_some<K: Keeper>(
     alloc: Global,
     office: &mut Office<K>,
+    digest: &mut Digest,
     plant: &Plant,
     count: u32,
     slots: u32,
@@ -198,7 +219,8 @@ fn void_some<K: Keeper>(
         let device = dice.below(plant.devices);
         let key = format!(in alloc; "void-{number}").ok()?;
         let point = format!(in alloc; "meter-{device}.p1").ok()?;
-        void(office, key.as_str(), point.as_str(), dice.below(slots))?;
+        let answer = void(office, key.as_str(), point.as_str(), dice.below(slots))?;
+        digest.add_value(alloc, &answer).ok()?;
     }
     Some(())
 }
@@ -217,6 +239,51 @@ fn add_totals<K: Keeper>(
     Some(())
 }
 
+fn add_reading(digest: &mut Digest, shown: &ShownReading) {
+    let reading = &shown.reading;
+    digest.add(&reading.point.to_be_bytes());
+    digest.add(&reading.slot.to_be_bytes());
+    for word in reading.words.as_slice() {
+        digest.add(&word.to_be_bytes());
+    }
+    digest.add(&[u8::from(reading.counted), u8::from(shown.voided)]);
+}
+
+fn add_readings<K: Keeper>(
+    alloc: Global,
+    office: &mut Office<K>,
+    digest: &mut Digest,
+    device: u32,
+    place: u32,
+    slots: Range<u32>,
+) -> Option<()> {
+    let point = format!(in alloc; "meter-{device}.p{place}").ok()?;
+    for reading in &readings(office, point.as_str(), slots)? {
+        add_reading(digest, reading);
+    }
+    Some(())
+}
+
+/// The readings of each point in a tenth of the slots, each tenth in turn, and all of the counters that may be voided.
+fn add_shown<K: Keeper>(
+    alloc: Global,
+    office: &mut Office<K>,
+    digest: &mut Digest,
+    plant: &Plant,
+    slots: u32,
+) -> Option<()> {
+    let tenth = slots.div_ceil(10);
+    for device in 0..plant.devices {
+        for place in 0..plant.points {
+            let from = (device.wrapping_add(place) % 10).wrapping_mul(tenth);
+            let some = from..from.wrapping_add(tenth);
+            add_readings(alloc, office, digest, device, place, some)?;
+        }
+        add_readings(alloc, office, digest, device, 1, 0..slots)?;
+    }
+    Some(())
+}
+
 /// All lines but one for so many slots; then that one, its later half first.
 fn live<K: Keeper>(
     office: &mut Office<K>,
@@ -227,10 +294,11 @@ fn live<K: Keeper>(
     for slot in 0..slots {
         lines.poll_others(office, digest, slot)?;
     }
-    void_some(lines.alloc, office, &lines.plant, 4, slots)?;
+    void_some(lines.alloc, office, digest, &lines.plant, 4, slots)?;
     lines.poll_slots(office, digest, AWAY, slots / 2..slots)?;
     lines.poll_slots(office, digest, AWAY, 0..slots / 2)?;
-    add_totals(lines.alloc, office, digest, &lines.plant)
+    add_totals(lines.alloc, office, digest, &lines.plant)?;
+    add_shown(lines.alloc, office, digest, &lines.plant, slots)
 }
 
 pub fn poll<K: Keeper + Drop>(
@@ -245,9 +313,9 @@ pub fn poll<K: Keeper + Drop>(
         points: size.of(40, 8),
         seed,
     };
-    let mut office = granted(office_of(rt.alloc(), keeper, &plant))?;
-    let mut lines = granted(Lines::open(rt.alloc(), plant, &mut office))?;
     let mut digest = Digest::new();
+    let mut office = granted(office_of(rt.alloc(), keeper, &mut digest, &plant))?;
+    let mut lines = granted(Lines::open(rt.alloc(), plant, &mut office))?;
     granted(live(&mut office, &mut lines, &mut digest, size.of(100, 4)))?;
     print_digest(rt, "rounds", &digest)
 }
