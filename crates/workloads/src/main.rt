@@ -1,7 +1,7 @@
 //! Jobs that a user waits for, over offices in memory, on inputs that follow from a seed: `replay SEED` plays the script
-//! of a plant, `points SEED` one that makes 10,000 points known line by line, `lists SEED` loads and plans lists of
-//! 10,000 points, `orders SEED` has orders carried out, `settings SEED` on a site of 10,000 points. Each prints a digest
-//! of all that was answered. `small SEED` does a little of each.
+//! of a plant, `points SEED` those of four, each of which makes 10,000 points known line by line, `lists SEED` loads and
+//! plans lists of 10,000 points, `orders SEED` has orders carried out, `settings SEED` on a site of 10,000 points. Each
+//! prints a digest of all that was answered. `small SEED` does a little of each.
 #![tactic(auto)]
 
 use crate::work::Size;

@@ -186,12 +186,11 @@ fn printed(alloc: Global, script: &[u8]) -> Option<Vec<u8>> {
     }
 }
 
-fn play(rt: &HostRuntime, job: &str, plant: Plant, slots: u32) -> io::Result<()> {
-    let script = written(rt.alloc(), plant, slots)?;
-    let printed = granted(printed(rt.alloc(), script.as_bytes()))?;
-    let mut digest = Digest::new();
+fn play(alloc: Global, digest: &mut Digest, plant: Plant, slots: u32) -> io::Result<()> {
+    let script = written(alloc, plant, slots)?;
+    let printed = granted(printed(alloc, script.as_bytes()))?;
     digest.add(&printed);
-    print_digest(rt, job, &digest)
+    Ok(())
 }
 
 /// A day's part of a site of 25 devices.
@@ -202,16 +201,25 @@ pub fn replayed(rt: &HostRuntime, seed: u32, size: Size) -> io::Result<()> {
         points: 40,
         seed,
     };
-    play(rt, "replay", plant, size.of(1_000, 8))
+    let mut digest = Digest::new();
+    play(rt.alloc(), &mut digest, plant, size.of(1_000, 8))?;
+    print_digest(rt, "replay", &digest)
 }
 
-/// A site of 250 devices, whose points come one by one.
+/// So many sites are played, each by a seed of its own.
+const SITES: u32 = 4;
+
+/// Sites of 243 devices, whose points come one by one.
 pub fn points(rt: &HostRuntime, seed: u32, size: Size) -> io::Result<()> {
-    let plant = Plant {
-        lines: size.of(50, 5),
-        devices: size.of(243, 20),
-        points: 40,
-        seed,
-    };
-    play(rt, "points", plant, size.of(8, 2))
+    let mut digest = Digest::new();
+    for site in 0..SITES {
+        let plant = Plant {
+            lines: size.of(50, 5),
+            devices: size.of(243, 20),
+            points: 40,
+            seed: seed.wrapping_mul(SITES).wrapping_add(site),
+        };
+        play(rt.alloc(), &mut digest, plant, size.of(8, 2))?;
+    }
+    print_digest(rt, "points", &digest)
 }
