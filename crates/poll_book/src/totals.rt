@@ -147,16 +147,9 @@ fn begin_downwards(totals: &mut Vec<TotalRow>, points: &[PointRow])
     }
 }
 
-/// Whether the last point has a smaller number than the first.
-fn end_lower(points: &[PointRow]) -> bool {
-    match points {
-        [first, .., last] => last.number < first.number,
-        _ => false,
-    }
-}
-
 /// Puts the total 0 for each of these points that is a counter, where there is room for all. Each total is 0, so any
-/// order will do: they are put as their numbers rise, as those of an office do, so that no total has to move.
+/// order will do: points whose numbers rise throughout, as those of an office do, are put from the first, so that no
+/// total has to move, and others from the last.
 pub(crate) fn begin_totals(totals: &mut Vec<TotalRow>, points: &[PointRow])
     requires rising { IsRising total_point totals.old.items }
     requires room { vec_len totals.old + length points.now ≤ vec_capacity totals.old }
@@ -164,9 +157,9 @@ pub(crate) fn begin_totals(totals: &mut Vec<TotalRow>, points: &[PointRow])
     ensures put { as_sums totals.new.items ≡ with_sums (totals_of points.now []) (as_sums totals.old.items) }
     ensures room { (more : ℕ) → vec_len totals.old + length points.now + more ≤ vec_capacity totals.old → vec_len totals.new + more ≤ vec_capacity totals.new }
 {
-    if end_lower(points) {
-        begin_downwards(totals, points);
-    } else {
+    if points.is_sorted_by_key(|row| row.number) {
         begin_upwards(totals, points);
+    } else {
+        begin_downwards(totals, points);
     }
 }
