@@ -2,10 +2,10 @@
 //! polled later, many slots at once. A few slots of a counter are voided in between.
 use crate::work::{Size, granted, print_digest};
 use mb_mbap::Counted;
-use office_core::{Office, RequestAnswer, ShownReading};
+use office_core::{Office, RequestAnswer};
 use office_net::{LineJob, jobs_of, poll_round};
 use office_plays::builders::{HEADER, begun, named};
-use poll_book::Keeper;
+use poll_book::{Keeper, PointRow, ReadingRow};
 use poll_match::Conn;
 use std::alloc::{AllocError, Global};
 use std::io;
@@ -58,14 +58,16 @@ fn total<K: Keeper>(office: &mut Office<K>, point: &str) -> Option<u128> {
     office.total(point).ok()?
 }
 
-fn readings<K: Keeper>(
-    office: &mut Office<K>,
-    point: &str,
-    slots: Range<u32>,
-) -> Option<Vec<ShownReading>> {
-    office
-        .readings(point, slots.start, slots.end.saturating_sub(1))
-        .ok()?
+fn kept_points<K: Keeper>(alloc: Global, keeper: &mut K) -> Option<Vec<PointRow>> {
+    keeper.points(alloc).ok()
+}
+
+fn kept_readings<K: Keeper>(
+    alloc: Global,
+    keeper: &mut K,
+    point: &PointRow,
+) -> Option<Vec<ReadingRow>> {
+    keeper.readings(alloc, point, 0, u32::MAX).ok()
 }
 
 fn jobs<K: Keeper>(alloc: Global, office: &Office<K>, line: u32) -> Option<Vec<LineJob>> {
@@ -239,47 +241,21 @@ fn add_totals<K: Keeper>(
     Some(())
 }
 
-fn add_reading(digest: &mut Digest, shown: &ShownReading) {
-    let reading = &shown.reading;
+fn add_reading(digest: &mut Digest, reading: &ReadingRow) {
     digest.add(&reading.point.to_be_bytes());
     digest.add(&reading.slot.to_be_bytes());
     for word in reading.words.as_slice() {
         digest.add(&word.to_be_bytes());
     }
-    digest.add(&[u8::from(reading.counted), u8::from(shown.voided)]);
+    digest.add(&[u8::from(reading.counted)]);
 }
 
-fn add_readings<K: Keeper>(
-    alloc: Global,
-    office: &mut Office<K>,
-    digest: &mut Digest,
-    device: u32,
-    place: u32,
-    slots: Range<u32>,
-) -> Option<()> {
-    let point = format!(in alloc; "meter-{device}.p{place}").ok()?;
-    for reading in &readings(office, point.as_str(), slots)? {
-        add_reading(digest, reading);
-    }
-    Some(())
-}
-
-/// The readings of each point in a tenth of the slots, each tenth in turn, and all of the counters that may be voided.
-fn add_shown<K: Keeper>(
-    alloc: Global,
-    office: &mut Office<K>,
-    digest: &mut Digest,
-    plant: &Plant,
-    slots: u32,
-) -> Option<()> {
-    let tenth = slots.div_ceil(10);
-    for device in 0..plant.devices {
-        for place in 0..plant.points {
-            let from = (device.wrapping_add(place) % 10).wrapping_mul(tenth);
-            let some = from..from.wrapping_add(tenth);
-            add_readings(alloc, office, digest, device, place, some)?;
+/// All readings that a keeper has: of a slot that is voided none counts.
+fn add_readings<K: Keeper>(alloc: Global, keeper: &mut K, digest: &mut Digest) -> Option<()> {
+    for point in &kept_points(alloc, keeper)? {
+        for reading in &kept_readings(alloc, keeper, point)? {
+            add_reading(digest, reading);
         }
-        add_readings(alloc, office, digest, device, 1, 0..slots)?;
     }
     Some(())
 }
@@ -297,8 +273,7 @@ fn live<K: Keeper>(
     void_some(lines.alloc, office, digest, &lines.plant, 4, slots)?;
     lines.poll_slots(office, digest, AWAY, slots / 2..slots)?;
     lines.poll_slots(office, digest, AWAY, 0..slots / 2)?;
-    add_totals(lines.alloc, office, digest, &lines.plant)?;
-    add_shown(lines.alloc, office, digest, &lines.plant, slots)
+    add_totals(lines.alloc, office, digest, &lines.plant)
 }
 
 pub fn poll<K: Keeper + Drop>(
@@ -317,5 +292,7 @@ pub fn poll<K: Keeper + Drop>(
     let mut office = granted(office_of(rt.alloc(), keeper, &mut digest, &plant))?;
     let mut lines = granted(Lines::open(rt.alloc(), plant, &mut office))?;
     granted(live(&mut office, &mut lines, &mut digest, size.of(100, 4)))?;
+    let mut keeper = office.into_keeper();
+    granted(add_readings(rt.alloc(), &mut keeper, &mut digest))?;
     print_digest(rt, "rounds", &digest)
 }
