@@ -4,7 +4,8 @@ use Rattle.std.specs.Prelude.{◌&&◌, ◌||◌, IfOk, Vec, filter, slice_get}
 use Rattle.std.specs.BTreeMap.{BTreeMap, get, is_at}
 use Rattle.std.specs.Cmp.Lexicographic.{slice_cmp}
 use Rattle.std.specs.Global.{Global}
-use Rattle.std.specs.List.{cons_option, list_any}
+use Rattle.std.specs.List.{AllWithin, cons_option, list_any}
+use Rattle.std.specs.List.Sorted.{IsNonDecreasingBy}
 use Rattle.std.specs.Ordering.{nat_cmp}
 use Rattle.std.specs.Str.{bytes_eq}
 use Rattle.std.proofs.lemmas.Option.{slice_get-get_or, slice_get_past}
@@ -126,6 +127,35 @@ pub all_there : (known : List PointRow) (device : List ℕ) → points_at known 
 all_there known device =
     subst (λ (l : List PointRow). points_at l (places_from 0 device known) ≡ filter (is_of device) l) (take_all (length known) known (omega arith)) (points_there (length known) known device)
 
+-- each place is one from this number on
+from_on : (n : ℕ) (device : List ℕ) (rest : List PointRow) (i d : ℕ) → i < length (places_from n device rest) → n ≤ get_or (places_from n device rest) i d
+from_on n device [] i d lt = absurd (omega (arith, lt))
+from_on n device (row ∷ rest) i d lt = by (is_of device row) i lt (from_on (n + 1) device rest)
+  where
+    next : List ℕ
+    next = places_from (n + 1) device rest
+
+    by : (b : Bool) (i : ℕ) → i < length (cond b (n ∷ next) next) → ((j d : ℕ) → j < length next → n + 1 ≤ get_or next j d) → n ≤ get_or (cond b (n ∷ next) next) i d
+    by true zero lt more = omega arith
+    by true (suc j) lt more = let high = more j d (omega (arith, lt)) in omega (arith, high)
+    by false i lt more = let high = more i d lt in omega (arith, high)
+
+-- the places of a device rise
+pub places_rise : (n : ℕ) (device : List ℕ) (rest : List PointRow) → IsNonDecreasingBy (λ (place : ℕ). place) (places_from n device rest)
+places_rise n device [] i j d le lt = absurd (omega (arith, lt))
+places_rise n device (row ∷ rest) i j d le lt = by (is_of device row) i j le lt (places_rise (n + 1) device rest)
+  where
+    next : List ℕ
+    next = places_from (n + 1) device rest
+
+    by : (b : Bool) (i j : ℕ) → i ≤ j → j < length (cond b (n ∷ next) next)
+        → ((i j d : ℕ) → i ≤ j → j < length next → get_or next i d ≤ get_or next j d) → get_or (cond b (n ∷ next) next) i d ≤ get_or (cond b (n ∷ next) next) j d
+    by true zero zero le lt more = omega arith
+    by true zero (suc j) le lt more = let high = from_on (n + 1) device rest j d (omega (arith, lt)) in omega (arith, high)
+    by true (suc i) zero le lt more = absurd (omega (arith, le))
+    by true (suc i) (suc j) le lt more = more i j d (omega (arith, le)) (omega (arith, lt))
+    by false i j le lt more = more i j d le lt
+
 -- where one of the places stands past some points, it and those behind it have none of them
 pub none_behind : (some : List PointRow) (n : ℕ) (device : List ℕ) (rest : List PointRow) (i : ℕ) → i < length (places_from n device rest)
     → length some ≤ get_or (places_from n device rest) i 0 → points_at some (drop i (places_from n device rest)) ≡ []
@@ -151,6 +181,18 @@ front_enough some known device places i is lt le =
     ∙ ap (λ (l : List PointRow). points_at some (take i places) ++ l) (sym nothing)
     ∙ sym (filter_map-append (slice_get some) (take i places) (drop i places))
     ∙ ap (points_at some) (take-append-drop i places)
+
+-- and so are those in front of the first one that isn't below a number of them
+pub front_of : (some known : List PointRow) (device : List ℕ) (places : List ℕ) (i count : ℕ) → places ≡ places_from 0 device known → length some ≤ count
+    → AllWithin (λ (place : ℕ). ltb place count ≡ false) places i (length places) → points_at some (take i places) ≡ points_at some places
+front_of some known device places i count is few behind = by (ltb i (length places)) refl
+  where
+    by : (b : Bool) → ltb i (length places) ≡ b → points_at some (take i places) ≡ points_at some places
+    by true e =
+        let lt = ltb-true _ _ e in
+        let high = ltb-false _ _ (behind i 0 (omega arith) lt) in
+        front_enough some known device places i is lt (omega (arith, few, high))
+    by false e = ap (points_at some) (take_all i places (ltb-false _ _ e))
 
 -- ---- tests that only those of the device pass
 

@@ -10,8 +10,8 @@ use poll_book::PointRow;
 use std::alloc::{AllocError, Global};
 use std::collections::BTreeMap;
 
-/// So many points are put in by a call beside those that it is told to, however many there are.
-const AT_ONCE: usize = 16;
+/// So few points are gone through one by one, which costs less than to make a label and look it up.
+const FEW: usize = 16;
 
 /// The places of the first so many known points by the names of their devices, of each device in the points' order.
 #[derive(Drop)]
@@ -63,14 +63,14 @@ impl ByDevice {
         }
     }
 
-    /// Puts points in that don't stand in it yet: so many, and a few more, as far as there is memory.
+    /// Puts so many points in that don't stand in it yet, or all where they are fewer, as far as there is memory.
     pub(crate) fn follow(&mut self, known: &[PointRow], some: usize)
         requires few { length known.now ≤ 10000 }
         requires of { AreDevicesOf known.now self.old }
         ensures { AreDevicesOf known.now self.new }
     {
         let missing = known.len() - self.count;
-        let end = self.count + missing.min(some.saturating_add(AT_ONCE));
+        let end = self.count + missing.min(some);
         while self.count < end {
             let row = known[self.count];
             let Ok(()) = self.put(row.point.device, self.count as u32) else {
@@ -96,17 +96,23 @@ impl ByDevice {
         Some(number as usize - 1)
     }
 
-    /// The places of the points of a device, where all known points stand in it.
+    /// The places of the points of a device, where all known points stand in it and it pays to go through these alone:
+    /// not where the points are few, or more than half of them are the device's.
     pub(crate) fn places(&self, known: &[PointRow], device: &[u8]) -> Option<&[u32]>
         requires { AreDevicesOf known.now self.now }
         ensures { AreTheirs known.now device.now result }
     {
-        if self.count < known.len() {
+        if self.count < known.len() || known.len() <= FEW {
             return None;
         }
         let device = Label::new(device)?;
         match self.places.get(&device) {
-            Some(places) => Some(places.as_slice()),
+            Some(places) => {
+                if places.len() > known.len() / 2 {
+                    return None;
+                }
+                Some(places.as_slice())
+            }
             None => Some(&[]),
         }
     }

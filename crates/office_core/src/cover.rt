@@ -222,12 +222,7 @@ fn covered_at(
 fn before(places: &[u32], count: usize) -> &[u32]
     ensures { (known : List ARow) (device : List ℕ) → places.now ≡ places_from 0 device known → points_at (take count known) result.now ≡ points_at (take count known) places.now }
 {
-    for end in 0..places.len() {
-        if places[end] as usize >= count {
-            return &places[..end];
-        }
-    }
-    places
+    &places[..places.partition_point(|place| (*place as usize) < count)]
 }
 
 /// What a reply gives to the points that its query covers, of those the first `count` ones, that were known.

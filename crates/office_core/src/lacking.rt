@@ -34,6 +34,7 @@ fn one_lacks<K: Keeper>(
 }
 
 /// Whether a read covers a point that has no reading in the slot.
+#[inline(always)]
 fn lacks<K: Keeper>(
     keeper: &mut K,
     row: &PointRow,
@@ -55,6 +56,7 @@ fn lacks<K: Keeper>(
 }
 
 /// The same of the point at a place, if there is one.
+#[inline(always)]
 fn lacks_at<K: Keeper>(
     keeper: &mut K,
     known: &[PointRow],

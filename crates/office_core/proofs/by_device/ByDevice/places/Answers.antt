@@ -5,8 +5,8 @@ use Rattle.office_core.specs.ByDevice.{listed, places_from, places_in}
 use Rattle.poll_book.proofs.Marked.{label_is}
 use Rattle.office_core.proofs.by_device.ByDevice.places.Goals as goal
 
-pub returns-in-Some : goal.returns-in-Some
-returns-in-Some c =
+pub returns-else-len-known : goal.returns-else-len-known
+returns-else-len-known c =
     let known = c.args.known.now in
     let devices = c.args.self.now in
     let label : c.in_ok-device.device ≡ c.args.device.now = label_is (is_label c.args.device.now) c.in_ok-device.device c.args.device.now c.in_ok-device.ensures in
