@@ -12,8 +12,8 @@ use poll_book::PointRow;
 use std::alloc::{AllocError, Global};
 use std::collections::BTreeMap;
 
-/// So many points are put in by a call beside those that it is told to, however many there are.
-const AT_ONCE: usize = 16;
+/// So few points are looked through one by one, which costs less than to make a name and look it up.
+const FEW: usize = 16;
 
 /// The places of the first so many known points by their names, of each name the first.
 #[derive(Drop)]
@@ -48,20 +48,25 @@ impl ByName {
         }
     }
 
-    /// Puts points in that don't stand in it yet: so many, and a few more.
+    /// Puts so many points in that don't stand in it yet, or all where they are fewer.
     pub(crate) fn follow(&mut self, known: &[PointRow], some: usize) -> Result<(), AllocError>
         requires few { length known.now ≤ 10000 }
         requires of { AreNamesOf known.now self.old }
         ensures { AreNamesOf known.now self.new }
     {
         let missing = known.len() - self.count;
-        let end = self.count + missing.min(some.saturating_add(AT_ONCE));
+        let end = self.count + missing.min(some);
         while self.count < end {
             let name = known[self.count].point.name;
             self.put(name, self.count as u32)?;
             self.count += 1;
         }
         Ok(())
+    }
+
+    /// Whether all known points stand in it.
+    pub(crate) fn has_all(&self, known: &[PointRow]) -> bool {
+        self.count >= known.len()
     }
 
     /// The point at the place that stands under a name.
@@ -74,12 +79,12 @@ impl ByName {
         }
     }
 
-    /// The known point of a name. It is looked for one by one where not all points stand in it.
+    /// The known point of a name. It is looked for one by one where not all points stand in it, or they are few.
     pub(crate) fn find(&self, known: &[PointRow], name: &[u8]) -> Option<PointRow>
         requires { AreNamesOf known.now self.now }
         ensures { result ≡ loads.known_named known.now name.now }
     {
-        if self.count < known.len() {
+        if self.count < known.len() || known.len() <= FEW {
             return known_named(known, name);
         }
         match Name::new(name) {

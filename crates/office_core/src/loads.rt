@@ -1,5 +1,5 @@
 //! What becomes of a list that is loaded.
-ghost use Rattle.std.specs.Prelude.{◌≡◌, ◌≢◌, ◌≤◌, ◌+◌, ◌⊎◌, [], List, false, length, option_map, None, Some, IfOk, IfErr, OnOk, Ok, Err};
+ghost use Rattle.std.specs.Prelude.{◌≡◌, ◌≢◌, ◌≤◌, ◌+◌, ◌⊎◌, [], List, false, length, option_map, None, Some, IfOk, IfErr, IfSome, OnOk, Ok, Err};
 ghost use Rattle.std.specs.List.{position};
 ghost use Rattle.std.specs.Str.{bytes_eq};
 ghost use Rattle.point_list.specs.Edition.{Second};
@@ -103,36 +103,40 @@ fn refused(fault: RequestFault, row: u32, column: u8) -> Outcome
     Outcome::RefusedFor(Reason { fault, row, column })
 }
 
-/// Puts all known points in by name before so many rows are looked for, if the list is long enough to pay for it. It is
-/// refused where there is no memory for that.
-fn prepare(names: &mut ByName, known: &[PointRow], rows: usize) -> Result<(), AllocError>
-    requires names_of { AreNamesOf known.now names.old }
+/// All known points by name, if so many rows pay for it and not all stand in what there is. It is refused where there is
+/// no memory for that.
+fn all_names(
+    alloc: Global,
+    known: &[PointRow],
+    names: &ByName,
+    rows: usize,
+) -> Result<Option<ByName>, AllocError>
     requires many { length known.now ≤ 10000 }
-    ensures { AreNamesOf known.now names.new }
+    ensures { IfOk result (λ made. IfSome made (AreNamesOf known.now)) }
 {
-    if rows >= MANY {
-        return names.follow(known, known.len());
+    if rows < MANY || names.has_all(known) {
+        return Ok(None);
     }
-    Ok(())
+    let mut all = ByName::new(alloc);
+    all.follow(known, known.len())?;
+    Ok(Some(all))
 }
 
 /// What becomes of a list of these points, and the rows of those that it adds.
 fn judge_known(
     alloc: Global,
     known: &[PointRow],
-    names: &mut ByName,
+    names: &ByName,
     points: &[Point],
 ) -> Result<(Outcome, Vec<PointRow>), StoreFault>
-    requires names_of { AreNamesOf known.now names.old }
+    requires names_of { AreNamesOf known.now names.now }
     requires many { length known.now ≤ 10000 }
     requires few { length points.now ≤ 10000 }
-    ensures names_of { AreNamesOf known.now names.new }
     ensures outcome { IfOk result (λ x. (rows : List ListRow) → ArePointsOf rows points.now → x.0 ≡ loads.outcome (loads.loading_of known.now (Ok rows))) }
     ensures added { IfOk result (λ x. (rows : List ListRow) → ArePointsOf rows points.now → x.1.items ≡ loads.added (length known.now) (loads.loading_of known.now (Ok rows))) }
     ensures few { IfOk result (λ x. length known.now + length x.1.items ≤ 10000) }
     ensures memory { IfErr result (λ e. e ≡ StoreFault.Memory) }
 {
-    prepare(names, known, points.len())?;
     let new = match new_points(alloc, known, names, points)? {
         Ok(new) => new,
         Err(row) => {
@@ -146,41 +150,60 @@ fn judge_known(
     Ok((Outcome::Loaded(points.len() as u32), new))
 }
 
-/// The same. Where memory is refused, what the known points take by their names is given back.
+/// What becomes of a list.
+#[derive(Drop)]
+pub(crate) struct Judged {
+    pub(crate) outcome: Outcome,
+    /// The rows of the points that it adds.
+    pub(crate) points: Vec<PointRow>,
+    /// All points that were known before by name, where the list put them together. They are kept once its change is
+    /// written: what a list that is refused has taken is given back.
+    pub(crate) names: Option<ByName>,
+}
+
+/// What becomes of a list of these points.
 fn judge_points(
     alloc: Global,
     known: &[PointRow],
-    names: &mut ByName,
+    names: &ByName,
     points: &[Point],
-) -> Result<(Outcome, Vec<PointRow>), StoreFault>
-    requires names_of { AreNamesOf known.now names.old }
+) -> Result<Judged, StoreFault>
+    requires names_of { AreNamesOf known.now names.now }
     requires many { length known.now ≤ 10000 }
     requires few { length points.now ≤ 10000 }
-    ensures names_of { AreNamesOf known.now names.new }
-    ensures outcome { IfOk result (λ x. (rows : List ListRow) → ArePointsOf rows points.now → x.0 ≡ loads.outcome (loads.loading_of known.now (Ok rows))) }
-    ensures added { IfOk result (λ x. (rows : List ListRow) → ArePointsOf rows points.now → x.1.items ≡ loads.added (length known.now) (loads.loading_of known.now (Ok rows))) }
-    ensures few { IfOk result (λ x. length known.now + length x.1.items ≤ 10000) }
+    ensures names_of { IfOk result (λ x. IfSome x.names (AreNamesOf known.now)) }
+    ensures outcome { IfOk result (λ x. (rows : List ListRow) → ArePointsOf rows points.now → x.outcome ≡ loads.outcome (loads.loading_of known.now (Ok rows))) }
+    ensures added { IfOk result (λ x. (rows : List ListRow) → ArePointsOf rows points.now → x.points.items ≡ loads.added (length known.now) (loads.loading_of known.now (Ok rows))) }
+    ensures few { IfOk result (λ x. length known.now + length x.points.items ≤ 10000) }
     ensures memory { IfErr result (λ e. e ≡ StoreFault.Memory) }
 {
-    let judged = judge_known(alloc, known, names, points);
-    if judged.is_err() {
-        *names = ByName::new(alloc);
-    }
-    judged
+    let all = all_names(alloc, known, names, points.len())?;
+    let judged = match &all {
+        Some(all) => judge_known(alloc, known, all, points),
+        None => judge_known(alloc, known, names, points),
+    };
+    let (outcome, points) = judged?;
+    Ok(Judged {
+        outcome,
+        points,
+        names: all,
+    })
 }
 
-fn judge_fault(alloc: Global, error: ListError) -> Result<(Outcome, Vec<PointRow>), StoreFault>
-    ensures outcome { IfOk result (λ x. x.0 ≡ loads.outcome (loads.Refused (loads.list_reason error))) }
-    ensures added { IfOk result (λ x. x.1.items ≡ []) }
+fn judge_fault(alloc: Global, error: ListError) -> Result<Judged, StoreFault>
+    ensures outcome { IfOk result (λ x. x.outcome ≡ loads.outcome (loads.Refused (loads.list_reason error))) }
+    ensures added { IfOk result (λ x. x.points.items ≡ []) }
+    ensures names { IfOk result (λ x. x.names ≡ None) }
     ensures fault { OnOk result (error.fault ≢ ListFault.Memory) }
     ensures memory { IfErr result (λ e. e ≡ StoreFault.Memory) }
 {
     match error.fault {
         ListFault::Memory => Err(StoreFault::Memory),
-        fault => {
-            let outcome = refused(RequestFault::List(fault), error.row, error.column);
-            Ok((outcome, Vec::new(alloc)))
-        }
+        fault => Ok(Judged {
+            outcome: refused(RequestFault::List(fault), error.row, error.column),
+            points: Vec::new(alloc),
+            names: None,
+        }),
     }
 }
 
@@ -198,22 +221,21 @@ fn points_in(alloc: Global, site: &Site, list: &[u8]) -> Result<Vec<Point>, List
     }
 }
 
-/// What becomes of a list by a site and the points that are known, and the rows of the points that
-/// it adds.
+/// What becomes of a list by a site and the points that are known.
 pub(crate) fn judge(
     alloc: Global,
     site: &Site,
     known: &[PointRow],
-    names: &mut ByName,
+    names: &ByName,
     list: &[u8],
-) -> Result<(Outcome, Vec<PointRow>), StoreFault>
+) -> Result<Judged, StoreFault>
     requires sound { IsSound site.now }
-    requires names_of { AreNamesOf known.now names.old }
+    requires names_of { AreNamesOf known.now names.now }
     requires many { length known.now ≤ 10000 }
-    ensures names_of { AreNamesOf known.now names.new }
-    ensures outcome { IfOk result (λ x. x.0 ≡ loads.outcome (loads.loading Second site.now known.now list.now)) }
-    ensures added { IfOk result (λ x. x.1.items ≡ loads.added (length known.now) (loads.loading Second site.now known.now list.now)) }
-    ensures few { IfOk result (λ x. length known.now + length x.1.items ≤ 10000) }
+    ensures names_of { IfOk result (λ x. IfSome x.names (AreNamesOf known.now)) }
+    ensures outcome { IfOk result (λ x. x.outcome ≡ loads.outcome (loads.loading Second site.now known.now list.now)) }
+    ensures added { IfOk result (λ x. x.points.items ≡ loads.added (length known.now) (loads.loading Second site.now known.now list.now)) }
+    ensures few { IfOk result (λ x. length known.now + length x.points.items ≤ 10000) }
     ensures memory { IfErr result (λ e. e ≡ StoreFault.Memory) }
 {
     match points_in(alloc, site, list) {

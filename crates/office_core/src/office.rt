@@ -1,5 +1,5 @@
 //! The office over any keeper.
-ghost use Rattle.std.specs.Prelude.{All, ◌≡◌, ◌<◌, ◌≤◌, ◌⊎◌, ◌∷◌, ◌++◌, ◌+◌, ◌*◌, ℕ, IfOk, IfErr, OnOk, OnErr, MatchResult, Some, None, length, false, true, option_map, vec_len, vec_capacity};
+ghost use Rattle.std.specs.Prelude.{All, ◌≡◌, ◌<◌, ◌≤◌, ◌⊎◌, ◌∷◌, ◌++◌, ◌+◌, ◌*◌, ℕ, IfOk, IfErr, IfSome, List, OnOk, OnErr, MatchResult, Some, None, length, false, true, option_map, vec_len, vec_capacity};
 ghost use Rattle.poll_book.specs.Fault.{Accounts, HasCause};
 ghost use Rattle.poll_book.specs.Looks.{IsRaisedAtMost};
 ghost use Rattle.poll_book.specs.Tables.{Tables, Within};
@@ -23,7 +23,7 @@ use crate::cover::is_readable;
 use crate::error::OfficeError;
 use crate::event::{Arrival, Event, EventAnswer, RequestAnswer};
 use crate::lacking::some_lacks;
-use crate::loads::judge;
+use crate::loads::{Judged, judge};
 use crate::orders::{judge_order, judge_send};
 use crate::requests::{list_again, list_row, order_again, order_row, void_again, void_row};
 use crate::showing::{ShownReading, shown};
@@ -68,6 +68,18 @@ fn judge_ask(
     Ok(to)
 }
 
+/// Takes all points by name in the place of some of them, where there are all.
+fn take_names(by_name: &mut ByName, all: Option<ByName>)
+    ensures { (known : List PointRow) → AreNamesOf known by_name.old → IfSome all (AreNamesOf known) → AreNamesOf known by_name.new }
+{
+    if let Some(all) = all {
+        *by_name = all;
+    }
+}
+
+/// So many points that no map has yet are put into both beside those that a list adds.
+const BESIDE: usize = 16;
+
 /// Adds rows to a copy of the points that has room for them.
 fn push_points(points: &mut Vec<PointRow>, rows: &[PointRow])
     requires { vec_len points.old + length rows.now ≤ vec_capacity points.old }
@@ -94,18 +106,19 @@ fn add_points(
     ensures names { AreNamesOf points.new.items by_name.new }
 {
     push_points(points, rows);
-    by_device.follow(points, rows.len());
-    let _ = by_name.follow(points, rows.len());
+    let count = rows.len().saturating_add(BESIDE);
+    by_device.follow(points, count);
+    let _ = by_name.follow(points, count);
 }
 
-/// Puts points in behind an arrival that looked for those of a device.
+/// Puts a point in behind an arrival that looked for those of a device.
 fn follow_behind(by_device: &mut ByDevice, points: &[PointRow], arrival: &Arrival)
     requires few { length points.now ≤ 10000 }
     requires devices { AreDevicesOf points.now by_device.old }
     ensures { AreDevicesOf points.now by_device.new }
 {
     if let Arrival::Recorded(_) = arrival {
-        by_device.follow(points, 0);
+        by_device.follow(points, 1);
     }
 }
 
@@ -263,12 +276,16 @@ impl<K: Keeper> Office<K> {
         ensures same { is_refusal (told_so result) ≡ true → IsAlike self.old self.new }
         ensures clean { K.is_clean (keeper_of self.new) → K.is_clean (keeper_of self.old) }
     {
-        let names = &mut self.by_name;
-        let (outcome, points) = judge(self.alloc, &self.site, &self.points, names, list)?;
+        let Judged {
+            outcome,
+            points,
+            names,
+        } = judge(self.alloc, &self.site, &self.points, &self.by_name, list)?;
         let request = list_row(self.alloc, caller, key, list, outcome)?;
         self.points.reserve(points.len())?;
         let change = request_change(self.alloc, points, None, request);
         commit(&mut self.keeper, &change)?;
+        take_names(&mut self.by_name, names);
         add_points(
             &mut self.points,
             &mut self.by_device,
@@ -332,7 +349,7 @@ impl<K: Keeper> Office<K> {
         let request = order_row(self.alloc, caller, key, point, value, outcome)?;
         let change = request_change(self.alloc, Vec::new(self.alloc), setting, request);
         write(&mut self.keeper, change)?;
-        let _ = self.by_name.follow(&self.points, 0);
+        let _ = self.by_name.follow(&self.points, 1);
         Ok(RequestAnswer::Kept {
             first: true,
             outcome,
@@ -392,7 +409,7 @@ impl<K: Keeper> Office<K> {
         )?;
         let request = void_row(self.alloc, caller, key, point, slot, outcome)?;
         write(&mut self.keeper, with_request(change, request))?;
-        let _ = self.by_name.follow(&self.points, 0);
+        let _ = self.by_name.follow(&self.points, 1);
         Ok(RequestAnswer::Kept {
             first: true,
             outcome,
@@ -640,9 +657,7 @@ impl<K: Keeper> Office<K> {
             return Ok(None);
         };
         let rows = self.keeper.readings(self.alloc, &row, from, to)?;
-        let told = shown(self.alloc, &mut self.keeper, &row, rows)?;
-        let _ = self.by_name.follow(&self.points, 0);
-        Ok(Some(told))
+        Ok(Some(shown(self.alloc, &mut self.keeper, &row, rows)?))
     }
 
     /// Whether some known point of a device that a read covers has no reading in the slot.
@@ -655,16 +670,14 @@ impl<K: Keeper> Office<K> {
         ensures leaves { K.is_clean (keeper_of self.new) → LeavesNoMore self.old self.new }
         ensures clean { K.is_clean (keeper_of self.new) → K.is_clean (keeper_of self.old) }
     {
-        let lacks = some_lacks(
+        Ok(some_lacks(
             &mut self.keeper,
             &self.points,
             &self.by_device,
             device.as_bytes(),
             slot,
             read,
-        )?;
-        self.by_device.follow(&self.points, 0);
-        Ok(lacks)
+        )?)
     }
 
     /// How far a counter went by its counted readings; `None` where no counter of this name is
@@ -684,9 +697,7 @@ impl<K: Keeper> Office<K> {
         let Role::Counter = row.point.role else {
             return Ok(None);
         };
-        let total = self.keeper.total(&row)?;
-        let _ = self.by_name.follow(&self.points, 0);
-        Ok(Some(total))
+        Ok(Some(self.keeper.total(&row)?))
     }
 
     /// The first request of a caller under a key, and what became of it; `None` where the key wasn't

@@ -33,8 +33,8 @@ returns-clause-goes g c clean =
     let list = c.args.list.now in
     let more = added (length known) (loading Second office.site known list) in
     let told = outcome (loading Second office.site known list) in
-    let is_told : c.in_ok-outcome.outcome ≡ told = c.in_ok-outcome.ensures.outcome ∙ ap (λ (l : List PointRow). outcome (loading Second office.site l list)) c.deref.ensures.value in
-    let is_more : c.in_ok-outcome.points.items ≡ more = c.in_ok-outcome.ensures.added ∙ ap (λ (l : List PointRow). added (length l) (loading Second office.site l list)) c.deref.ensures.value in
+    let is_told : c.in_ok-outcome.field-0.outcome ≡ told = c.in_ok-outcome.ensures.outcome ∙ ap (λ (l : List PointRow). outcome (loading Second office.site l list)) c.deref.ensures.value in
+    let is_more : c.in_ok-outcome.field-0.points.items ≡ more = c.in_ok-outcome.ensures.added ∙ ap (λ (l : List PointRow). added (length l) (loading Second office.site l list)) c.deref.ensures.value in
     let request : RequestRow = record { caller = c.args.caller.now; key = c.args.key.now; body = body.List list; outcome = told } in
     let is_request : c.in_ok-request.request ≡ request = c.in_ok-request.ensures ∙ (λ i. record request { outcome = is_told i }) in
     let change : c.request_change-change.result ≡ asked_change more None request = c.request_change-change.ensures ∙ (λ i. asked_change (is_more i) None (is_request i)) in
@@ -52,7 +52,7 @@ returns-clause-goes g c clean =
 pub invariant_of-self-2 : goal.invariant_of-self-2
 invariant_of-self-2 g c =
     let known = c.args.self.now.points.items in
-    let rows = c.in_ok-outcome.points.items in
+    let rows = c.in_ok-outcome.field-0.points.items in
     let more : c.add_points.new.points.items ≡ known ++ rows =
     c.add_points.ensures.points ∙ (λ i. c.reserve.ensures.items i ++ (c.as_slice.ensures ∙ ap (λ (x : Change). x.points) c.request_change-change.ensures) i) in
     record { few = omega (arith, ap length more, length-append known rows, c.in_ok-outcome.ensures.few, ap length c.deref.ensures.value); devices = c.add_points.ensures.devices; names = c.add_points.ensures.names; sound = c.args.self.now.sound }
@@ -67,15 +67,15 @@ returns-clause-leaves g c clean =
     let list = c.args.list.now in
     let more = added (length known) (loading Second office.site known list) in
     let told = outcome (loading Second office.site known list) in
-    let is_told : c.in_ok-outcome.outcome ≡ told = c.in_ok-outcome.ensures.outcome ∙ ap (λ (l : List PointRow). outcome (loading Second office.site l list)) c.deref.ensures.value in
-    let is_more : c.in_ok-outcome.points.items ≡ more = c.in_ok-outcome.ensures.added ∙ ap (λ (l : List PointRow). added (length l) (loading Second office.site l list)) c.deref.ensures.value in
+    let is_told : c.in_ok-outcome.field-0.outcome ≡ told = c.in_ok-outcome.ensures.outcome ∙ ap (λ (l : List PointRow). outcome (loading Second office.site l list)) c.deref.ensures.value in
+    let is_more : c.in_ok-outcome.field-0.points.items ≡ more = c.in_ok-outcome.ensures.added ∙ ap (λ (l : List PointRow). added (length l) (loading Second office.site l list)) c.deref.ensures.value in
     let request : RequestRow = record { caller = c.args.caller.now; key = c.args.key.now; body = body.List list; outcome = told } in
     let is_request : c.in_ok-request.request ≡ request = c.in_ok-request.ensures ∙ (λ i. record request { outcome = is_told i }) in
     let change : c.request_change-change.result ≡ asked_change more None request = c.request_change-change.ensures ∙ (λ i. asked_change (is_more i) None (is_request i)) in
     let numbered : (kept : Tables) → known ≡ kept.points → AreNumbered (length kept.points) more =
     λ kept copy. subst (λ (l : List PointRow). AreNumbered (length l) more) copy (numbered_added (length known) (loading Second office.site known list)) in
     leaves_unused holds may may' office.site known office.matcher (c.args.caller.now, c.args.key.now) office.site (known ++ more) office.matcher (Load c.args.caller.now c.args.key.now list)
-    (answer.Request (Kept true c.in_ok-outcome.outcome)) (answer.Request (Kept true told)) false refl refl
+    (answer.Request (Kept true c.in_ok-outcome.field-0.outcome)) (answer.Request (Kept true told)) false refl refl
     (λ at. loaded_goes (At holds at) office.site known office.matcher c.args.caller.now c.args.key.now list (Left may may' at false)
     (λ kept h copy unused left m. inl (c.in_ok-commit.ensures.leaves clean kept h.0
     (new_loaded more request c.request_change-change.result kept change copy.1 (numbered kept copy.0) unused) left m
@@ -92,8 +92,8 @@ returns-in_err-commit-clause-leaves g c clean =
     let list = c.args.list.now in
     let more = added (length known) (loading Second office.site known list) in
     let told = outcome (loading Second office.site known list) in
-    let is_told : c.in_ok-outcome.outcome ≡ told = c.in_ok-outcome.ensures.outcome ∙ ap (λ (l : List PointRow). outcome (loading Second office.site l list)) c.deref.ensures.value in
-    let is_more : c.in_ok-outcome.points.items ≡ more = c.in_ok-outcome.ensures.added ∙ ap (λ (l : List PointRow). added (length l) (loading Second office.site l list)) c.deref.ensures.value in
+    let is_told : c.in_ok-outcome.field-0.outcome ≡ told = c.in_ok-outcome.ensures.outcome ∙ ap (λ (l : List PointRow). outcome (loading Second office.site l list)) c.deref.ensures.value in
+    let is_more : c.in_ok-outcome.field-0.points.items ≡ more = c.in_ok-outcome.ensures.added ∙ ap (λ (l : List PointRow). added (length l) (loading Second office.site l list)) c.deref.ensures.value in
     let request : RequestRow = record { caller = c.args.caller.now; key = c.args.key.now; body = body.List list; outcome = told } in
     let is_request : c.in_ok-request.request ≡ request = c.in_ok-request.ensures ∙ (λ i. record request { outcome = is_told i }) in
     let change : c.request_change-change.result ≡ asked_change more None request = c.request_change-change.ensures ∙ (λ i. asked_change (is_more i) None (is_request i)) in

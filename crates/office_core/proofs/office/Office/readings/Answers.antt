@@ -14,6 +14,6 @@ returns-clause-value g c clean before stands =
     let named : known_named office.points.items name ≡ Some known = rw (c.deref.ensures.value, c.as_bytes.ensures.value) at (sym c.find.ensures ∙ c.in-Some.is) in
     let found : known_named (points before) name ≡ Some known = ap (λ l. known_named l name) (sym stands.points) ∙ named in
     let rows = c.in_ok-rows.ensures.value (c.shown.ensures.clean clean) (tables before) stands.tables in
-    let shown = c.in_ok-told.ensures.value clean (tables before) (c.readings.ensures.same (tables before) stands.tables)
+    let shown = c.in_ok-shown.ensures.value clean (tables before) (c.readings.ensures.same (tables before) stands.tables)
     (of_between known.number c.args.from c.args.to (kept_readings before) c.in_ok-rows.rows.items rows) in
-    subst (λ o. Shows (readings_at before o c.args.from c.args.to) (Some c.in_ok-told.told)) (sym found) (shown ∙ ap (with_marks (voids before)) rows)
+    subst (λ o. Shows (readings_at before o c.args.from c.args.to) (Some c.in_ok-shown.field-0)) (sym found) (shown ∙ ap (with_marks (voids before)) rows)
