@@ -56,8 +56,7 @@ mod PutTotal
 mod SetTotal
 mod FirstTotals
 mod ShownTotals
-mod VoidKeys
-mod LastVoid
+mod NextVoid
 mod VoidCount
 mod PutVoid
 mod Moving

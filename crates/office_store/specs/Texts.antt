@@ -40,11 +40,8 @@ request_text = codes "SELECT caller, rkey, kind, body, answer, a, b, c FROM requ
 abbrev pub total_text : List ℕ
 total_text = codes "SELECT point, value FROM total WHERE point = ?1 ORDER BY point"
 
-abbrev pub void_key_text : List ℕ
-void_key_text = codes "SELECT point, slot FROM void WHERE point = ?1 AND slot = ?2"
-
-abbrev pub last_void_text : List ℕ
-last_void_text = codes "SELECT point, slot FROM void WHERE point = ?1 ORDER BY slot DESC LIMIT 1"
+abbrev pub next_void_text : List ℕ
+next_void_text = codes "SELECT point, slot FROM void WHERE point = ?1 AND slot >= ?2 ORDER BY slot LIMIT 1"
 
 abbrev pub voids_text : List ℕ
 voids_text = codes "SELECT COUNT(*) FROM void"

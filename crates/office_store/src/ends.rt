@@ -1,15 +1,17 @@
-//! Where the readings and the voids of points end: it is asked for once, and followed as they come, so that a slot behind
-//! the end, as that of a new reading is, needs no statement.
+//! Where the readings and the voids of points end. The end of readings is asked for once, that of voids is a slot from
+//! which on a question was told that none is left, and both are followed as rows come: so a slot behind the end, as that
+//! of a new reading is, needs no statement.
 
-ghost use Rattle.std.specs.Prelude.{◌≡◌, ◌<◌, ◌≤◌, false, true, All, IfOk, IfSome, is_some};
+ghost use Rattle.std.specs.Prelude.{◌≡◌, ◌+◌, ◌<◌, ◌≤◌, ◌↔◌, ℕ, false, true, max, All, IfErr, IfOk, IfSome, IsTrue, Ok, Some, is_some, vec_len};
 ghost use Rattle.sqlite.specs.Held.{state};
 ghost use Rattle.sqlite.specs.State.{HasCleanDisk};
 ghost use Rattle.poll_book.specs.Changes.{as_rows, with_voided};
 ghost use Rattle.poll_book.specs.Tables.{Key, Readings, Tables, Voids, is_void, reading_at, with_rows};
 ghost use Rattle.poll_book.specs.Totals.{value_after};
-ghost use Rattle.office_store.specs.Ends.{AreEnds, HasEnds, HasVoidEnds, IsEndOf, IsWithin, end_at};
+ghost use Rattle.office_store.specs.Ends.{AreEnds, FailsToTell, HasEnds, HasVoidEnds, IsEndOf, IsWithin, end_at};
 ghost use Rattle.office_store.specs.Kept.{Holds, Keeps};
 
+use crate::voids::VoidsFrom;
 use crate::{readings, voids};
 use poll_book::{PointRow, ReadingRow, StoreFault, VoidRow};
 use sqlite::{Alter, Connection};
@@ -18,6 +20,9 @@ use std::alloc::Global;
 /// The greatest number of a point of which the end of voids is remembered: an office has no greater one, and what is
 /// remembered takes room up to the greatest number.
 const MOST_REMEMBERED: u32 = 10_000;
+
+/// The list of voids' ends gets longer by so many places at most in one question.
+const PLACES_A_QUESTION: usize = 16;
 
 /// A slot for each point, by the points' numbers, that all its rows of a table stand before: 0 where it has none, and
 /// nothing where it isn't known.
@@ -58,6 +63,44 @@ impl Ends {
             }
         }
         self.known[place] = Some(end);
+    }
+
+    /// Brings the list nearer to the place of a point, by a few places at most. It stops where memory is refused.
+    fn approach(&mut self, point: u32)
+        ensures same { (number : ℕ) → end_at self.new.known.items number ≡ end_at self.old.known.items number }
+        ensures longer { vec_len self.new.known ≤ vec_len self.old.known + 16 }
+        ensures toward { vec_len self.new.known ≤ max (vec_len self.old.known) (point + 1) }
+    {
+        let most = self.known.len().saturating_add(PLACES_A_QUESTION);
+        let reached = most.min(point as usize + 1);
+        while self.known.len() < reached {
+            if self.known.push(None).is_err() {
+                return;
+            }
+        }
+    }
+
+    /// Remembers the end of a point if its place is there, or comes with the few places that the list gets longer by.
+    fn note_if_near(&mut self, point: u32, end: u64)
+        ensures within { (key : Key) → IsWithin self.old.known.items key → (key.0 ≡ point → key.1 < end) → IsWithin self.new.known.items key }
+        ensures known { point < vec_len self.new.known → end_at self.new.known.items point ≡ Some end }
+        ensures longer { vec_len self.new.known ≤ vec_len self.old.known + 16 }
+        ensures toward { vec_len self.new.known ≤ max (vec_len self.old.known) (point + 1) }
+    {
+        self.approach(point);
+        if let Some(known) = self.known.get_mut(point as usize) {
+            *known = Some(end);
+        }
+    }
+
+    /// Whether a slot is known to stand behind the end of a point.
+    fn is_behind(&self, point: u32, slot: u32) -> bool
+        ensures { IsTrue result ↔ (end : ℕ) × (end_at self.now.known.items point ≡ Some end) × (end ≤ slot) }
+    {
+        match self.at(point) {
+            Some(end) => end <= u64::from(slot),
+            None => false,
+        }
     }
 
     /// Moves the end of a point behind a slot of it.
@@ -145,52 +188,8 @@ pub(crate) fn has_reading<S: Alter>(
     readings::has_reading(connection, point, slot)
 }
 
-/// The end of a point's voids, which is asked for if it isn't known. It stays unknown where the database doesn't tell it:
-/// a question that is only to save others refuses nothing.
-fn void_end_of<S: Alter>(connection: &mut Connection<S>, ends: &mut Ends, point: u32) -> Option<u64>
-    requires { connection.old.in_transaction ≡ false }
-    ensures value { HasCleanDisk (state S.Store connection.new) → (kept : Tables) → Holds (state S.Store connection.old) kept
-        → HasVoidEnds (state S.Store connection.old) ends.old.known.items kept → IfSome result (λ end. IsEndOf point end kept.voids) }
-    ensures same { (kept : Tables) → Holds (state S.Store connection.old) kept → HasVoidEnds (state S.Store connection.old) ends.old.known.items kept
-        → HasVoidEnds (state S.Store connection.new) ends.new.known.items kept }
-    ensures keeps { Keeps (state S.Store connection.old) (state S.Store connection.new) }
-    ensures idle { connection.new.in_transaction ≡ false }
-{
-    if let Some(end) = ends.at(point) {
-        return Some(end);
-    }
-    match voids::end_of(connection, point) {
-        Ok(end) => {
-            ends.note(point, end);
-            Some(end)
-        }
-        Err(_) => None,
-    }
-}
-
-/// Whether a slot is known to stand behind all voids of a point.
-fn is_behind_voids<S: Alter>(
-    connection: &mut Connection<S>,
-    ends: &mut Ends,
-    point: u32,
-    slot: u32,
-) -> bool
-    requires { connection.old.in_transaction ≡ false }
-    ensures value { HasCleanDisk (state S.Store connection.new) → (kept : Tables) → Holds (state S.Store connection.old) kept
-        → HasVoidEnds (state S.Store connection.old) ends.old.known.items kept → result ≡ true → false ≡ is_void kept.voids (point, slot) }
-    ensures same { (kept : Tables) → Holds (state S.Store connection.old) kept → HasVoidEnds (state S.Store connection.old) ends.old.known.items kept
-        → HasVoidEnds (state S.Store connection.new) ends.new.known.items kept }
-    ensures keeps { Keeps (state S.Store connection.old) (state S.Store connection.new) }
-    ensures idle { connection.new.in_transaction ≡ false }
-{
-    match void_end_of(connection, ends, point) {
-        Some(end) => end <= u64::from(slot),
-        None => false,
-    }
-}
-
-/// Whether a slot of a point is voided. Behind the end of its voids none is, but where the database may be closed it is
-/// asked all the same, since it may refuse.
+/// Whether a slot of a point is voided, by one statement. Behind the end of the point's voids none is, which takes no
+/// statement; but where the database may be closed it is asked all the same, since it may refuse.
 pub(crate) fn is_void<S: Alter>(
     connection: &mut Connection<S>,
     ends: &mut Ends,
@@ -201,18 +200,27 @@ pub(crate) fn is_void<S: Alter>(
     requires { connection.old.in_transaction ≡ false }
     ensures value { HasCleanDisk (state S.Store connection.new) → (kept : Tables) → Holds (state S.Store connection.old) kept
         → HasVoidEnds (state S.Store connection.old) ends.old.known.items kept → IfOk result (λ is. is ≡ is_void kept.voids (point, slot)) }
+    ensures fails { HasCleanDisk (state S.Store connection.new)
+        → IfErr result (FailsToTell point slot (state S.Store connection.old) (state S.Store connection.new)) }
+    ensures behind { may_be_closed ≡ false → (end : ℕ) → end_at ends.old.known.items point ≡ Some end → end ≤ slot
+        → (result ≡ Ok false) × (connection.new ≡ connection.old) }
+    ensures longer { vec_len ends.new.known ≤ vec_len ends.old.known + 16 }
     ensures same { (kept : Tables) → Holds (state S.Store connection.old) kept → HasVoidEnds (state S.Store connection.old) ends.old.known.items kept
         → HasVoidEnds (state S.Store connection.new) ends.new.known.items kept }
     ensures keeps { Keeps (state S.Store connection.old) (state S.Store connection.new) }
     ensures idle { connection.new.in_transaction ≡ false }
 {
-    if !may_be_closed
-        && point <= MOST_REMEMBERED
-        && is_behind_voids(connection, ends, point, slot)
-    {
+    if !may_be_closed && ends.is_behind(point, slot) {
         return Ok(false);
     }
-    voids::is_void(connection, point, slot)
+    match voids::voids_from(connection, point, slot)? {
+        VoidsFrom::Here => Ok(true),
+        VoidsFrom::NoneLeft if point <= MOST_REMEMBERED => {
+            ends.note_if_near(point, u64::from(slot));
+            Ok(false)
+        }
+        VoidsFrom::Later | VoidsFrom::NoneLeft => Ok(false),
+    }
 }
 
 /// The value of the nearest counted reading of a point after a slot, if there is one. None stands behind its end.

@@ -36,7 +36,7 @@ pub struct SqlKeeper<S: Alter> {
     waiting: Option<Vec<SettingRow>>,
     // Where the readings of points end, once it was read.
     ends: Ends,
-    // Where the voids of points end, once it was read.
+    // Where the voids of points end, as far as questions told it.
     void_ends: Ends,
     // How many calls were refused, up to the greatest count.
     refusals: u64,

@@ -1,63 +1,64 @@
 //! The table of voided slots.
 
-ghost use Rattle.std.specs.Prelude.{◌≡◌, ◌-◌, ◌^◌, false, IfOk, length};
+ghost use Rattle.std.specs.Prelude.{◌≡◌, ◌-◌, ◌^◌, false, IfErr, IfOk, length};
 ghost use Rattle.sqlite.specs.Held.{state};
 ghost use Rattle.sqlite.specs.State.{HasCleanDisk};
-ghost use Rattle.poll_book.specs.Tables.{Tables, is_void};
+ghost use Rattle.poll_book.specs.Tables.{Tables};
 ghost use Rattle.office_store.specs.Kept.{Holds, Keeps};
-ghost use Rattle.office_store.specs.Ends.{IsEndOf, IsJustBehind};
+ghost use Rattle.office_store.specs.Ends.{FailsToTell, ShowFrom, TellsFrom};
 ghost use Rattle.office_store.specs.Rows.{number_below};
 ghost use Rattle.sqlite_value.specs.Value.{owned};
 
 use crate::ask::ask;
 use crate::error::fault_of;
-use crate::readings::end_shown;
-use crate::values::value_at;
+use crate::values::{number_of, value_at};
 use poll_book::StoreFault;
 use sqlite::types::ValueRef;
-use sqlite::{Alter, Connection, params};
+use sqlite::{Alter, Connection, Row, params};
 
-/// Whether a slot of a point is voided.
-pub(crate) fn is_void<S: Alter>(
-    connection: &mut Connection<S>,
-    point: u32,
-    slot: u32,
-) -> Result<bool, StoreFault>
-    requires { connection.old.in_transaction ≡ false }
-    ensures value { HasCleanDisk (state S.Store connection.new) → (kept : Tables) → Holds (state S.Store connection.old) kept
-        → IfOk result (λ is. is ≡ is_void kept.voids (point, slot)) }
-    ensures keeps { Keeps (state S.Store connection.old) (state S.Store connection.new) }
-    ensures idle { connection.new.in_transaction ≡ false }
+/// What a point has of voided slots from one on.
+#[derive(Clone, Copy, Debug, PartialEq, Eq)]
+pub(crate) enum VoidsFrom {
+    /// The slot is voided.
+    Here,
+    /// It isn't, and a row stands behind it.
+    Later,
+    /// It isn't, nor is one behind it.
+    NoneLeft,
+}
+
+/// What an answer tells that shows the first voided slot from one on, if there is one. A row whose slot no office writes
+/// stands behind it.
+fn shown_from(rows: &[Row], slot: u32) -> VoidsFrom
+    ensures { ShowFrom slot rows.now result }
 {
-    match ask(
-        connection,
-        "SELECT point, slot FROM void WHERE point = ?1 AND slot = ?2",
-        params![point, slot],
-    ) {
-        Ok(rows) => Ok(!rows.is_empty()),
-        Err(error) => Err(fault_of(error)),
+    match rows {
+        [] => VoidsFrom::NoneLeft,
+        [row, ..] if number_of(value_at(row, 1)) == Some(slot) => VoidsFrom::Here,
+        _ => VoidsFrom::Later,
     }
 }
 
-/// The slot behind the last voided slot of a point; 0 if the point has none.
-pub(crate) fn end_of<S: Alter>(
+/// What a point has of voided slots from one on.
+pub(crate) fn voids_from<S: Alter>(
     connection: &mut Connection<S>,
     point: u32,
-) -> Result<u64, StoreFault>
+    slot: u32,
+) -> Result<VoidsFrom, StoreFault>
     requires { connection.old.in_transaction ≡ false }
     ensures value { HasCleanDisk (state S.Store connection.new) → (kept : Tables) → Holds (state S.Store connection.old) kept
-        → IfOk result (λ end. IsEndOf point end kept.voids) }
-    ensures last { HasCleanDisk (state S.Store connection.new) → (kept : Tables) → Holds (state S.Store connection.old) kept
-        → IfOk result (λ end. IsJustBehind point end kept.voids) }
+        → IfOk result (TellsFrom point slot kept.voids) }
+    ensures fails { HasCleanDisk (state S.Store connection.new)
+        → IfErr result (FailsToTell point slot (state S.Store connection.old) (state S.Store connection.new)) }
     ensures keeps { Keeps (state S.Store connection.old) (state S.Store connection.new) }
     ensures idle { connection.new.in_transaction ≡ false }
 {
     match ask(
         connection,
-        "SELECT point, slot FROM void WHERE point = ?1 ORDER BY slot DESC LIMIT 1",
-        params![point],
+        "SELECT point, slot FROM void WHERE point = ?1 AND slot >= ?2 ORDER BY slot LIMIT 1",
+        params![point, slot],
     ) {
-        Ok(rows) => end_shown(&rows),
+        Ok(rows) => Ok(shown_from(&rows, slot)),
         Err(error) => Err(fault_of(error)),
     }
 }
