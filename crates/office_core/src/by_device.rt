@@ -11,7 +11,7 @@ use std::alloc::{AllocError, Global};
 use std::collections::BTreeMap;
 
 /// So few points are gone through one by one, which costs less than to make a label and look it up.
-const FEW: usize = 16;
+const FEW: usize = 64;
 
 /// The places of the first so many known points by the names of their devices, of each device in the points' order.
 #[derive(Drop)]
@@ -78,6 +78,17 @@ impl ByDevice {
             };
             self.in_order = goes_on(self.in_order, row.number, self.count);
             self.count += 1;
+        }
+    }
+
+    /// Puts one point in that doesn't stand in it yet, unless they are few.
+    pub(crate) fn follow_one(&mut self, known: &[PointRow])
+        requires few { length known.now ≤ 10000 }
+        requires of { AreDevicesOf known.now self.old }
+        ensures { AreDevicesOf known.now self.new }
+    {
+        if known.len() > FEW {
+            self.follow(known, 1);
         }
     }
 

@@ -13,7 +13,7 @@ use std::alloc::{AllocError, Global};
 use std::collections::BTreeMap;
 
 /// So few points are looked through one by one, which costs less than to make a name and look it up.
-const FEW: usize = 16;
+const FEW: usize = 64;
 
 /// The places of the first so many known points by their names, of each name the first.
 #[derive(Drop)]
@@ -64,9 +64,20 @@ impl ByName {
         Ok(())
     }
 
-    /// Whether all known points stand in it.
-    pub(crate) fn has_all(&self, known: &[PointRow]) -> bool {
-        self.count >= known.len()
+    /// Puts one point in that doesn't stand in it yet, unless they are few.
+    pub(crate) fn follow_one(&mut self, known: &[PointRow])
+        requires few { length known.now ≤ 10000 }
+        requires of { AreNamesOf known.now self.old }
+        ensures { AreNamesOf known.now self.new }
+    {
+        if known.len() > FEW {
+            let _ = self.follow(known, 1);
+        }
+    }
+
+    /// Whether it serves for many names: all known points stand in it, or they are few.
+    pub(crate) fn is_ready(&self, known: &[PointRow]) -> bool {
+        self.count >= known.len() || known.len() <= FEW
     }
 
     /// The point at the place that stands under a name.

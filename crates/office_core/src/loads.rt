@@ -28,6 +28,7 @@ fn place_named(known: &[PointRow], name: &[u8]) -> Option<usize>
 }
 
 /// The known point of a name.
+#[inline(always)]
 pub(crate) fn known_named(known: &[PointRow], name: &[u8]) -> Option<PointRow>
     ensures { result ≡ loads.known_named known.now name.now }
 {
@@ -103,8 +104,8 @@ fn refused(fault: RequestFault, row: u32, column: u8) -> Outcome
     Outcome::RefusedFor(Reason { fault, row, column })
 }
 
-/// All known points by name, if so many rows pay for it and not all stand in what there is. It is refused where there is
-/// no memory for that.
+/// All known points by name, if so many rows pay for it and what there is doesn't serve. It is refused where there is no
+/// memory for that.
 fn all_names(
     alloc: Global,
     known: &[PointRow],
@@ -114,7 +115,7 @@ fn all_names(
     requires many { length known.now ≤ 10000 }
     ensures { IfOk result (λ made. IfSome made (AreNamesOf known.now)) }
 {
-    if rows < MANY || names.has_all(known) {
+    if rows < MANY || names.is_ready(known) {
         return Ok(None);
     }
     let mut all = ByName::new(alloc);

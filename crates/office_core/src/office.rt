@@ -111,14 +111,14 @@ fn add_points(
     let _ = by_name.follow(points, count);
 }
 
-/// Puts a point in behind an arrival that looked for those of a device.
+/// Puts one point in behind an arrival that looked for those of a device.
 fn follow_behind(by_device: &mut ByDevice, points: &[PointRow], arrival: &Arrival)
     requires few { length points.now ≤ 10000 }
     requires devices { AreDevicesOf points.now by_device.old }
     ensures { AreDevicesOf points.now by_device.new }
 {
     if let Arrival::Recorded(_) = arrival {
-        by_device.follow(points, 1);
+        by_device.follow_one(points);
     }
 }
 
@@ -349,7 +349,7 @@ impl<K: Keeper> Office<K> {
         let request = order_row(self.alloc, caller, key, point, value, outcome)?;
         let change = request_change(self.alloc, Vec::new(self.alloc), setting, request);
         write(&mut self.keeper, change)?;
-        let _ = self.by_name.follow(&self.points, 1);
+        self.by_name.follow_one(&self.points);
         Ok(RequestAnswer::Kept {
             first: true,
             outcome,
@@ -409,7 +409,7 @@ impl<K: Keeper> Office<K> {
         )?;
         let request = void_row(self.alloc, caller, key, point, slot, outcome)?;
         write(&mut self.keeper, with_request(change, request))?;
-        let _ = self.by_name.follow(&self.points, 1);
+        self.by_name.follow_one(&self.points);
         Ok(RequestAnswer::Kept {
             first: true,
             outcome,
