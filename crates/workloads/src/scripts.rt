@@ -206,7 +206,7 @@ pub fn replayed(rt: &HostRuntime, seed: u32, size: Size) -> io::Result<()> {
     print_digest(rt, "replay", &digest)
 }
 
-/// So many sites are played, each by a seed of its own.
+/// So many sites are played, the first by the job's own seed, and each by another for each seed.
 const SITES: u32 = 4;
 
 /// Sites of 243 devices, whose points come one by one.
@@ -217,7 +217,7 @@ pub fn points(rt: &HostRuntime, seed: u32, size: Size) -> io::Result<()> {
             lines: size.of(50, 5),
             devices: size.of(243, 20),
             points: 40,
-            seed: seed.wrapping_mul(SITES).wrapping_add(site),
+            seed: seed.wrapping_mul(2 * site + 1).wrapping_add(site),
         };
         play(rt.alloc(), &mut digest, plant, size.of(8, 2))?;
     }
