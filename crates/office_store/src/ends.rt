@@ -24,8 +24,8 @@ const MOST_REMEMBERED: u32 = 10_000;
 /// The list of voids' ends gets longer by so many places at most in one question.
 const PLACES_A_QUESTION: usize = 16;
 
-/// A slot for each point, by the points' numbers, that all its rows of a table stand before: 0 where it has none, and
-/// nothing where it isn't known.
+/// A slot for each point, by the points' numbers, that all its rows of a table stand before, and nothing where none is
+/// known.
 #[derive(Drop)]
 pub(crate) struct Ends {
     known: Vec<Option<u64>>,

@@ -17,7 +17,7 @@ use sqlite::types::ValueRef;
 use sqlite::{Alter, Connection, Row, params};
 
 /// What a point has of voided slots from one on.
-#[derive(Clone, Copy, Debug, PartialEq, Eq)]
+#[derive(Clone, Copy)]
 pub(crate) enum VoidsFrom {
     /// The slot is voided.
     Here,
