@@ -10,7 +10,7 @@ use poll_book::PointRow;
 use std::alloc::{AllocError, Global};
 use std::collections::BTreeMap;
 
-/// So few points are gone through one by one, which costs less than to make a label and look it up.
+/// So few points are gone through one by one: on the average that costs no more than to make a label and look it up.
 const FEW: usize = 64;
 
 /// The places of the first so many known points by the names of their devices, of each device in the points' order.
@@ -108,12 +108,12 @@ impl ByDevice {
     }
 
     /// The places of the points of a device, where all known points stand in it and it pays to go through these alone:
-    /// not where the points are few, or more than half of them are the device's.
+    /// not where the points are few, or of one device, or more than half of them are this one's.
     pub(crate) fn places(&self, known: &[PointRow], device: &[u8]) -> Option<&[u32]>
         requires { AreDevicesOf known.now self.now }
         ensures { AreTheirs known.now device.now result }
     {
-        if self.count < known.len() || known.len() <= FEW {
+        if self.count < known.len() || known.len() <= FEW || self.places.len() == 1 {
             return None;
         }
         let device = Label::new(device)?;

@@ -12,7 +12,7 @@ use poll_book::PointRow;
 use std::alloc::{AllocError, Global};
 use std::collections::BTreeMap;
 
-/// So few points are looked through one by one, which costs less than to make a name and look it up.
+/// So few points are looked through one by one: on the average that costs no more than to make a name and look it up.
 const FEW: usize = 64;
 
 /// The places of the first so many known points by their names, of each name the first.

@@ -69,7 +69,7 @@ fn lies_whole(read: &Read, point: &Point) -> bool
 }
 
 /// The point is of the device and of the table that is read, and lies whole in the read.
-// Each reply tries all points of its device that were known, most of which `starts_in` rejects.
+// Each reply tries all points of its device that were known, or all that were, most of which `starts_in` rejects.
 #[inline(always)]
 pub(crate) fn covers(device: &[u8], read: &Read, point: &Point) -> bool
     ensures { result ≡ cover.covers device.now read.now point.now }

@@ -16,7 +16,7 @@ use point_list::{ListError, ListFault, Point, Site, is_same_name, read_list, res
 use poll_book::{Outcome, PointRow, Reason, RequestFault, StoreFault};
 use std::alloc::{AllocError, Global};
 
-/// From so many rows on all known points are put in by name, however many they are.
+/// From so many rows on all known points are put into a map by name, unless they are few.
 const MANY: usize = 16;
 
 fn place_named(known: &[PointRow], name: &[u8]) -> Option<usize>
