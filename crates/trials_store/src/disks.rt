@@ -53,6 +53,11 @@ impl<D: Disk> Failing<D> {
         }
     }
 
+    /// How many of its calls came.
+    pub(crate) fn calls(&self) -> u64 {
+        self.calls
+    }
+
     /// Whether its call of that number came, and failed.
     pub(crate) fn has_failed(&self) -> bool {
         self.failed > 0

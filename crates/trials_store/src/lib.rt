@@ -1,6 +1,7 @@
 //! What an office over a database keeps: which databases and sites open, what a stop at each write leaves, also where
 //! tables of version 1 are moved; files that are full, that fail once, and that have a damaged byte; rows that no
-//! office writes; readings that are written together; the totals that are stored; voids behind a change that is refused.
+//! office writes; readings that are written together; the totals that are stored; voids behind a change
+//! that is refused, and the questions for voids.
 #![tactic(auto)]
 
 #[cfg(test)]
@@ -21,5 +22,7 @@ mod stops;
 mod together;
 #[cfg(test)]
 mod totals;
+#[cfg(test)]
+mod void_questions;
 #[cfg(test)]
 mod voids;
