@@ -21,12 +21,12 @@ const FIRST: &str = "SELECT point, slot FROM void WHERE point = ?1 AND slot = ?2
 
 const POINTS: &[Happens] = &[Load(
     "l1",
-    "a,m1,holding,107,uint16,,,gauge,\nb,m1,holding,108,uint16,,,gauge,\nc,m1,holding,109,uint16,,,gauge,\nd,m1,holding,110,uint16,,,gauge,\n",
+    "a,m1,holding,107,uint16,,,gauge,\nb,m1,holding,108,uint16,,,gauge,\nc,m1,holding,109,uint16,,,gauge,\nd,m1,holding,110,uint16,,,gauge,\ne,m1,holding,111,uint16,,,gauge,\n",
 )];
 
-/// The points get the numbers that are asked for.
+/// The points get the numbers that are asked for, and one that isn't.
 const NUMBERED: &str =
-    "UPDATE point SET number = 9999 WHERE number = 2; UPDATE point SET number = 10000 WHERE number = 3; UPDATE point SET number = 10001 WHERE number = 4";
+    "UPDATE point SET number = 9999 WHERE number = 2; UPDATE point SET number = 10000 WHERE number = 3; UPDATE point SET number = 10001 WHERE number = 4; UPDATE point SET number = 5000 WHERE number = 5";
 
 /// The first point, the last ones of which ends are remembered, and one behind them.
 const NUMBERS: [u32; 4] = [1, 9_999, 10_000, 10_001];
@@ -51,6 +51,11 @@ const NEAR: u32 = 626;
 /// Voids of each point.
 const SOME: &str =
     "INSERT INTO void(point, slot) SELECT number, 3 FROM point; INSERT INTO void(point, slot) SELECT number, 7 FROM point";
+
+/// Voids of the point that isn't asked for, twice as many a statement. They take several pages, so that each statement
+/// reads some, where one is kept in memory. The last statement changes nothing, but the log may be copied before it.
+const CROWD: &str =
+    "INSERT INTO void(point, slot) VALUES (5000, 64); INSERT INTO void(point, slot) SELECT point, slot + 64 FROM void WHERE point = 5000 AND slot > 63; INSERT INTO void(point, slot) SELECT point, slot + 128 FROM void WHERE point = 5000 AND slot > 63; INSERT INTO void(point, slot) SELECT point, slot + 256 FROM void WHERE point = 5000 AND slot > 63; INSERT INTO void(point, slot) SELECT point, slot + 512 FROM void WHERE point = 5000 AND slot > 63; INSERT INTO void(point, slot) SELECT point, slot + 1024 FROM void WHERE point = 5000 AND slot > 63; INSERT INTO void(point, slot) SELECT point, slot + 2048 FROM void WHERE point = 5000 AND slot > 63; INSERT INTO void(point, slot) SELECT point, slot + 4096 FROM void WHERE point = 5000 AND slot > 63; INSERT INTO void(point, slot) SELECT point, slot + 8192 FROM void WHERE point = 5000 AND slot > 63; INSERT INTO void(point, slot) SELECT point, slot + 16384 FROM void WHERE point = 5000 AND slot > 63; UPDATE meta SET value = 2 WHERE name = 'version'";
 
 /// What stands in the table of voids, also rows that no office writes, and whether the place of the last point is
 /// brought near before.
@@ -367,8 +372,11 @@ impl Asking for Few {
     }
 }
 
-/// Makes the tables with `SOME`.
-struct Making;
+/// Makes the tables with `SOME`, and with `CROWD` or without.
+#[derive(Clone, Copy)]
+struct Making {
+    is_crowded: bool,
+}
 
 impl Task for Making {
     fn done_in<S: Alter + Drop>(
@@ -376,7 +384,10 @@ impl Task for Making {
         trial: &Trial<'_>,
         connection: Connection<S>,
     ) -> Result<(Option<Reached>, S), OfficeError> {
-        let connection = prepared(trial.alloc(), connection, SOME)?;
+        let mut connection = prepared(trial.alloc(), connection, SOME)?;
+        if self.is_crowded {
+            run(&mut connection, CROWD)?;
+        }
         let reached = Reached {
             events: 0,
             refused: 0,
@@ -385,10 +396,14 @@ impl Task for Making {
     }
 }
 
-/// The files of tables with `SOME`: the log is copied into the database file after so many frames.
-fn files_of(trial: &Trial<'_>, frames: usize) -> Result<Files<Memory>, OfficeError> {
+/// The files of those tables: the log is copied into the database file after so many frames.
+fn files_of(
+    trial: &Trial<'_>,
+    frames: usize,
+    is_crowded: bool,
+) -> Result<Files<Memory>, OfficeError> {
     let files = empty_files(trial.alloc());
-    let (made, files) = done_on(trial, files, options(64, frames), &Making)?;
+    let (made, files) = done_on(trial, files, options(64, frames), &Making { is_crowded })?;
     trial.told(&"made", &made.is_some(), &true);
     Ok(files)
 }
@@ -424,28 +439,6 @@ fn is_refused(
         trial.told(&(which, call), &reached.refused, &u32::from(has_failed));
     }
     Ok(has_failed)
-}
-
-/// Each call of a file of tables fails in turn.
-fn each_fails(trial: &Trial<'_>, which: Which, frames: usize) -> Result<(), OfficeError> {
-    let tables = files_of(trial, frames)?;
-    for call in 0..u64::MAX {
-        if !is_refused(trial, &tables, which, call)? {
-            trial.told(&(which, call), &(call > 20), &true);
-            break;
-        }
-    }
-    Ok(())
-}
-
-fn reads(trial: &Trial<'_>) -> Result<(), OfficeError> {
-    each_fails(trial, Which::Log, 1_000)?;
-    each_fails(trial, Which::Db, 1)
-}
-
-#[test]
-fn a_read_that_fails_is_told_by_its_question(rt: HostRuntime) -> Result<(), Fail> {
-    Ok(twice!(rt, reads)?)
 }
 
 /// Asks so often for a slot of a point, of the keeper or by the statement.
@@ -496,6 +489,14 @@ impl Asking for Again {
     }
 }
 
+/// A keeper is opened, and not asked.
+const NONE: Again = Again {
+    number: 1,
+    slot: 0,
+    times: 0,
+    is_first: false,
+};
+
 /// A point and a slot, how often a keeper is asked for it, and how many statements that takes. It takes none behind an
 /// end that is remembered, for which the list has to reach the point: it gets 16 places longer a question.
 const COUNTS: &[(u32, u32, u32, u32)] = &[
@@ -510,15 +511,19 @@ const COUNTS: &[(u32, u32, u32, u32)] = &[
     (10_001, 8, 640, 640),
 ];
 
-/// How many calls of files it takes.
-fn calls(trial: &Trial<'_>, tables: &Files<Memory>, again: Again) -> Result<u64, OfficeError> {
+/// How many calls of the log and of the database file it takes.
+fn calls(
+    trial: &Trial<'_>,
+    tables: &Files<Memory>,
+    again: Again,
+) -> Result<(u64, u64), OfficeError> {
     let (_, files) = done_failing(trial, tables, Which::Log, u64::MAX, &Over(again))?;
-    Ok(files.log.calls().saturating_add(files.db.calls()))
+    Ok((files.log.calls(), files.db.calls()))
 }
 
 /// A keeper's questions take as many calls of files as so many statements.
 fn statements(trial: &Trial<'_>) -> Result<(), OfficeError> {
-    let tables = files_of(trial, 1_000)?;
+    let tables = files_of(trial, 1_000, true)?;
     for (number, slot, times, first) in COUNTS {
         let again = Again {
             number: *number,
@@ -544,6 +549,35 @@ fn statements(trial: &Trial<'_>) -> Result<(), OfficeError> {
 #[test]
 fn a_question_takes_one_statement_or_none(rt: HostRuntime) -> Result<(), Fail> {
     Ok(twice!(rt, statements)?)
+}
+
+/// Each call of a file that questions make fails in turn, and there are as many as questions or more.
+fn each_fails(trial: &Trial<'_>, which: Which, frames: usize) -> Result<(), OfficeError> {
+    let tables = files_of(trial, frames, true)?;
+    let (log, db) = calls(trial, &tables, NONE)?;
+    let first = match which {
+        Which::Log => log,
+        Which::Db => db,
+    };
+    let mut failed = 0usize;
+    for call in first..u64::MAX {
+        if !is_refused(trial, &tables, which, call)? {
+            break;
+        }
+        failed = failed.saturating_add(1);
+    }
+    trial.told(&(which, failed), &(failed >= FIRST_FEW), &true);
+    Ok(())
+}
+
+fn reads(trial: &Trial<'_>) -> Result<(), OfficeError> {
+    each_fails(trial, Which::Log, 1_000)?;
+    each_fails(trial, Which::Db, 1)
+}
+
+#[test]
+fn a_read_that_fails_is_told_by_its_question(rt: HostRuntime) -> Result<(), Fail> {
+    Ok(twice!(rt, reads)?)
 }
 
 /// The void of a slot that isn't asked for.
@@ -575,7 +609,7 @@ impl Asking for Copying {
 }
 
 fn bytes(trial: &Trial<'_>) -> Result<(), OfficeError> {
-    let tables = files_of(trial, 1_000)?;
+    let tables = files_of(trial, 1_000, false)?;
     let log = (Harm::Byte, Which::Log);
     are_harmed(trial, &tables, log, &Over(Copying), 40, 1)
 }
@@ -616,7 +650,7 @@ impl Asking for Closing {
 }
 
 fn closings(trial: &Trial<'_>) -> Result<(), OfficeError> {
-    let tables = files_of(trial, 1_000)?;
+    let tables = files_of(trial, 1_000, false)?;
     let log = (Harm::Call, Which::Log);
     are_harmed(trial, &tables, log, &Over(Closing), usize::MAX, 1)
 }
