@@ -1,31 +1,133 @@
 #!/usr/bin/env bash
-# Plays two devices on this machine, and polls, orders, reports and serves with the program `office`, as
+# A first look at the program `office`: a roof with its devices, polled, ordered, reported and served, as
 #
+#     bash examples/a-roof/try.sh --quick [PATH-OF-PLAYER]
 #     bash examples/a-roof/try.sh [PATH-OF-OFFICE]
-#     bash examples/a-roof/try.sh --quick
 #
-# Without a path it proves and builds the program first. It works in a new folder of its own, which it leaves, and
-# needs curl and the ports 15020 to 15022. With --quick it proves nothing and opens no socket: the player of the pages
-# plays roof.md in one process, and what it shows is printed.
-set -euo pipefail
+# With --quick the player of the pages, which it compiles without a proof where no path says where one is, plays
+# roof.md in one process, over no socket, and what was played is printed. Without --quick and without a path it proves
+# and builds the program first, and goes on from what an earlier try left. It works in a new folder of its own, which it
+# leaves, and needs curl and the ports 15020 to 15022. Standard output has what the office says, standard error the rest.
+# Where it can't go on it says why, and ends with status 1.
+set -Eeuo pipefail
 here=$(realpath "$(dirname "$0")")
-if [[ ${1:-} == --quick ]]; then
-    cd "$here/../../crates/cases_office"
-    page=examples/a-roof/roof.md
-    files=()
+repository=$(realpath "$here/../..")
+players=()
+
+# Tells something that the office doesn't print.
+tell() {
+    echo "try.sh: $*" >&2
+}
+
+# Tells why it can't go on, and ends.
+stop() {
+    tell "$@"
+    exit 1
+}
+
+# What it started ends with it.
+clear_up() {
+    for player in "${players[@]}"; do kill "$player" 2> /dev/null || true; done
+}
+
+trap 'tell "its line $LINENO failed, which says nothing of the office"' ERR
+trap 'stop "stopped; what was proved is kept, and another try goes on from it"' INT TERM
+trap clear_up EXIT
+
+# There is a command of this name.
+needs() {
+    [[ -n $(type -P "$1") ]] || stop "there is no command $1, $2"
+}
+
+# Compiles the player of the pages, and plays a page with it.
+play_unproved() {
+    local file files=()
+    cd "$repository/crates/cases_office"
     for file in data/examples/a-roof/*; do files+=(--data "${file#data/}=$file"); done
-    rt try --seconds 300 "${files[@]}" -- "$page" | grep -v '^examples/'
-    sed -n '/^```console/,/^```$/p' "data/$page" | grep -v '^```'
+    rt try --seconds 300 "${files[@]}" -- "$1"
+}
+
+# Plays a page with a player that is built.
+play_built() {
+    cd "$(mktemp -d)"
+    cp -r "$repository/crates/cases_office/data/examples" .
+    "$2" "$1"
+}
+
+# Plays the page of the roof, and prints the commands on it and what they print.
+quick() {
+    local page=examples/a-roof/roof.md told player
+    told=$(mktemp)
+    if [[ $# -gt 0 ]]; then
+        player=$(realpath "$1")
+        [[ -f $player && -x $player ]] || stop "$1 is no program"
+        (play_built "$page" "$player") > "$told" || { cat "$told" >&2; stop "the office doesn't say what $page has: see above"; }
+    else
+        needs rt 'which is of a Rattle kit, and compiles the player'
+        tell 'compiles the player of the pages, without a proof: four minutes where four processors had other work'
+        (play_unproved "$page") > "$told" || { cat "$told" >&2; stop "the player wasn't compiled, or the office doesn't say what $page has: see above"; }
+    fi
+    grep -q "^$page [1-9][0-9]*$" "$told" || stop "the player told of no case on $page"
+    sed -n '/^```console/,/^```$/p' "$repository/crates/cases_office/data/$page" | grep -v '^```'
+    tell "all of that was played, and came out as the page has it, after $SECONDS seconds"
+}
+
+# How many crates of the repository the program stands on, itself among them.
+count_crates() {
+    awk '/^[a-z]/ { name = $1; sub(":", "", name); $1 = ""; below[name] = $0 }
+        END {
+            todo = "office"
+            while (todo != "") {
+                count = split(todo, names, " "); todo = ""
+                for (i = 1; i <= count; i++)
+                    if (names[i] in below && !(names[i] in seen)) { seen[names[i]]; total++; todo = todo below[names[i]] }
+            }
+            print total
+        }' "$repository/crates.txt"
+}
+
+# Shows of what `rt run` prints how far it is.
+show_progress() {
+    local line number=0 total=$1
+    while IFS= read -r line; do
+        case $line in
+            'rt: chose --jobs '*)
+                number=$((number + 1))
+                tell "$((SECONDS / 60)) min: crate $number of $total, ${line##* }" ;;
+            'so far: '*) tell "$((SECONDS / 60)) min:   ${line#so far: }" ;;
+        esac
+    done
+}
+
+# Proves and builds the program.
+build() {
+    local log
+    needs rt 'which is of a Rattle kit, and proves and builds the program; the path of an office spares that'
+    tell 'proves and builds the program office, plays two devices, and polls, orders, reports and serves beside them.'
+    tell 'From nothing that took an hour and a half on four processors that had other work besides.'
+    tell "What is proved is kept where this is stopped. Meanwhile, bash $0 --quick plays the same as a page."
+    log=$(mktemp)
+    (cd "$repository/crates/office" && rt run -- --version) 2>&1 | tee "$log" | show_progress "$(count_crates)" ||
+        { tail -n 20 "$log" >&2; stop "the program wasn't proved and built: its last lines stand above, all are in $log"; }
+}
+
+# A port that is to be free is so.
+needs_port() {
+    ! (exec 3<> "/dev/tcp/127.0.0.1/$1") 2> /dev/null || stop "port $1 is taken: something on this machine answers there"
+}
+
+if [[ ${1:-} == --quick ]]; then
+    quick "${@:2}"
     exit
 fi
-crate=$here/../../crates/office
-[[ $# -gt 0 ]] || (cd "$crate" && rt run -- --version)
-office=$(realpath "$(command -v "${1:-$crate/out/office}")")
+needs curl 'which asks the office over HTTP'
+for port in 15020 15021 15022; do needs_port "$port"; done
+[[ $# -gt 0 ]] || build
+office=$(type -P "${1:-$repository/crates/office/out/office}") || stop "$1 is no program"
+office=$(realpath "$office")
 cd "$(mktemp -d)"
 cp "$here"/*.toml "$here"/*.csv .
 store=(--store roof.db --site site.toml)
-players=()
-trap 'for player in "${players[@]}"; do kill "$player" 2> stopping || true; done' EXIT
 
 # Prints a command, with its words as a shell would take them.
 show() {
@@ -49,7 +151,7 @@ start() {
     "$office" "$@" 2> listening &
     players+=($!)
     until grep -q 'listening on' listening; do
-        kill -0 $! 2> stopping || { cat listening; exit 1; }
+        kill -0 $! 2> /dev/null || { cat listening >&2; stop "office $1 didn't come to listen: see above"; }
         sleep 0.1
     done
 }
@@ -136,3 +238,6 @@ poll sunspec-now.toml 15022 2 yard
 for point in string.power string.energy string.state string.serial string.east string.west; do
     run report "${store[@]}" "$point" 1 2
 done
+
+tell "that was the roof. The program stands at $office; its store and files at $PWD. Next:"
+tell "$office --help; bash $here/run.sh $office, an office that stays up; docs/RUNNING.md says the rest."
