@@ -64,7 +64,7 @@ quick() {
         (play_built "$page" "$player") > "$told" || { cat "$told" >&2; stop "the office doesn't say what $page has: see above"; }
     else
         needs rt 'which is of a Rattle kit, and compiles the player'
-        tell 'compiles the player of the pages, without a proof: four minutes where four processors had other work'
+        tell 'compiles the player of the pages, without a proof, which took three and a half minutes on a quiet machine'
         (play_unproved "$page") > "$told" || { cat "$told" >&2; stop "the player wasn't compiled, or the office doesn't say what $page has: see above"; }
     fi
     grep -q "^$page [1-9][0-9]*$" "$told" || stop "the player told of no case on $page"
