@@ -7,8 +7,8 @@
 # With --quick the player of the pages, which it compiles without a proof where no path says where one is, plays
 # roof.md in one process, over no socket, and what was played is printed. Without --quick and without a path it proves
 # and builds the program first, and goes on from what an earlier try left. It works in a new folder of its own, which it
-# leaves, and needs curl and the ports 15020 to 15022. Standard output has what the office says, standard error the rest.
-# Where it can't go on it says why, and ends with status 1.
+# leaves, and needs curl and the ports 15020 to 15022. Standard output has what the office says, standard error the
+# rest. Where it can't go on it says why, and ends with status 1.
 set -Eeuo pipefail
 here=$(realpath "$(dirname "$0")")
 repository=$(realpath "$here/../..")
@@ -61,11 +61,13 @@ quick() {
     if [[ $# -gt 0 ]]; then
         player=$(realpath "$1")
         [[ -f $player && -x $player ]] || stop "$1 is no program"
-        (play_built "$page" "$player") > "$told" || { cat "$told" >&2; stop "the office doesn't say what $page has: see above"; }
+        (play_built "$page" "$player") > "$told" ||
+            { cat "$told" >&2; stop "the office doesn't say what $page has: see above"; }
     else
         needs rt 'which is of a Rattle kit, and compiles the player'
         tell 'compiles the player of the pages, without a proof, which took three and a half minutes on a quiet machine'
-        (play_unproved "$page") > "$told" || { cat "$told" >&2; stop "the player wasn't compiled, or the office doesn't say what $page has: see above"; }
+        (play_unproved "$page") > "$told" ||
+            { cat "$told" >&2; stop "the player wasn't compiled, or the office doesn't say what $page has: see above"; }
     fi
     grep -q "^$page [1-9][0-9]*$" "$told" || stop "the player told of no case on $page"
     sed -n '/^```console/,/^```$/p' "$repository/crates/cases_office/data/$page" | grep -v '^```'
@@ -79,8 +81,10 @@ count_crates() {
             todo = "office"
             while (todo != "") {
                 count = split(todo, names, " "); todo = ""
-                for (i = 1; i <= count; i++)
-                    if (names[i] in below && !(names[i] in seen)) { seen[names[i]]; total++; todo = todo below[names[i]] }
+                for (i = 1; i <= count; i++) {
+                    if (!(names[i] in below) || names[i] in seen) continue
+                    seen[names[i]]; total++; todo = todo below[names[i]]
+                }
             }
             print total
         }' "$repository/crates.txt"
@@ -108,12 +112,12 @@ build() {
     tell "What is proved is kept where this is stopped. Meanwhile, bash $0 --quick plays the same as a page."
     log=$(mktemp)
     (cd "$repository/crates/office" && rt run -- --version) 2>&1 | tee "$log" | show_progress "$(count_crates)" ||
-        { tail -n 20 "$log" >&2; stop "the program wasn't proved and built: its last lines stand above, all are in $log"; }
+        { tail -n 20 "$log" >&2; stop "the program wasn't proved and built: the last lines stand above, all in $log"; }
 }
 
 # A port that is to be free is so.
 needs_port() {
-    ! (exec 3<> "/dev/tcp/127.0.0.1/$1") 2> /dev/null || stop "port $1 is taken: something on this machine answers there"
+    ! (exec 3<> "/dev/tcp/127.0.0.1/$1") 2> /dev/null || stop "port $1 is taken: something answers there"
 }
 
 if [[ ${1:-} == --quick ]]; then
