@@ -13,6 +13,10 @@ set -Eeuo pipefail
 here=$(realpath "$(dirname "$0")")
 repository=$(realpath "$here/../..")
 players=()
+# What it needs for itself alone, and removes.
+room=$(mktemp -d)
+# What a try that is stopped leaves.
+kept='nothing is kept'
 
 # Tells something that the office doesn't print.
 tell() {
@@ -28,10 +32,11 @@ stop() {
 # What it started ends with it.
 clear_up() {
     for player in "${players[@]}"; do kill "$player" 2> /dev/null || true; done
+    rm -rf "$room"
 }
 
 trap 'tell "its line $LINENO failed, which says nothing of the office"' ERR
-trap 'stop "stopped; what was proved is kept, and another try goes on from it"' INT TERM
+trap 'stop "stopped from outside: $kept"' INT TERM
 trap clear_up EXIT
 
 # There is a command of this name.
@@ -42,22 +47,19 @@ needs() {
 # Compiles the player of the pages, and plays a page with it.
 play_unproved() {
     local file files=()
-    cd "$repository/crates/cases_office"
+    cd "$repository/crates/cases_office" || return
     for file in data/examples/a-roof/*; do files+=(--data "${file#data/}=$file"); done
     rt try --seconds 300 "${files[@]}" -- "$1"
 }
 
 # Plays a page with a player that is built.
 play_built() {
-    cd "$(mktemp -d)"
-    cp -r "$repository/crates/cases_office/data/examples" .
-    "$2" "$1"
+    cp -r "$repository/crates/cases_office/data/examples" "$room" && cd "$room" && "$2" "$1"
 }
 
 # Plays the page of the roof, and prints the commands on it and what they print.
 quick() {
-    local page=examples/a-roof/roof.md told player
-    told=$(mktemp)
+    local page=examples/a-roof/roof.md told=$room/told player
     if [[ $# -gt 0 ]]; then
         player=$(realpath "$1")
         [[ -f $player && -x $player ]] || stop "$1 is no program"
@@ -106,10 +108,11 @@ show_progress() {
 # Proves and builds the program.
 build() {
     local log
+    kept='the crates that were proved are kept, and another try goes on from them'
     needs rt 'which is of a Rattle kit, and proves and builds the program; the path of an office spares that'
     tell 'proves and builds the program office, plays two devices, and polls, orders, reports and serves beside them.'
     tell 'From nothing that took an hour and a half on four processors that had other work besides.'
-    tell "What is proved is kept where this is stopped. Meanwhile, bash $0 --quick plays the same as a page."
+    tell "A crate that is proved is kept where this is stopped. Meanwhile, bash $0 --quick plays the same as a page."
     log=$(mktemp)
     (cd "$repository/crates/office" && rt run -- --version) 2>&1 | tee "$log" | show_progress "$(count_crates)" ||
         { tail -n 20 "$log" >&2; stop "the program wasn't proved and built: the last lines stand above, all in $log"; }
