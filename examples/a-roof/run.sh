@@ -4,28 +4,17 @@
 #     bash examples/a-roof/run.sh [PATH-OF-OFFICE]
 #
 # and orders, asks and reports meanwhile. Without a path it proves and builds the program first. It works in a new folder
-# of its own, which it leaves, and needs curl and the ports 15020, 15021 and 18080.
-set -euo pipefail
-here=$(realpath "$(dirname "$0")")
-crate=$here/../../crates/office
-[[ $# -gt 0 ]] || (cd "$crate" && rt run -- --version)
-office=$(realpath "$(command -v "${1:-$crate/out/office}")")
+# of its own, which it leaves, and needs curl and the ports 15020, 15021 and 18080. Where it can't go on it says why, and
+# ends with status 1.
+set -Eeuo pipefail
+. "$(dirname "$0")/shared.sh"
+needs curl 'which asks the office over HTTP'
+for port in 15020 15021 18080; do needs_port "$port"; done
+tell 'keeps an office up beside two devices that it plays, for three slots of four seconds.'
+find_office "$@"
 cd "$(mktemp -d)"
 cp "$here"/site.toml "$here"/devices.toml "$here"/points.csv .
 store=(--store roof.db --site site.toml)
-jobs=()
-trap 'for job in "${jobs[@]}"; do kill "$job" 2> stopping || true; done' EXIT
-
-# Starts the program behind the others, and waits until it listens.
-start() {
-    : > listening
-    "$office" "$@" 2> listening &
-    jobs+=($!)
-    until grep -q 'listening on' listening; do
-        kill -0 $! 2> stopping || { cat listening; exit 1; }
-        sleep 0.1
-    done
-}
 
 # Prints a call of curl and what it prints.
 ask() {
@@ -49,7 +38,7 @@ sleep 10
 slot=$(($(date +%s) / 4))
 ask "http://127.0.0.1:18080/points/inverter.limit/readings/$((slot - 3))/$slot"
 ask http://127.0.0.1:18080/points/meter.energy/total
-kill "${jobs[2]}"
-wait "${jobs[2]}" || echo "ended by a signal, as any stop may end it"
+kill "${players[2]}"
+wait "${players[2]}" || echo "ended by a signal, as any stop may end it"
 "$office" report "${store[@]}" meter.power $((slot - 3)) $((slot + 3))
-echo "in $PWD"
+tell "its store and files stand in $PWD"

@@ -10,39 +10,7 @@
 # leaves, and needs curl and the ports 15020 to 15022. Standard output has what the office says, standard error the
 # rest. Where it can't go on it says why, and ends with status 1.
 set -Eeuo pipefail
-here=$(realpath "$(dirname "$0")")
-repository=$(realpath "$here/../..")
-players=()
-# What it needs for itself alone, and removes.
-room=$(mktemp -d)
-# What a try that is stopped leaves.
-kept='nothing is kept'
-
-# Tells something that the office doesn't print.
-tell() {
-    echo "try.sh: $*" >&2
-}
-
-# Tells why it can't go on, and ends.
-stop() {
-    tell "$@"
-    exit 1
-}
-
-# What it started ends with it.
-clear_up() {
-    for player in "${players[@]}"; do kill "$player" 2> /dev/null || true; done
-    rm -rf "$room"
-}
-
-trap 'tell "its line $LINENO failed, which says nothing of the office"' ERR
-trap 'stop "stopped from outside: $kept"' INT TERM
-trap clear_up EXIT
-
-# There is a command of this name.
-needs() {
-    [[ -n $(type -P "$1") ]] || stop "there is no command $1, $2"
-}
+. "$(dirname "$0")/shared.sh"
 
 # Compiles the player of the pages, and plays a page with it.
 play_unproved() {
@@ -76,62 +44,14 @@ quick() {
     tell "all of that was played, and came out as the page has it, after $SECONDS seconds"
 }
 
-# How many crates of the repository the program stands on, itself among them.
-count_crates() {
-    awk '/^[a-z]/ { name = $1; sub(":", "", name); $1 = ""; below[name] = $0 }
-        END {
-            todo = "office"
-            while (todo != "") {
-                count = split(todo, names, " "); todo = ""
-                for (i = 1; i <= count; i++) {
-                    if (!(names[i] in below) || names[i] in seen) continue
-                    seen[names[i]]; total++; todo = todo below[names[i]]
-                }
-            }
-            print total
-        }' "$repository/crates.txt"
-}
-
-# Shows of what `rt run` prints how far it is.
-show_progress() {
-    local line number=0 total=$1
-    while IFS= read -r line; do
-        case $line in
-            'rt: chose --jobs '*)
-                number=$((number + 1))
-                tell "$((SECONDS / 60)) min: crate $number of $total, ${line##* }" ;;
-            'so far: '*) tell "$((SECONDS / 60)) min:   ${line#so far: }" ;;
-        esac
-    done
-}
-
-# Proves and builds the program.
-build() {
-    local log
-    kept='the crates that were proved are kept, and another try goes on from them'
-    needs rt 'which is of a Rattle kit, and proves and builds the program; the path of an office spares that'
-    tell 'proves and builds the program office, plays two devices, and polls, orders, reports and serves beside them.'
-    tell 'From nothing that took an hour and a half on four processors that had other work besides.'
-    tell "A crate that is proved is kept where this is stopped. Meanwhile, bash $0 --quick plays the same as a page."
-    log=$(mktemp)
-    (cd "$repository/crates/office" && rt run -- --version) 2>&1 | tee "$log" | show_progress "$(count_crates)" ||
-        { tail -n 20 "$log" >&2; stop "the program wasn't proved and built: the last lines stand above, all in $log"; }
-}
-
-# A port that is to be free is so.
-needs_port() {
-    ! (exec 3<> "/dev/tcp/127.0.0.1/$1") 2> /dev/null || stop "port $1 is taken: something answers there"
-}
-
 if [[ ${1:-} == --quick ]]; then
     quick "${@:2}"
     exit
 fi
 needs curl 'which asks the office over HTTP'
 for port in 15020 15021 15022; do needs_port "$port"; done
-[[ $# -gt 0 ]] || build
-office=$(type -P "${1:-$repository/crates/office/out/office}") || stop "$1 is no program"
-office=$(realpath "$office")
+tell 'polls two devices that it plays, orders, reports and serves.'
+find_office "$@"
 cd "$(mktemp -d)"
 cp "$here"/*.toml "$here"/*.csv .
 store=(--store roof.db --site site.toml)
@@ -150,17 +70,6 @@ show() {
 run() {
     show office "$@"
     "$office" "$@" 2>&1 || echo "status $?"
-}
-
-# Starts the program behind the others, and waits until it listens.
-start() {
-    : > listening
-    "$office" "$@" 2> listening &
-    players+=($!)
-    until grep -q 'listening on' listening; do
-        kill -0 $! 2> /dev/null || { cat listening >&2; stop "office $1 didn't come to listen: see above"; }
-        sleep 0.1
-    done
 }
 
 # Polls a line for a slot, while the devices of an image answer on a port.
