@@ -57,15 +57,17 @@ count_crates() {
 
 # Shows of what `rt run` prints how far it is.
 show_progress() {
-    local line number=0 total=$1
+    local line crate='' number=0 total=$1
     while IFS= read -r line; do
         case $line in
             'rt: chose --jobs '*)
+                crate=${line##* }
                 number=$((number + 1))
-                tell "$((SECONDS / 60)) min: crate $number of $total, ${line##* }" ;;
+                tell "$((SECONDS / 60)) min: crate $number of at most $total, $crate" ;;
             'so far: '*) tell "$((SECONDS / 60)) min:   ${line#so far: }" ;;
             'logic=proved '*)
-                [[ $number -lt $total ]] || tell "$((SECONDS / 60)) min: all is proved, and is compiled by clang, the slow part of which has no line" ;;
+                [[ $crate != office ]] ||
+                    tell "$((SECONDS / 60)) min: all is proved; clang compiles it now, for ten minutes or so without a line" ;;
         esac
     done
 }
