@@ -67,7 +67,7 @@ show_progress() {
             'so far: '*) tell "$((SECONDS / 60)) min:   ${line#so far: }" ;;
             'logic=proved '*)
                 [[ $crate != office ]] ||
-                    tell "$((SECONDS / 60)) min: all is proved; clang compiles it now, for ten minutes or so without a line" ;;
+                    tell "$((SECONDS / 60)) min: all is proved; clang compiles it now, four to eleven minutes without a line" ;;
         esac
     done
 }
