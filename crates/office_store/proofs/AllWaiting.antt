@@ -102,6 +102,6 @@ module _ (old new : State) (kept : Tables) (held : IsHeld old kept) (rows : List
       ap (map shown_setting) a.shown ∙ done
 
   -- and so do the orders that are made of the rows
-  pub all_waiting : {E : Type 0} (made : Result (Vec SettingRow Global) E) → IfOk made (λ orders. map shown_setting rows ≡ map Some (map as_setting orders.items)) → IfOk made (λ orders. AreThose kept.settings orders.items)
+  pub all_waiting : {E : Type 0} (made : Result (Vec SettingRow Global) E) → IfOk made (λ orders. map shown_setting rows ≡ map Some (map as_setting orders.items)) → IfOk made (λ orders. AreThose kept.settings (map as_setting orders.items))
   all_waiting (Ok orders) is = (held.stands.settings.sorted, same_list (map as_setting orders.items) (waiting_of kept.settings) (sym is ∙ shows_waiting))
   all_waiting (Err e) is = tt

@@ -51,6 +51,7 @@ mod Deciding
 mod Keeping
 mod AllWaiting
 mod Noting
+mod LookedUp
 mod Inserting
 mod PutTotal
 mod SetTotal

@@ -17,7 +17,8 @@ use Rattle.poll_book.specs.declared.rows.Setting.{Setting}
 use Rattle.poll_book.specs.declared.rows.SettingRow.{SettingRow}
 use Rattle.poll_book.specs.Changes.{IsNextOrSettledAs}
 use Rattle.poll_book.specs.Orders.{Settings, as_setting, is_of, is_waiting, last_order, oldest_waiting, point_at, with_setting}
-use Rattle.office_store.specs.Waiting.{AreByNumber, AreThose, is_other, waits, waiting_of}
+use Rattle.office_store.specs.declared.waiting.WaitingOrder.{WaitingOrder}
+use Rattle.office_store.specs.Waiting.{AreByNumber, AreThose, entry_of, is_other, not_looked_up, waits, waiting_of}
 use Rattle.office_store.proofs.Appending.{below_next, less_is, put_last}
 use Rattle.office_store.proofs.Settling.{greater_is}
 use Rattle.office_store.proofs.Sorted.{all_map, both_T, each_above}
@@ -105,60 +106,51 @@ module _ (n : ℕ) (s : Setting) (settled : is_waiting s.state ≡ false) where
           let apart : others e ≡ true = grind (arith, nat_tests) in
           keeps (waits e) apart rest
 
--- ---- the rows that were read, one after the other
+-- ---- the orders that were read, one after the other
 
-map_append : (xs : List SettingRow) (x : SettingRow) → map as_setting (xs ++ x ∷ []) ≡ map as_setting xs ++ as_setting x ∷ []
-map_append [] x = refl
-map_append (y ∷ xs) x = ap (λ zs. as_setting y ∷ zs) (map_append xs x)
-
-map_both : (xs ys : List SettingRow) → map as_setting (xs ++ ys) ≡ map as_setting xs ++ map as_setting ys
-map_both xs ys = map-append as_setting xs ys
-
-module _ (test : ℕ × Setting → Bool) (xs : List SettingRow) where
+module _ (test : ℕ × Setting → Bool) (entries : Settings) where
   first_next : (row : ℕ × Setting) (ys : Settings) → find test ys ≡ None → find test (ys ++ row ∷ []) ≡ cond (test row) (Some row) None
   first_next row ys none = find-append test ys (row ∷ []) ∙ ap (λ o. option_or o (cond (test row) (Some row) None)) none
 
-  rows_next : (i : ℕ) (d : SettingRow) → i < length xs → map as_setting (take (i + 1) xs) ≡ map as_setting (take i xs) ++ as_setting (get_or xs i d) ∷ []
-  rows_next i d low = ap (map as_setting) (take_more xs i d low) ∙ map_append (take i xs) (get_or xs i d)
-
   -- none so far, and this one isn't it
-  pub none_more : (i : ℕ) (d : SettingRow) → i < length xs → find test (map as_setting (take i xs)) ≡ None → test (as_setting (get_or xs i d)) ≡ false → find test (map as_setting (take (i + 1) xs)) ≡ None
+  pub none_more : (i : ℕ) (d : ℕ × Setting) → i < length entries → find test (take i entries) ≡ None → test (get_or entries i d) ≡ false → find test (take (i + 1) entries) ≡ None
   none_more i d low none fails =
-      ap (find test) (rows_next i d low) ∙ first_next (as_setting (get_or xs i d)) (map as_setting (take i xs)) none ∙ ap (λ b. cond b (Some (as_setting (get_or xs i d))) None) fails
+      ap (find test) (take_more entries i d low) ∙ first_next (get_or entries i d) (take i entries) none ∙ ap (λ b. cond b (Some (get_or entries i d)) None) fails
 
   stays : (row : ℕ × Setting) (ys zs : Settings) → find test ys ≡ Some row → find test (ys ++ zs) ≡ Some row
   stays row ys zs found = find-append test ys zs ∙ ap (λ o. option_or o (find test zs)) found
 
   -- none before this one, which is it
-  pub first_is : (i : ℕ) (d : SettingRow) → i < length xs → find test (map as_setting (take i xs)) ≡ None → test (as_setting (get_or xs i d)) ≡ true → find test (map as_setting xs) ≡ Some (as_setting (get_or xs i d))
+  pub first_is : (i : ℕ) (d : ℕ × Setting) → i < length entries → find test (take i entries) ≡ None → test (get_or entries i d) ≡ true → find test entries ≡ Some (get_or entries i d)
   first_is i d low none passes =
-      let row = as_setting (get_or xs i d) in
-      let here = ap (find test) (rows_next i d low) ∙ first_next row (map as_setting (take i xs)) none ∙ ap (λ b. cond b (Some row) None) passes in
-      ap (λ ys. find test (map as_setting ys)) (sym (take-append-drop (i + 1) xs)) ∙ ap (find test) (map_both (take (i + 1) xs) (drop (i + 1) xs)) ∙ stays row (map as_setting (take (i + 1) xs)) (map as_setting (drop (i + 1) xs)) here
+      let row = get_or entries i d in
+      let here = ap (find test) (take_more entries i d low) ∙ first_next row (take i entries) none ∙ ap (λ b. cond b (Some row) None) passes in
+      ap (find test) (sym (take-append-drop (i + 1) entries)) ∙ stays row (take (i + 1) entries) (drop (i + 1) entries) here
 
--- ---- the rows that were read, once an order came or was settled
+-- ---- the orders that were read, once one came or was settled
 
-pub map_others : (n : ℕ) (xs : List SettingRow) → map as_setting (filter (is_other n) xs) ≡ filter (λ e. not (e.0 == n)) (map as_setting xs)
+map_others : (n : ℕ) (orders : List WaitingOrder) → map entry_of (filter (is_other n) orders) ≡ filter (λ e. not (e.0 == n)) (map entry_of orders)
 map_others n [] = refl
 map_others n (x ∷ xs) = step (is_other n x) (map_others n xs)
   where
-    step : (b : Bool) → map as_setting (filter (is_other n) xs) ≡ filter (λ e. not (e.0 == n)) (map as_setting xs)
-        → map as_setting (cond b (x ∷ filter (is_other n) xs) (filter (is_other n) xs)) ≡ cond b (as_setting x ∷ filter (λ e. not (e.0 == n)) (map as_setting xs)) (filter (λ e. not (e.0 == n)) (map as_setting xs))
-    step true rest = ap (λ zs. as_setting x ∷ zs) rest
+    step : (b : Bool) → map entry_of (filter (is_other n) xs) ≡ filter (λ e. not (e.0 == n)) (map entry_of xs)
+        → map entry_of (cond b (x ∷ filter (is_other n) xs) (filter (is_other n) xs)) ≡ cond b (entry_of x ∷ filter (λ e. not (e.0 == n)) (map entry_of xs)) (filter (λ e. not (e.0 == n)) (map entry_of xs))
+    step true rest = ap (λ zs. entry_of x ∷ zs) rest
     step false rest = rest
 
-module _ (table : Settings) (order : SettingRow) (new : IsNextOrSettledAs (is_waiting order.state) table order) (xs : List SettingRow) (read : AreThose table xs) where
+module _ (table : Settings) (order : SettingRow) (new : IsNextOrSettledAs (is_waiting order.state) table order) (orders : List WaitingOrder) (read : AreThose table (map entry_of orders)) where
   abbrev after : Settings
   after = with_setting order.number (as_setting order).1 table
 
   sorted : AreByNumber after
   sorted = rows.is_sorted-put nat_cmp nat_cmp_total order.number (as_setting order).1 table read.0
 
-  pub one_more : is_waiting order.state ≡ true → AreThose after (xs ++ order ∷ [])
+  pub one_more : is_waiting order.state ≡ true → AreThose after (map entry_of (orders ++ not_looked_up order ∷ []))
   one_more waiting =
       let next = subst (λ b. IsNextOrSettledAs b table order) waiting new in
-      (sorted, map_append xs order ∙ ap (λ zs. zs ++ as_setting order ∷ []) read.1 ∙ sym (comes order.number (as_setting order).1 table read.0 next waiting))
+      let more = map-append entry_of orders (not_looked_up order ∷ []) in
+      (sorted, more ∙ ap (λ zs. zs ++ as_setting order ∷ []) read.1 ∙ sym (comes order.number (as_setting order).1 table read.0 next waiting))
 
-  pub one_less : is_waiting order.state ≡ false → AreThose after (filter (is_other order.number) xs)
+  pub one_less : is_waiting order.state ≡ false → AreThose after (map entry_of (filter (is_other order.number) orders))
   one_less settled =
-      (sorted, map_others order.number xs ∙ ap (filter (λ e. not (e.0 == order.number))) read.1 ∙ sym (goes order.number (as_setting order).1 settled table read.0))
+      (sorted, map_others order.number orders ∙ ap (filter (λ e. not (e.0 == order.number))) read.1 ∙ sym (goes order.number (as_setting order).1 settled table read.0))

@@ -19,7 +19,8 @@ use crate::ask::ask;
 use crate::ends::{self, Ends};
 use crate::error::{StoreError, fault_of};
 use crate::values::{number_of, value_at};
-use crate::{numbers, points, readings, requests, settings, totals, voids, waiting};
+use crate::waiting::{self, WaitingOrder};
+use crate::{numbers, points, readings, requests, settings, totals, voids};
 use poll_book::{
     Caller, Change, Keeper, Key, Neighbours, PointRow, Reading, ReadingRow, Request, Setting,
     SettingRow, StoreFault,
@@ -33,7 +34,7 @@ pub struct SqlKeeper<S: Alter> {
     alloc: Global,
     connection: Connection<S>,
     // The orders that wait, once they were read.
-    waiting: Option<Vec<SettingRow>>,
+    waiting: Option<Vec<WaitingOrder>>,
     // Where the readings of points end, once it was read.
     ends: Ends,
     // Where the voids of points end, as far as questions told it.

@@ -1,11 +1,11 @@
 //! The table of settings.
 
-ghost use Rattle.std.specs.Prelude.{◌≡◌, false, IfOk, IsTrue, OnOk};
+ghost use Rattle.std.specs.Prelude.{◌≡◌, false, IfOk, IsTrue, OnOk, map};
 ghost use Rattle.sqlite.specs.Held.{state};
 ghost use Rattle.sqlite.specs.State.{HasCleanDisk};
 ghost use Rattle.sqlite_value.specs.Value.{owned};
 ghost use Rattle.poll_book.specs.Tables.{Tables};
-ghost use Rattle.poll_book.specs.Orders.{last_order, setting_at};
+ghost use Rattle.poll_book.specs.Orders.{as_setting, last_order, setting_at};
 ghost use Rattle.office_store.specs.Kept.{Holds, Keeps};
 ghost use Rattle.office_store.specs.Rows.{state_of};
 ghost use Rattle.office_store.specs.Waiting.{AreThose};
@@ -65,7 +65,7 @@ pub(crate) fn all_waiting<S: Alter>(
 ) -> Result<Vec<SettingRow>, StoreFault>
     requires { connection.old.in_transaction ≡ false }
     ensures value { HasCleanDisk (state S.Store connection.new) → (kept : Tables) → Holds (state S.Store connection.old) kept
-        → IfOk result (λ orders. AreThose kept.settings orders.items) }
+        → IfOk result (λ orders. AreThose kept.settings (map as_setting orders.items)) }
     ensures keeps { Keeps (state S.Store connection.old) (state S.Store connection.new) }
     ensures idle { connection.new.in_transaction ≡ false }
 {

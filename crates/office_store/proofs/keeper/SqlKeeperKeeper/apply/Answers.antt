@@ -9,6 +9,7 @@ use Rattle.office_store.specs.Keepers.{IsKeptBy}
 use Rattle.office_store.specs.Waiting.{AreRead, HoldsBy}
 use Rattle.office_store.specs.Ends.{AreEnds, HasEnds, HasVoidEnds}
 use Rattle.office_store.specs.declared.ends.Ends.{Ends}
+use Rattle.office_store.proofs.LookedUp.{read_on}
 use Rattle.office_store.proofs.keeper.SqlKeeperKeeper.apply.Goals as goal
 
 told_ok : {T E P Q : Type 0} (r told : Result T E) → told ≡ r → (is_ok r ≡ true → P → Q) → OnOk r P → OnOk told Q
@@ -29,8 +30,9 @@ returns-clause-ok g c kept held fresh =
     let written = c.is_ok-is_written.ensures.value ∙ ok in
     let noted : HoldsBy new c.followed.result after =
     λ clean.
-    let read = subst (AreRead kept.settings) (sym c.take.ensures.value) (held.0 (done.clean clean)).1 in
-    (holds clean, c.followed.ensures.written written kept.settings fresh.setting read) in
+    let read = subst (AreRead kept.points kept.settings) (sym c.take.ensures.value) (held.0 (done.clean clean)).1 in
+    let orders = c.followed.ensures.written written kept.points kept.settings fresh.setting read in
+    (holds clean, read_on kept.points c.args.change.now.points after.settings c.followed.result orders) in
     let ends : HasEnds new c.follow.new.self.known.items after =
     λ clean.
     subst (λ (rows : List ReadingRow). AreEnds c.follow.new.self.known.items (with_rows (as_rows rows) kept.readings)) c.as_slice.ensures
@@ -52,7 +54,7 @@ returns-clause-err g c =
     let noted : HoldsBy new c.followed.result kept =
     λ clean.
     let same = c.followed.ensures.same written ∙ c.take.ensures.value in
-    (within kept (λ before. (held.0 before).0) clean, subst (AreRead kept.settings) (sym same) (held.0 (done.clean clean)).1) in
+    (within kept (λ before. (held.0 before).0) clean, subst (AreRead kept.points kept.settings) (sym same) (held.0 (done.clean clean)).1) in
     let ends : HasEnds new c.follow.new.self.known.items kept =
     λ clean. subst (λ (ends : Ends). AreEnds ends.known.items kept.readings) (sym (c.follow.ensures.same written)) (held.1 (done.clean clean)) in
     let void_ends : HasVoidEnds new c.follow_void.new.self.known.items kept =
