@@ -5,7 +5,7 @@ use Rattle.mb_mbap.specs.declared.frame.Frame.{Frame}
 use Rattle.poll_match.specs.Window.{held}
 use Rattle.point_list.specs.declared.site.Site.{Site}
 use Rattle.poll_book.specs.declared.rows.PointRow.{PointRow}
-use Rattle.poll_book.specs.Totals.{is_counter}
+use Rattle.poll_book.specs.Totals.{is_counter, value_after}
 use Rattle.poll_book.specs.Tables.{Within, readings_between}
 use Rattle.poll_book.specs.declared.keeper.Neighbours.{Ghosts}
 use Rattle.office_core.specs.declared.office.Office.{Office}
@@ -125,6 +125,14 @@ total_at before (Some known) = if is_counter known.point.role then Some (total b
 -- how far a known counter went
 abbrev pub total_of : History → List ℕ → Option ℕ
 total_of before name = total_at before (known_named (points before) name)
+
+abbrev pub value_after_at : History → Option PointRow → ℕ → Option ℕ
+value_after_at before None slot = None
+value_after_at before (Some known) slot = if is_counter known.point.role then value_after known slot (kept_readings before) else None
+
+-- the value of the nearest counted reading of a known counter after a slot
+abbrev pub value_after_of : History → List ℕ → ℕ → Option ℕ
+value_after_of before name slot = value_after_at before (known_named (points before) name) slot
 
 -- ---- queries by an order's number
 

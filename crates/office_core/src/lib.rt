@@ -12,6 +12,7 @@ mod commit;
 mod cover;
 mod error;
 mod event;
+mod growing;
 mod lacking;
 pub mod laws;
 mod loads;

@@ -1,5 +1,5 @@
 //! The office over any keeper.
-ghost use Rattle.std.specs.Prelude.{All, ◌≡◌, ◌<◌, ◌≤◌, ◌⊎◌, ◌∷◌, ◌++◌, ◌+◌, ◌*◌, ℕ, IfOk, IfErr, IfSome, List, OnOk, OnErr, MatchResult, Some, None, length, false, true, option_map, vec_len, vec_capacity};
+ghost use Rattle.std.specs.Prelude.{All, ◌≡◌, ◌<◌, ◌≤◌, ◌⊎◌, ◌∷◌, ◌+◌, ◌*◌, ℕ, IfOk, IfErr, OnErr, MatchResult, Some, None, length, false, true, option_map};
 ghost use Rattle.poll_book.specs.Fault.{Accounts, HasCause};
 ghost use Rattle.poll_book.specs.Looks.{IsRaisedAtMost};
 ghost use Rattle.poll_book.specs.Tables.{Tables, Within};
@@ -22,6 +22,7 @@ use crate::commit::{commit, write};
 use crate::cover::is_readable;
 use crate::error::OfficeError;
 use crate::event::{Arrival, Event, EventAnswer, RequestAnswer};
+use crate::growing::{add_points, follow_behind, take_names};
 use crate::lacking::some_lacks;
 use crate::loads::{Judged, judge};
 use crate::orders::{judge_order, judge_send};
@@ -66,60 +67,6 @@ fn judge_ask(
         return Err(OfficeError::NoRead);
     }
     Ok(to)
-}
-
-/// Takes all points by name in the place of some of them, where there are all.
-fn take_names(by_name: &mut ByName, all: Option<ByName>)
-    ensures { (known : List PointRow) → AreNamesOf known by_name.old → IfSome all (AreNamesOf known) → AreNamesOf known by_name.new }
-{
-    if let Some(all) = all {
-        *by_name = all;
-    }
-}
-
-/// So many points that no map has yet are put into both beside those that a list adds.
-const BESIDE: usize = 16;
-
-/// Adds rows to a copy of the points that has room for them.
-fn push_points(points: &mut Vec<PointRow>, rows: &[PointRow])
-    requires { vec_len points.old + length rows.now ≤ vec_capacity points.old }
-    ensures { points.new.items ≡ points.old.items ++ rows.now }
-{
-    for row in rows {
-        let _ = points.push(*row);
-    }
-}
-
-/// The same, with their devices and names.
-fn add_points(
-    points: &mut Vec<PointRow>,
-    by_device: &mut ByDevice,
-    by_name: &mut ByName,
-    rows: &[PointRow],
-)
-    requires room { vec_len points.old + length rows.now ≤ vec_capacity points.old }
-    requires few { length points.old.items + length rows.now ≤ 10000 }
-    requires devices { AreDevicesOf points.old.items by_device.old }
-    requires names { AreNamesOf points.old.items by_name.old }
-    ensures points { points.new.items ≡ points.old.items ++ rows.now }
-    ensures devices { AreDevicesOf points.new.items by_device.new }
-    ensures names { AreNamesOf points.new.items by_name.new }
-{
-    push_points(points, rows);
-    let count = rows.len().saturating_add(BESIDE);
-    by_device.follow(points, count);
-    let _ = by_name.follow(points, count);
-}
-
-/// Puts one point in behind an arrival that looked for those of a device.
-fn follow_behind(by_device: &mut ByDevice, points: &[PointRow], arrival: &Arrival)
-    requires few { length points.now ≤ 10000 }
-    requires devices { AreDevicesOf points.now by_device.old }
-    ensures { AreDevicesOf points.now by_device.new }
-{
-    if let Arrival::Recorded(_) = arrival {
-        by_device.follow_one(points);
-    }
 }
 
 /// The number of the last connection: the keeper's, but never less than one that is open, whatever
@@ -193,7 +140,7 @@ impl<K: Keeper> Office<K> {
     ghost use Rattle.office_core.specs.Arriving.{IsAnswered};
     ghost use Rattle.office_core.specs.Looking.{covered_of};
     ghost use Rattle.office_core.specs.Queries.{Answers};
-    ghost use Rattle.office_core.specs.Offices.{AnswerCaused, CauseFrom, CountedFrom, IsAlike, LeavesNoMore, LeavesRun, LeavesSo, LeavesUnused, Shows, Stands, StandsUnused, arrived, asked_so, keeper_of, opened, order_state_of, points_of, readings_of, site_of, told_so, total_of};
+    ghost use Rattle.office_core.specs.Offices.{AnswerCaused, CauseFrom, CountedFrom, IsAlike, LeavesNoMore, LeavesRun, LeavesSo, LeavesUnused, Shows, Stands, StandsUnused, arrived, asked_so, keeper_of, opened, order_state_of, points_of, readings_of, site_of, told_so, total_of, value_after_of};
 
     /// An office over what a keeper holds, with no connection open. A keeper that can't be read is
     /// given back with `Store`, and one with a point whose device isn't in the site with
@@ -698,6 +645,26 @@ impl<K: Keeper> Office<K> {
             return Ok(None);
         };
         Ok(Some(self.keeper.total(&row)?))
+    }
+
+    /// The value of the nearest counted reading of a counter after a slot, of those whose slot isn't voided; `None`
+    /// where there is none, or where no counter of this name is known.
+    pub fn value_after(&mut self, point: &str, slot: u32) -> Result<Option<u64>, OfficeError>
+        ensures value { K.is_clean (keeper_of self.new) → (before : History) → Stands self.old before
+            → IfOk result (λ value. value ≡ value_after_of before point.now slot) }
+        ensures cause { IfErr result (λ e. IsOfStore (CauseFrom self.old self.new) e) }
+        ensures counted { K.refused (keeper_of self.old) ≤ K.refused (keeper_of self.new) }
+        ensures same { IsAlike self.old self.new }
+        ensures leaves { K.is_clean (keeper_of self.new) → LeavesNoMore self.old self.new }
+        ensures clean { K.is_clean (keeper_of self.new) → K.is_clean (keeper_of self.old) }
+    {
+        let Some(row) = self.by_name.find(&self.points, point.as_bytes()) else {
+            return Ok(None);
+        };
+        let Role::Counter = row.point.role else {
+            return Ok(None);
+        };
+        Ok(self.keeper.after(&row, slot)?)
     }
 
     /// The first request of a caller under a key, and what became of it; `None` where the key wasn't

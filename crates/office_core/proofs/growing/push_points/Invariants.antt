@@ -1,5 +1,5 @@
 use Rattle.std.proofs.Common.{◌≡◌, ◌≤◌, ◌+◌, ◌++◌, length, take, vec_len, vec_capacity}
-use Rattle.office_core.proofs.office.push_points.Given as goal
+use Rattle.office_core.proofs.growing.push_points.Given as goal
 
 -- the rows so far were added, and there is room for the others
 abbrev pub invariant-loop-row : goal.invariant-loop-row
