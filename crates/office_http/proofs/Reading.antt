@@ -1,5 +1,6 @@
 -- From the front of the bytes to what all of them mean.
-use Rattle.std.proofs.Common.{◌≡◌, ◌≢◌, ℕ, zero, suc, ◌+◌, ◌<◌, ◌≤◌, inl, inr, List, [], ◌∷◌, ◌++◌, length, take, drop, refl, sym, ap, ◌∙◌, arith, subst, Option, Some, None, length-append, length-take, append_assoc, map}
+use Rattle.std.proofs.Common.{◌≡◌, ◌≢◌, ℕ, zero, suc, ◌+◌, ◌<◌, ◌≤◌, inl, inr, ◌⊎◌, List, [], ◌∷◌, ◌++◌, length, take, drop, refl, sym, ap, ◌∙◌, arith, subst, Option, Some, None, length-append, length-take, append_assoc, map}
+use Rattle.std.specs.Prelude.{min}
 use Rattle.std.proofs.lemmas.List.{length-drop, length-map, take-append-le, take-append-drop, take_all}
 use Rattle.std.proofs.Math.Seq.{take-append_seam}
 use Rattle.httparse.specs.Grammar.{ReadsRequest, RequestHead, print_request, HasNoRequest}
@@ -9,7 +10,7 @@ use Rattle.httparse.specs.declared.spans.RequestSpans.{RequestSpans}
 use Rattle.httparse.proofs.GrammarLemmas.{ReadsRequest-append, request_unique}
 use Rattle.office_http.specs.declared.heard.Heard.{Heard}
 use Rattle.office_http.specs.declared.heard.Refusal.TheVariants.{BadRequest}
-use Rattle.office_http.specs.Head.{HasHead}
+use Rattle.office_http.specs.Head.{BeginsWithHead, HasHead}
 use Rattle.office_http.specs.Heads.{IsAsked}
 use Rattle.office_http.specs.Heard.{meaning_of}
 use Rattle.office_http.specs.Meanings.{Meaning, refused, asked_of}
@@ -17,6 +18,7 @@ use Rattle.office_http.specs.Deciding.{Lacks, Decides}
 use Rattle.office_http.specs.Judging.{IsDue, Waits}
 use Rattle.office_http.specs.Fields.{count_in, length_of}
 use Rattle.office_http.proofs.Lacking.{lacks_until}
+use Rattle.std.proofs.lemmas.Bool.{cases_lt}
 use Rattle.std.proofs.lemmas.Option.{none-some}
 use Rattle.office_http.proofs.More.{asked_more}
 use Rattle.office_http.proofs.OnePlace.{names_once}
@@ -160,32 +162,66 @@ waits_more bytes piece until waits = λ more less.
 some_bytes : (bytes more : List ℕ) → 0 < length bytes → bytes ++ more ≢ []
 some_bytes bytes more some = λ e. let n = ap length e in omega (arith, n, some, length-append bytes more)
 
+-- no head within the limits begins with a full front without one
+pub headless_full : (front tail : List ℕ) (h : RequestHead) (rest : List ℕ) → length front ≡ 8192 → HasNoRequest front → HasHead (front ++ tail) h rest → ⊥
+headless_full front tail h rest full none has =
+    let k = length (print_request h) in
+    let short = has.short in
+    let first : take k front ≡ print_request h =
+    sym (take-append-le k front tail (omega (arith, short, full))) ∙ ap (take k) has.reads.1 ∙ take-append_seam (print_request h) rest in
+    let whole : front ≡ print_request h ++ drop k front = sym (take-append-drop k front) ∙ ap (λ x. x ++ drop k front) first in
+    none h (drop k front) (has.reads.0, whole)
+
+-- nor with one that overflows
+pub headless_refused : (front tail : List ℕ) (h : RequestHead) (rest : List ℕ) → RequestOverflows 32 front → HasHead (front ++ tail) h rest → ⊥
+headless_refused front tail h rest over has =
+    let many = over tail h rest has.reads in
+    let few = has.few in
+    omega (arith, many, few)
+
+-- what bytes and more begin with, the front begins, the rest and more behind it
+in_more : (bytes : List ℕ) (n : ℕ) (more : List ℕ) (h : RequestHead) (rest : List ℕ) → HasHead (bytes ++ more) h rest → HasHead (take n bytes ++ (drop n bytes ++ more)) h rest
+in_more bytes n more h rest has =
+    let input : bytes ++ more ≡ take n bytes ++ (drop n bytes ++ more) =
+    ap (λ b. b ++ more) (sym (take-append-drop n bytes)) ∙ append_assoc (take n bytes) (drop n bytes) more in
+    subst (λ b. HasHead b h rest) input has
+
+-- bytes, whose front is judged, begin with a head or with none
+pub headed : (bytes : List ℕ) (n : ℕ) (headers : List HeaderSpan) (spans : RequestSpans) → n ≤ 8192 → length headers ≤ 32
+    → IsRequestOf (take n bytes) headers spans → IsRequestWithin (take n bytes) headers spans → BeginsWithHead bytes
+headed bytes n headers spans limit few of within =
+    (of.0, drop spans.len bytes ++ [], subst (λ b. HasHead b of.0 (drop spans.len bytes ++ [])) (append_nil bytes) (has_head_in bytes [] n headers spans of.0 limit few of.1 within))
+
+in_front : (bytes : List ℕ) (n : ℕ) (h : RequestHead) (rest : List ℕ) → HasHead bytes h rest → HasHead (take n bytes ++ drop n bytes) h rest
+in_front bytes n h rest has = subst (λ b. HasHead b h rest) (sym (take-append-drop n bytes)) has
+
+-- the front of that length is all of the bytes, or full
+whole_or_full : (bytes : List ℕ) (n : ℕ) → n ≡ min (length bytes) 8192 → (length bytes < 8192) ⊎ (8192 ≤ length bytes) → (length bytes ≤ n) ⊎ (length (take n bytes) ≡ 8192)
+whole_or_full bytes n is (inl less) = inl (omega (arith, is, less))
+whole_or_full bytes n is (inr more) = inr (omega (arith, is, more, length-take n bytes))
+
+pub front_whole_or_full : (bytes : List ℕ) (n : ℕ) → n ≡ min (length bytes) 8192 → (length bytes ≤ n) ⊎ (length (take n bytes) ≡ 8192)
+front_whole_or_full bytes n is = whole_or_full bytes n is (cases_lt (length bytes) 8192)
+
+pub headless : (bytes : List ℕ) (n : ℕ) → (length bytes ≤ n) ⊎ (length (take n bytes) ≡ 8192) → HasNoRequest (take n bytes) → BeginsWithHead bytes → ⊥
+headless bytes n (inl all) none begins =
+    let P : List ℕ → Type 0 = HasNoRequest in
+    subst P (take_all n bytes all) none begins.0 begins.1 begins.2.reads
+headless bytes n (inr full) none begins = headless_full (take n bytes) (drop n bytes) begins.0 begins.1 full none (in_front bytes n begins.0 begins.1 begins.2)
+
+pub headless_over : (bytes : List ℕ) (n : ℕ) → RequestOverflows 32 (take n bytes) → BeginsWithHead bytes → ⊥
+headless_over bytes n over begins = headless_refused (take n bytes) (drop n bytes) begins.0 begins.1 over (in_front bytes n begins.0 begins.1 begins.2)
+
 -- a full front without a head: whatever follows, the request is bad
 pub decided_full : (bytes : List ℕ) (n : ℕ) → 0 < length bytes → length (take n bytes) ≡ 8192 → HasNoRequest (take n bytes) → Decides bytes (refused BadRequest)
 decided_full bytes n some full none = λ more. inr (
-  λ m w.
-      let front = take n bytes in
-      let tail = drop n bytes ++ more in
-      let short = w.has.short in
-      let k = length (print_request w.head) in
-      let input : bytes ++ more ≡ front ++ tail = ap (λ b. b ++ more) (sym (take-append-drop n bytes)) ∙ append_assoc front (drop n bytes) more in
-      let reads = subst (λ b. ReadsRequest b w.head w.rest) input w.has.reads in
-      let first : take k front ≡ print_request w.head =
-      sym (take-append-le k front tail (omega (arith, short, full))) ∙ ap (take k) reads.1 ∙ take-append_seam (print_request w.head) w.rest in
-      let whole : front ≡ print_request w.head ++ drop k front = sym (take-append-drop k front) ∙ ap (λ x. x ++ drop k front) first in
-      none w.head (drop k front) (reads.0, whole),
+  λ m w. headless_full (take n bytes) (drop n bytes ++ more) w.head w.rest full none (in_more bytes n more w.head w.rest w.has),
   inr (some_bytes bytes more some, refl),
 )
 
 -- a front that no head within the limits begins: the same
 pub decided_refused : (bytes : List ℕ) (n : ℕ) → 0 < length bytes → RequestOverflows 32 (take n bytes) → Decides bytes (refused BadRequest)
 decided_refused bytes n some over = λ more. inr (
-  λ m w.
-      let front = take n bytes in
-      let tail = drop n bytes ++ more in
-      let input : bytes ++ more ≡ front ++ tail = ap (λ b. b ++ more) (sym (take-append-drop n bytes)) ∙ append_assoc front (drop n bytes) more in
-      let many = over tail w.head w.rest (subst (λ b. ReadsRequest b w.head w.rest) input w.has.reads) in
-      let few = w.has.few in
-      omega (arith, many, few),
+  λ m w. headless_refused (take n bytes) (drop n bytes ++ more) w.head w.rest over (in_more bytes n more w.head w.rest w.has),
   inr (some_bytes bytes more some, refl),
 )

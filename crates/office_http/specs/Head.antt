@@ -13,3 +13,7 @@ pub record HasHead (input : List ℕ) (head : RequestHead) (rest : List ℕ) : T
   pub reads : ReadsRequest input head rest
   pub short : length (print_request head) ≤ head_limit
   pub few : length head.fields ≤ field_limit
+
+-- the input begins with a head within the limits
+abbrev pub BeginsWithHead : List ℕ → Type 0
+BeginsWithHead input = (head : RequestHead) × (rest : List ℕ) × HasHead input head rest

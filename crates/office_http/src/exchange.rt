@@ -1,9 +1,11 @@
 //! A request, of which pieces come.
-ghost use Rattle.std.specs.Prelude.{◌≡◌, ◌++◌, ◌<◌, ◌≤◌, [], IfOk, OnErr, OnOk, length};
+ghost use Rattle.std.specs.Prelude.{◌≡◌, ◌++◌, ◌<◌, ◌≤◌, ◌↔◌, [], IfOk, IsTrue, OnErr, OnOk, length};
 ghost use Rattle.office_http.specs.Deciding.{Lacks, Means};
+ghost use Rattle.office_http.specs.Head.{BeginsWithHead};
 ghost use Rattle.office_http.specs.Heard.{meaning_of};
 ghost use Rattle.office_http.specs.Judging.{IsShort, Judges, Waits};
 
+use crate::head::begins_with_head;
 use crate::heard::{Heard, Refusal};
 use crate::verdict::{Verdict, judge};
 use std::alloc::{AllocError, Global};
@@ -70,6 +72,13 @@ impl Exchange {
             self.bytes.truncate(count);
         }
         asked
+    }
+
+    /// Whether its head is whole, within the limits of one: what lacks then is of the body.
+    pub fn has_head(&self) -> bool
+        ensures { IsTrue result ↔ BeginsWithHead (bytes_of self.now) }
+    {
+        begins_with_head(&self.bytes)
     }
 
     /// What is asked for where no more bytes come, and no whole request is there.
