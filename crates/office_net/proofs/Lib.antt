@@ -22,6 +22,7 @@ pub mod Turned
 pub mod Requested
 pub mod Shown
 pub mod Connected
+pub mod Learning
 pub mod Leading
 pub mod Stepped
 pub mod Readable

@@ -1,6 +1,7 @@
 -- Calls one behind the other, whoever makes them.
 use Rattle.std.proofs.Common.{◌≡◌, inl, inr, Bool, true, false, ℕ, List, [], ◌∷◌, ◌++◌, Option, Some, None, Result, Ok, Err, refl, sym, ap, subst}
 use Rattle.std.specs.Prelude.{MatchResult, OnErr, String, string_bytes}
+use Rattle.mb_mbap.specs.declared.frame.Frame.{Frame}
 use Rattle.std.specs.declared.alloc.Global.{Global}
 use Rattle.poll_book.specs.declared.keeper.Neighbours.{Ghosts}
 use Rattle.poll_book.specs.Tables.{Tables, Within}
@@ -8,7 +9,7 @@ use Rattle.office_core.specs.declared.office.Office.{Office}
 use Rattle.office_core.specs.declared.error.OfficeError.{OfficeError}
 use Rattle.office_core.specs.declared.event.Event.{Event}
 use Rattle.office_core.specs.declared.event.EventAnswer.{EventAnswer}
-use Rattle.office_core.specs.declared.event.EventAnswer.TheVariants.{Refused}
+use Rattle.office_core.specs.declared.event.EventAnswer.TheVariants.{Query, Refused}
 use Rattle.office_core.specs.History.{Happening, History, tables}
 use Rattle.office_core.specs.Leavings.{LeftAfter, Leaves}
 use Rattle.office_core.specs.Legal.{MayHappen}
@@ -16,7 +17,7 @@ use Rattle.office_core.specs.Messages.{happening_of}
 use Rattle.office_core.specs.Offices.{IsAlike, Stands}
 use Rattle.office_core.specs.Standing.{Goes, Sees, is_store}
 use Rattle.office_http.specs.Meanings.{Meaning}
-use Rattle.office_net.specs.Following.{Fails, Follows, Happens, MayLeave, Stays, TurnFails}
+use Rattle.office_net.specs.Following.{Fails, Follows, Happens, MayLeave, Stays, TurnFails, Turns}
 use Rattle.office_net.specs.Moves.{turn_of}
 use Rattle.office_net.specs.Proceeding.{Did, GoesAlong, LeftBySteps, Missed, Proceeds, Step, stepped}
 use Rattle.office_net.specs.Replies.{event_of, with_event}
@@ -51,6 +52,23 @@ pub turn_missed : (stood stands : History → Type 0) (might may : Tables → Ty
 turn_missed stood stands might may conn slot job e (inl unasked) = still stood stands might may unasked.0
 turn_missed stood stands might may conn slot job e (inr asked) =
     missed stood stands might may (λ now. turn_of conn slot now job) (Refused e) asked.1
+
+turn_taken : (stood stands : History → Type 0) (might may : Tables → Type 0) (conn slot : ℕ) (job : LineJob) (query : Option Frame)
+    → Turns stood stands might may conn slot job query → Proceeds stood stands might may
+turn_taken stood stands might may conn slot job (Some query) turned = did stood stands might may (λ now. turn_of conn slot now job) (Query query) turned.1
+turn_taken stood stands might may conn slot job None turned = still stood stands might may turned.1
+
+-- a job's turn was, however it went
+pub turn_went : (stood stands : History → Type 0) (might may : Tables → Type 0) (conn slot : ℕ) (job : LineJob) (told : Result (Option Frame) OfficeError)
+    → MatchResult told (Turns stood stands might may conn slot job) (TurnFails stood stands might may conn slot job) → Proceeds stood stands might may
+turn_went stood stands might may conn slot job (Ok query) turned = turn_taken stood stands might may conn slot job query turned
+turn_went stood stands might may conn slot job (Err e) turned = turn_missed stood stands might may conn slot job e turned
+
+-- something was asked for a known event, and a query made of it
+pub asked_went : (stood stands : History → Type 0) (might may : Tables → Type 0) (event : History → Happening) (told : Result Frame OfficeError)
+    → MatchResult told (λ query. Happens stood stands might may event (Query query)) (λ e. Fails stood stands might may event (Refused e)) → Proceeds stood stands might may
+asked_went stood stands might may event (Ok query) went = did stood stands might may event (Query query) went
+asked_went stood stands might may event (Err e) went = missed stood stands might may event (Refused e) went
 
 -- ---- calls, and then more
 

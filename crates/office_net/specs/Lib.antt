@@ -9,3 +9,4 @@ pub mod Replies
 pub mod Serving
 pub mod Drills
 pub mod Proceeding
+pub mod Counting

@@ -1,12 +1,12 @@
 //! The office's calls, each told as what happened.
 ghost use Rattle.std.specs.Prelude.{◌≡◌, ◌≤◌, IfErr, IfOk, MatchResult, false, option_map};
 ghost use Rattle.mb_pdu.specs.Replies.{IsBytes};
-ghost use Rattle.poll_book.specs.Orders.{as_setting};
+ghost use Rattle.poll_book.specs.Orders.{as_setting, last_order};
 ghost use Rattle.office_core.specs.Errors.{IsCaused, IsOfStore};
-ghost use Rattle.office_core.specs.History.{Ask, History, Send};
+ghost use Rattle.office_core.specs.History.{Ask, History, Send, settings};
 ghost use Rattle.office_core.specs.Lacking as lacking;
 ghost use Rattle.office_core.specs.Messages.{arriving};
-ghost use Rattle.office_core.specs.Offices.{CauseFrom, arrived, keeper_of};
+ghost use Rattle.office_core.specs.Offices.{CauseFrom, arrived, keeper_of, value_after_of};
 ghost use Rattle.office_core.specs.Standing as standing;
 ghost use Rattle.office_core.specs.declared.event.EventAnswer.TheVariants.{Query, Refused};
 ghost use Rattle.office_net.specs.Following.{Fails, Follows, Happens, MayLeave, Stays};
@@ -56,6 +56,32 @@ pub(crate) fn waiting<K: Keeper>(
     ensures clean { K.is_clean (keeper_of office.new) → K.is_clean (keeper_of office.old) }
 {
     office.waiting(device)
+}
+
+/// The number of the last order.
+pub(crate) fn orders<K: Keeper>(office: &mut Office<K>) -> Result<u32, OfficeError>
+    ensures value { K.is_clean (keeper_of office.new) → (now : History) → Follows office.old now
+        → IfOk result (λ number. number ≡ last_order (settings now)) }
+    ensures stays { K.is_clean (keeper_of office.new)
+        → Stays (Follows office.old) (Follows office.new) (MayLeave office.old) (MayLeave office.new) }
+    ensures clean { K.is_clean (keeper_of office.new) → K.is_clean (keeper_of office.old) }
+{
+    office.orders()
+}
+
+/// The value of the nearest counted reading of a counter after a slot.
+pub(crate) fn value_after<K: Keeper>(
+    office: &mut Office<K>,
+    point: &str,
+    slot: u32,
+) -> Result<Option<u64>, OfficeError>
+    ensures value { K.is_clean (keeper_of office.new) → (now : History) → Follows office.old now
+        → IfOk result (λ value. value ≡ value_after_of now point.now slot) }
+    ensures stays { K.is_clean (keeper_of office.new)
+        → Stays (Follows office.old) (Follows office.new) (MayLeave office.old) (MayLeave office.new) }
+    ensures clean { K.is_clean (keeper_of office.new) → K.is_clean (keeper_of office.old) }
+{
+    office.value_after(point, slot)
 }
 
 /// A device is asked.

@@ -1,14 +1,21 @@
 //! Calls between which others may have the office: what they promise holds of every history that it follows.
+ghost use Rattle.std.specs.Prelude.{◌≡◌, IfOk};
+ghost use Rattle.poll_book.specs.Orders as orders;
+ghost use Rattle.office_core.specs.History.{History, settings};
+ghost use Rattle.office_core.specs.Offices.{keeper_of};
+ghost use Rattle.office_net.specs.Following.{Follows};
 ghost use Rattle.office_net.specs.Proceeding.{GoesAlong};
 
 use crate::answering::respond;
-use crate::calls::are_bytes;
+use crate::calls::{are_bytes, orders, send_order, waiting};
+use crate::turns::ask_lacking;
 use mb_mbap::Frame;
 use office_core::laws::any_message;
 use office_core::{Arrival, Office, OfficeError};
 use office_http::Heard;
-use poll_book::{Keeper, StoreFault};
+use poll_book::{Keeper, SettingRow, StoreFault};
 use poll_match::Conn;
+use read_planner::Read;
 use std::alloc::Global;
 
 /// Opens a line by its name, and closes its former connection. It refuses as `Office::open_line` does.
@@ -43,4 +50,63 @@ pub fn respond_among<K: Keeper>(
     ensures { GoesAlong office.old office.new }
 {
     respond(alloc, office, asked)
+}
+
+/// The number of the last order, 0 before the first.
+pub fn last_order<K: Keeper>(office: &mut Office<K>) -> Result<u32, OfficeError>
+    ensures value { K.is_clean (keeper_of office.new) → (now : History) → Follows office.old now
+        → IfOk result (λ number. number ≡ orders.last_order (settings now)) }
+    ensures along { GoesAlong office.old office.new }
+{
+    orders(office)
+}
+
+/// Asks a read of a device, if some point that it covers has no reading in the slot. It refuses as `Office::lacks` and
+/// `Office::ask` do.
+pub fn ask_among<K: Keeper>(
+    office: &mut Office<K>,
+    conn: Conn,
+    slot: u32,
+    device: &str,
+    read: &Read,
+) -> Result<Option<Frame>, OfficeError>
+    ensures { GoesAlong office.old office.new }
+{
+    ask_lacking(office, conn, slot, device, read)
+}
+
+/// The oldest order that waits on a device.
+fn oldest<K: Keeper>(
+    office: &mut Office<K>,
+    device: &str,
+) -> Result<Option<SettingRow>, OfficeError>
+    ensures { GoesAlong office.old office.new }
+{
+    waiting(office, device)
+}
+
+/// An order is sent.
+fn send<K: Keeper>(office: &mut Office<K>, conn: Conn, number: u32) -> Result<Frame, OfficeError>
+    ensures { GoesAlong office.old office.new }
+{
+    send_order(office, conn, number)
+}
+
+/// Sends the oldest order that waits on a device, if its number is at most `last`. It refuses as `Office::waiting` and
+/// `Office::send_order` do.
+pub fn send_among<K: Keeper>(
+    office: &mut Office<K>,
+    conn: Conn,
+    device: &str,
+    last: u32,
+) -> Result<Option<Frame>, OfficeError>
+    ensures { GoesAlong office.old office.new }
+{
+    match oldest(office, device)? {
+        Some(order) if order.number <= last => {
+            let query = send(office, conn, order.number)?;
+            Ok(Some(query))
+        }
+        _ => Ok(None),
+    }
 }

@@ -33,7 +33,7 @@ fn send_next<K: Keeper>(
 }
 
 /// Asks a read, if some point that it covers has no reading in the slot.
-fn ask_lacking<K: Keeper>(
+pub(crate) fn ask_lacking<K: Keeper>(
     office: &mut Office<K>,
     conn: Conn,
     slot: u32,
