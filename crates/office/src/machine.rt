@@ -14,6 +14,7 @@ use std::alloc::Global;
 use std::fs;
 use std::io::{self, ErrorKind, StdinLock, Write};
 use std::net::{SocketAddr, TcpListener, TcpStream};
+use std::rt::Stderr;
 use std::time::Duration;
 
 #[derive(Drop)]
@@ -46,10 +47,10 @@ fn system_of<'a, K: Keeper>(
     rt: &'a HostRuntime,
     office: &Office<K>,
     stay: &Stay<'_>,
-) -> Result<System<'a, HostRuntime>, Failure> {
+) -> Result<System<'a, HostRuntime, Stderr>, Failure> {
     let door = door_of(rt.alloc(), stay)?;
-    let addresses = addresses_of(rt, rt.alloc(), office.site())?;
-    let system = match System::new(rt, rt.alloc(), door, addresses) {
+    let addresses = addresses_of(rt.alloc(), office.site())?;
+    let system = match System::new(rt, rt.alloc(), door, addresses, rt.stderr()) {
         Ok(system) => system,
         Err(error) => return Err(line_failure(error).of(rt.alloc(), stay.bind)),
     };

@@ -6,7 +6,7 @@ use point_list::Site;
 use poll_book::Keeper;
 use run_beat::{Slots, SocketFault, Sockets};
 use std::alloc::{AllocError, Global};
-use std::net::{IpAddr, Net, SocketAddr, ToSocketAddrs};
+use std::net::{IpAddr, SocketAddr};
 
 /// How an office stays up.
 #[derive(Clone, Copy, Debug)]
@@ -31,30 +31,35 @@ pub fn door_of(alloc: Global, stay: &Stay<'_>) -> Result<SocketAddr, Failure> {
     }
 }
 
-/// The first address of a host and port; none where there is none.
-fn address_of<N: Net>(net: &N, address: &str) -> Option<SocketAddr> {
-    match address.to_socket_addrs(net) {
-        Ok(mut found) => found.next(),
-        Err(_) => None,
-    }
-}
-
-/// The address of each line of a site, as the system has it now.
-pub fn addresses_of<N: Net>(
-    net: &N,
-    alloc: Global,
-    site: &Site,
-) -> Result<Vec<Option<SocketAddr>>, AllocError> {
+/// The address of each line of a site, a host and port.
+pub fn addresses_of(alloc: Global, site: &Site) -> Result<Vec<String>, AllocError> {
     let mut addresses = Vec::new(alloc);
     for line in site.lines.as_slice() {
-        addresses.push(address_of(net, line.address.as_str()))?;
+        addresses.push(String::from_str(alloc, line.address.as_str())?)?;
     }
     Ok(addresses)
 }
 
-fn failure_of(fault: RunFault) -> Failure {
+/// The counter of a number is counted in a slot in which it can't have been polled yet.
+fn ahead<K: Keeper>(alloc: Global, office: &Office<K>, number: u32, slot: u32) -> Failure {
+    let failure = Failure::new(
+        Fault::Line,
+        Why::Words("it is counted there, a day from now or later: was the clock or --every another?"),
+    );
+    let Some(row) = office.points().iter().find(|row| row.number == number) else {
+        return failure;
+    };
+    match format!(in alloc; "{} in slot {slot}", row.point.name) {
+        Ok(place) => failure.of(alloc, place.as_str()),
+        Err(_) => failure,
+    }
+}
+
+fn failure_of<K: Keeper>(alloc: Global, office: &Office<K>, fault: RunFault) -> Failure {
     match fault {
+        RunFault::Ahead { point, slot } => ahead(alloc, office, point, slot),
         RunFault::Memory => Failure::from(Fault::Memory),
+        RunFault::Store(fault) => Failure::from(Fault::Store(fault)),
         RunFault::Sockets(SocketFault::Clock) => {
             Failure::new(
                 Fault::Line,
@@ -85,6 +90,6 @@ pub fn stay_up<K: Keeper, S: Sockets>(
         u32::from(stay.timeout) * 1000,
     ) {
         Ok(()) => Ok(()),
-        Err(fault) => Err(failure_of(fault)),
+        Err(fault) => Err(failure_of(alloc, office, fault)),
     }
 }

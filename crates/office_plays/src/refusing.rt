@@ -1,4 +1,4 @@
-//! A keeper in memory that refuses one of its calls.
+//! A keeper in memory that refuses some of its calls.
 ghost use Rattle.std.specs.Prelude.{◌≡◌};
 ghost use Rattle.poll_book.specs.Fault.{CountsRefusal, IsCountedOn};
 ghost use Rattle.poll_book.specs.Looks.{CountsRows};
@@ -9,13 +9,23 @@ use poll_book::{
 };
 use std::alloc::Global;
 
-/// Refuses the call of this number, counted from 0, and keeps all else.
+/// Which calls are refused.
+#[derive(Clone, Copy, Debug, PartialEq, Eq)]
+enum Refused {
+    /// All from the one of this number on, up to the one before another number.
+    Calls(u32, u32),
+    /// The changes of these numbers.
+    Changes(u32, u32),
+}
+
+/// Refuses some calls, or some changes, which are counted from 0, and keeps all else.
 #[derive(Drop)]
 pub struct Refusing {
     kept: MemKeeper,
-    at: u32,
+    refused: Refused,
     fault: StoreFault,
     pub calls: u32,
+    changes: u32,
     // How many calls were refused, up to the greatest count.
     refusals: u64,
     // How many look-ups were made, up to the greatest count.
@@ -52,14 +62,38 @@ fn looked<T>(lookups: &mut u64, answer: Result<Vec<T>, StoreFault>) -> Result<Ve
 }
 
 impl Refusing {
-    pub fn new(alloc: Global, at: u32, fault: StoreFault) -> Refusing {
+    fn with(alloc: Global, refused: Refused, fault: StoreFault) -> Refusing {
         Refusing {
             kept: MemKeeper::new(alloc),
-            at,
+            refused,
             fault,
             calls: 0,
+            changes: 0,
             refusals: 0,
             lookups: 0,
+        }
+    }
+
+    /// Refuses the call of this number.
+    pub fn new(alloc: Global, at: u32, fault: StoreFault) -> Refusing {
+        Refusing::with(alloc, Refused::Calls(at, at.saturating_add(1)), fault)
+    }
+
+    /// Refuses each call from this number on.
+    pub fn from(alloc: Global, at: u32, fault: StoreFault) -> Refusing {
+        Refusing::with(alloc, Refused::Calls(at, u32::MAX), fault)
+    }
+
+    /// Refuses each change from this number on, up to the one before another number.
+    pub fn changes(alloc: Global, from: u32, to: u32, fault: StoreFault) -> Refusing {
+        Refusing::with(alloc, Refused::Changes(from, to), fault)
+    }
+
+    /// Whether the next call, or the next change, is refused.
+    fn refuses(&self) -> bool {
+        match self.refused {
+            Refused::Calls(from, to) => from <= self.calls && self.calls < to,
+            Refused::Changes(from, to) => from <= self.changes && self.changes < to,
         }
     }
 
@@ -68,9 +102,28 @@ impl Refusing {
         ensures counted { CountsRefusal self.old.refusals self.new.refusals result }
         ensures looked { self.new.lookups ≡ self.old.lookups }
     {
-        let call = self.calls;
-        self.calls = call.saturating_add(1);
-        if call == self.at {
+        let is_refused = self.refuses() && matches!(self.refused, Refused::Calls(..));
+        self.calls = self.calls.saturating_add(1);
+        self.answer(is_refused)
+    }
+
+    fn count_change(&mut self) -> Result<(), StoreFault>
+        ensures same { self.new.kept ≡ self.old.kept }
+        ensures counted { CountsRefusal self.old.refusals self.new.refusals result }
+        ensures looked { self.new.lookups ≡ self.old.lookups }
+    {
+        let is_refused = self.refuses();
+        self.calls = self.calls.saturating_add(1);
+        self.changes = self.changes.saturating_add(1);
+        self.answer(is_refused)
+    }
+
+    fn answer(&mut self, is_refused: bool) -> Result<(), StoreFault>
+        ensures same { self.new.kept ≡ self.old.kept }
+        ensures counted { CountsRefusal self.old.refusals self.new.refusals result }
+        ensures looked { self.new.lookups ≡ self.old.lookups }
+    {
+        if is_refused {
             self.refusals = self.refusals.saturating_add(1);
             Err(self.fault)
         } else {
@@ -205,7 +258,7 @@ impl Keeper for Refusing {
     }
 
     fn apply(&mut self, change: &Change) -> Result<(), StoreFault> {
-        self.count()?;
+        self.count_change()?;
         let answer = self.kept.apply(change);
         counted(&mut self.refusals, answer)
     }

@@ -1,6 +1,12 @@
--- What waits to be written over a line's connection.
+-- What waits over a line's connection.
 use Rattle.std.specs.Prelude.{ℕ, List}
 use Rattle.office_run.specs.declared.link.Link.{Link}
+use Rattle.office_run.specs.declared.window.Query.{Query}
 
+-- the bytes that wait to be written
 abbrev pub waiting_in : Link → List ℕ
 waiting_in link = link.out
+
+-- the queries that are neither answered nor given up
+abbrev pub asked_in : Link → List Query
+asked_in link = link.window

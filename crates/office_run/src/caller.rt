@@ -1,16 +1,19 @@
 //! A caller's exchange.
 ghost use Rattle.office_net.specs.Proceeding.{GoesAlong};
 
-use crate::head_end::HeadEnd;
-use office_core::Office;
+use crate::moved::Moved;
+use office_core::{Office, OfficeError};
 use office_http::{Exchange, Heard, answer};
-use office_net::respond_among;
-use poll_book::Keeper;
+use office_net::{last_order, respond_among};
+use poll_book::{Keeper, StoreFault};
 use run_beat::{
     CLOSING_MILLIS, Came, EXCHANGE_MILLIS, HEAD_MILLIS, Moment, Outbox, Sent, Sockets, Source,
 };
 use std::alloc::{AllocError, Global};
 use std::mem;
+
+/// A caller that has been there for so many milliseconds may go for another one.
+const SLOW_MILLIS: u32 = 10_000;
 
 /// So many bytes are read of a caller in a turn at most.
 const PIECE: usize = 4096;
@@ -24,6 +27,15 @@ pub(crate) enum Mood {
     Answering,
     /// All is written; what still comes is dropped, so that the caller gets the answer.
     Closing,
+}
+
+/// How soon a caller goes where another one waits for its place: the least goes first.
+#[derive(Clone, Copy, Debug, PartialEq, Eq, PartialOrd, Ord)]
+pub(crate) enum Hold {
+    /// It is in its head, since it came.
+    InHead(Moment),
+    /// It has been there for ten seconds, and moved so many bytes in the last ten.
+    Slow(usize),
 }
 
 /// The caller is to go.
@@ -41,7 +53,8 @@ impl From<AllocError> for Gone {
 pub(crate) struct Caller {
     alloc: Global,
     exchange: Exchange,
-    head: HeadEnd,
+    // Whether its head is whole.
+    has_head: bool,
     mood: Mood,
     out: Outbox,
     // It came at this moment.
@@ -50,8 +63,52 @@ pub(crate) struct Caller {
     until: Moment,
     // Whether it was read of, and had no more to say.
     has_paused: bool,
-    // Whether it asked for an order, of which nobody was told yet.
-    has_ordered: bool,
+    moved: Moved,
+    // What became of what it asked for, of which nobody was told yet.
+    news: News,
+}
+
+/// What became of what a caller asked for.
+#[derive(Clone, Copy, Debug)]
+pub(crate) struct News {
+    /// An order for this line was accepted.
+    pub ordered: Option<u16>,
+    /// Whether a slot was voided, or may have been.
+    pub has_voided: bool,
+    /// What the store refused.
+    pub refused: Option<StoreFault>,
+}
+
+/// Nothing yet.
+const NO_NEWS: News = News {
+    ordered: None,
+    has_voided: false,
+    refused: None,
+};
+
+/// The line of the device of a point.
+fn line_of<K: Keeper>(office: &Office<K>, point: &str) -> Option<u16> {
+    let row = office.point(point)?;
+    let device = office.site().device(row.point.device.as_str())?;
+    Some(device.line)
+}
+
+/// The number of the last order, where the store tells it.
+fn orders_of<K: Keeper>(office: &mut Office<K>) -> Result<u32, StoreFault>
+    ensures { GoesAlong office.old office.new }
+{
+    match last_order(office) {
+        Ok(number) => Ok(number),
+        Err(OfficeError::Store(fault)) => Err(fault),
+        Err(_) => Err(StoreFault::Other),
+    }
+}
+
+/// Whether there are other orders than up to this number; also where the store doesn't tell it.
+fn has_more<K: Keeper>(office: &mut Office<K>, before: u32) -> bool
+    ensures { GoesAlong office.old office.new }
+{
+    orders_of(office) != Ok(before)
 }
 
 impl Caller {
@@ -59,13 +116,14 @@ impl Caller {
         Caller {
             alloc,
             exchange: Exchange::new(alloc),
-            head: HeadEnd::None,
+            has_head: false,
             mood: Mood::Hearing,
             out: Outbox::new(alloc),
             since: now,
             until: now.after(EXCHANGE_MILLIS),
             has_paused: false,
-            has_ordered: false,
+            moved: Moved::none(),
+            news: NO_NEWS,
         }
     }
 
@@ -78,24 +136,67 @@ impl Caller {
         }
     }
 
-    /// Whether it has to be waited for within its head. Of one that was just taken nothing was read yet.
-    pub fn is_slow(&self) -> bool {
-        self.is_in_head() && self.has_paused
+    /// How soon it goes where another one waits; none where it has to be waited for. Of one that was just taken nothing
+    /// was read yet. What it asks for is done within a turn, so nothing of that is under way.
+    pub fn hold(&self, now: Moment) -> Option<Hold> {
+        let is_in_head = self.is_in_head();
+        if is_in_head && self.has_paused {
+            Some(Hold::InHead(self.since))
+        } else if !is_in_head && self.slow_from() <= now {
+            Some(Hold::Slow(self.moved.total(now)))
+        } else {
+            None
+        }
+    }
+
+    /// From when on it may go for another one, though its head is whole.
+    pub fn slow_from(&self) -> Moment {
+        self.since.after(SLOW_MILLIS)
     }
 
     /// Whether its head isn't whole.
     fn is_in_head(&self) -> bool {
-        self.mood == Mood::Hearing && self.head != HeadEnd::Whole
+        self.mood == Mood::Hearing && !self.has_head
     }
 
-    /// Whether it asked for an order since this was asked last.
-    pub fn has_ordered(&mut self) -> bool {
-        mem::replace(&mut self.has_ordered, false)
+    /// What became of what it asked for since this was asked last.
+    pub fn news(&mut self) -> News {
+        mem::replace(&mut self.news, NO_NEWS)
     }
 
-    /// When it came.
-    pub fn since(&self) -> Moment {
-        self.since
+    /// Does what an order for a point asks for. Where it was accepted, it is noted for which line.
+    fn order<K: Keeper>(
+        &mut self,
+        office: &mut Office<K>,
+        heard: &Heard,
+        point: &str,
+    ) -> Result<String, StoreFault>
+        ensures { GoesAlong office.old office.new }
+    {
+        let before = orders_of(office)?;
+        let text = respond_among(self.alloc, office, heard)?;
+        if has_more(office, before) {
+            self.news.ordered = line_of(office, point);
+        }
+        Ok(text)
+    }
+
+    /// Does what was asked for.
+    fn respond<K: Keeper>(
+        &mut self,
+        office: &mut Office<K>,
+        heard: &Heard,
+    ) -> Result<String, StoreFault>
+        ensures { GoesAlong office.old office.new }
+    {
+        match heard {
+            Heard::Order { point, .. } => self.order(office, heard, point.as_str()),
+            Heard::Void { .. } => {
+                self.news.has_voided = true;
+                respond_among(self.alloc, office, heard)
+            }
+            _ => respond_among(self.alloc, office, heard),
+        }
     }
 
     /// Does what was asked for, and puts the answer there to be written: where it is one, it is so only once what was
@@ -104,10 +205,12 @@ impl Caller {
         ensures { GoesAlong office.old office.new }
     {
         self.mood = Mood::Answering;
-        self.has_ordered = matches!(heard, Heard::Order { .. });
-        match respond_among(self.alloc, office, heard) {
+        match self.respond(office, heard) {
             Ok(text) => self.out.push(text.as_bytes()),
-            Err(_) => self.out.push(answer::unavailable()),
+            Err(fault) => {
+                self.news.refused = Some(fault);
+                self.out.push(answer::unavailable())
+            }
         }
     }
 
@@ -115,9 +218,11 @@ impl Caller {
     fn hear<K: Keeper>(&mut self, office: &mut Office<K>, piece: &[u8]) -> Result<(), AllocError>
         ensures { GoesAlong office.old office.new }
     {
-        self.head = self.head.after_all(piece);
         match self.exchange.take(piece) {
-            Ok(None) => Ok(()),
+            Ok(None) => {
+                self.has_head = self.has_head || self.exchange.has_head();
+                Ok(())
+            }
             Ok(Some(heard)) => self.answer(office, &heard),
             Err(_) => {
                 self.mood = Mood::Answering;
@@ -132,6 +237,7 @@ impl Caller {
         office: &mut Office<K>,
         sockets: &mut S,
         source: Source,
+        now: Moment,
     ) -> Result<bool, Gone>
         ensures { GoesAlong office.old office.new }
     {
@@ -149,6 +255,7 @@ impl Caller {
             }
             (Came::Bytes(_), Mood::Closing) => Ok(true),
             (Came::Bytes(count), _) => {
+                self.moved.add(now, count);
                 self.hear(office, &piece[..count])?;
                 Ok(true)
             }
@@ -168,7 +275,10 @@ impl Caller {
         match sockets.write(source, self.out.pending()) {
             Sent::Nothing => return Ok(false),
             Sent::Failed => return Err(Gone),
-            Sent::Bytes(count) => self.out.wrote(count),
+            Sent::Bytes(count) => {
+                self.moved.add(now, count);
+                self.out.wrote(count);
+            }
         }
         if self.out.is_empty() {
             sockets.finish(source);
@@ -193,7 +303,7 @@ impl Caller {
         }
         match self.mood {
             Mood::Answering => self.write(sockets, source, now),
-            Mood::Hearing | Mood::Closing => self.read(office, sockets, source),
+            Mood::Hearing | Mood::Closing => self.read(office, sockets, source, now),
         }
     }
 }

@@ -2,13 +2,22 @@
 //! called once a turn over sockets that never wait.
 #![tactic(auto)]
 
+mod ahead;
 mod caller;
-mod head_end;
+mod event;
+mod journal;
 mod line;
 mod link;
 mod loss;
+mod moved;
+mod noise;
+mod pass;
 mod place;
+mod round;
 mod running;
+mod share;
+mod station;
 mod times;
+mod window;
 
 pub use running::{RunFault, run};

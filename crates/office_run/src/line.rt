@@ -1,15 +1,25 @@
 //! A line of the site: its connection, its rounds, and when something of it is due.
 ghost use Rattle.std.specs.Prelude.{◌≡◌};
 ghost use Rattle.office_net.specs.Proceeding.{GoesAlong};
+ghost use Rattle.run_beat.specs.Beats.{Wants};
 
-use crate::link::Link;
-use crate::loss::Loss;
+use crate::ahead::{Ahead, Lookout};
+use crate::event::{Event, Told};
+use crate::journal::Journal;
+use crate::link::{Link, Taken};
+use crate::loss::{Loss, Stop};
+use crate::noise::Noise;
+use crate::round::Kind;
+use crate::station::Stations;
 use crate::times::Times;
-use office_core::Office;
-use office_net::{PollFault, jobs_of, open_line};
-use poll_book::Keeper;
-use run_beat::{Beat, Came, Connected, Moment, Sent, Sockets, Source, Stage};
-use std::alloc::Global;
+use crate::window::MOST_WAITING;
+use office_core::{Arrival, Office, OfficeError};
+use office_net::open_line;
+use point_list::Text;
+use poll_book::{Keeper, StoreFault};
+use run_beat::{Beat, Came, Connected, Delay, Moment, Sent, Sockets, Source, Stage};
+use std::alloc::{AllocError, Global};
+use std::mem;
 
 /// So many bytes are read of a line in a turn at most: what answers nothing costs others some 30 frames a turn.
 const PIECE: usize = 260;
@@ -19,65 +29,223 @@ const PIECE: usize = 260;
 pub(crate) struct Line {
     alloc: Global,
     place: u16,
+    // For so many milliseconds its devices are waited for.
+    timeout: u32,
     beat: Beat,
+    stations: Stations,
     link: Option<Link>,
-    // So many orders had come when its round began.
-    orders: u64,
+    // So many orders had come for it when its last round over this connection began.
+    orders: Option<u64>,
+    // So many had come when the round that is under way was told last.
+    woken: u64,
+    // Whether the slot counts as not begun behind the round that is under way.
+    is_unbegun: bool,
+    // The slot is begun again then, since the store refused something of it.
+    retry: Option<Moment>,
+    refusals: Delay,
+    noise: Noise,
+    // Whether it couldn't be reached since it was looked up where it is, and when that was.
+    is_unreached: bool,
+    looked_up: Moment,
+    // Since when it takes no bytes.
+    stuck: Option<Moment>,
+    told: Told,
+    // Whether the store kept something in this turn.
+    has_kept: bool,
+    /// Its counters, as far as they are counted in slots to come.
+    pub lookout: Lookout,
+    /// The pass in which it did something last.
+    pub served: u64,
+}
+
+/// What becomes of a round that is under way.
+#[derive(Clone, Copy, Debug)]
+enum Becomes {
+    /// It is done.
+    Done,
+    /// Its slot is over, and it isn't done.
+    Cut(Kind, u32),
+    /// Nothing was answered in time.
+    Silent,
+    /// An answer is waited for.
+    Waiting,
+}
+
+/// What a turn of a line came to.
+#[derive(Clone, Copy, Debug)]
+pub(crate) struct Turned {
+    /// Whether there may be more to do at once.
+    pub is_more: bool,
+    /// What the store refused.
+    pub refused: Option<StoreFault>,
+    /// Whether it kept something.
+    pub has_kept: bool,
+    /// The counter that is counted in a slot a day from now, or later.
+    pub ahead: Option<Ahead>,
+}
+
+/// What the store refused where a connection is lost.
+fn refused_in(why: Loss) -> Option<StoreFault> {
+    match why {
+        Loss::Office(OfficeError::Store(fault)) => Some(fault),
+        _ => None,
+    }
+}
+
+/// Whether the store has something else since it arrived.
+fn is_kept(arrival: Arrival) -> bool {
+    matches!(arrival, Arrival::Recorded(1..) | Arrival::Settled)
+}
+
+/// The first of two moments, where there are any.
+fn first(one: Option<Moment>, other: Option<Moment>) -> Option<Moment> {
+    match (one, other) {
+        (Some(one), Some(other)) => Some(one.min(other)),
+        (one, other) => one.or(other),
+    }
 }
 
 impl Line {
-    /// A line without a connection, whose devices are given so many milliseconds.
-    pub fn new(alloc: Global, place: u16, timeout: u32) -> Line {
+    /// A line without a connection, of a name, whose devices are given so many milliseconds.
+    pub fn new(alloc: Global, place: u16, name: Text, timeout: u32) -> Line {
         Line {
             alloc,
             place,
+            timeout,
             beat: Beat::new(timeout),
+            stations: Stations::new(alloc, name),
             link: None,
-            orders: 0,
+            orders: None,
+            woken: 0,
+            is_unbegun: false,
+            retry: None,
+            refusals: Delay::none(),
+            noise: Noise::none(),
+            is_unreached: false,
+            looked_up: Moment::new(0),
+            stuck: None,
+            told: Told::Nothing,
+            has_kept: false,
+            lookout: Lookout::new(),
+            served: 0,
         }
+    }
+
+    pub fn place(&self) -> usize {
+        usize::from(self.place)
+    }
+
+    /// No slot before this one is begun.
+    pub fn from(&self) -> u32 {
+        self.beat.from()
     }
 
     /// When something of it is due, if nothing comes before.
     pub fn due(&self) -> Option<Moment> {
-        self.beat.due()
+        let due = match self.beat.stage() {
+            Stage::Resting { .. } => self.retry,
+            Stage::Closed { until } => Some(until.max(self.noise.until())),
+            _ => self.beat.due(),
+        };
+        match self.stuck {
+            Some(since) => first(due, Some(since.after(self.timeout))),
+            None => due,
+        }
     }
 
     fn source(&self) -> Source {
-        Source::Line(usize::from(self.place))
+        Source::Line(self.place())
+    }
+
+    pub fn name(&self) -> &str {
+        self.stations.line()
+    }
+
+    /// When it was looked up last where it is, if it couldn't be reached since.
+    pub fn unreached(&self) -> Option<Moment> {
+        if self.is_unreached {
+            Some(self.looked_up)
+        } else {
+            None
+        }
+    }
+
+    /// It was looked up where it is.
+    pub fn note_look_up(&mut self, now: Moment) {
+        self.is_unreached = false;
+        self.looked_up = now;
+    }
+
+    /// Tells that it is up, where that is new.
+    fn tell_up(&mut self, journal: &mut Journal) {
+        if self.told != Told::Up {
+            self.told = Told::Up;
+            journal.tell(&Event::Up {
+                line: self.stations.line(),
+            });
+        }
+    }
+
+    /// Tells that it is down, where that is new.
+    fn tell_down(&mut self, journal: &mut Journal, why: Loss) {
+        let is_down = matches!(self.told, Told::Down(_));
+        self.told = Told::Down(why);
+        if !is_down {
+            journal.tell(&Event::Down {
+                line: self.stations.line(),
+                why,
+            });
+        }
     }
 
     /// Closes its connection, if there is one. It is left alone for a while.
-    fn lose<S: Sockets>(&mut self, sockets: &mut S, now: Moment) {
+    fn lose<S: Sockets>(&mut self, sockets: &mut S, journal: &mut Journal, now: Moment, why: Loss) {
         sockets.close(self.source());
         self.link = None;
+        self.stuck = None;
+        self.retry = None;
         self.beat.fail(now);
+        if why == Loss::Noise {
+            self.noise.cut(now);
+        }
+        self.is_unreached |= why == Loss::Unreached;
+        self.tell_down(journal, why);
     }
 
     /// Begins a connection, if it is due.
     fn begin<S: Sockets>(&mut self, sockets: &mut S, now: Moment) {
-        if !self.beat.is_due(now) {
+        if !self.beat.is_due(now) || now < self.noise.until() {
             return;
         }
-        match sockets.connect(usize::from(self.place)) {
+        match sockets.connect(self.place()) {
             Ok(()) => self.beat.begin(now),
-            Err(_) => self.beat.fail(now),
+            Err(_) => {
+                self.is_unreached = true;
+                self.beat.fail(now);
+            }
         }
     }
 
     /// The connection that was begun stands.
-    fn open<K: Keeper>(&mut self, office: &mut Office<K>) -> Result<(), Loss>
+    fn open<K: Keeper>(
+        &mut self,
+        office: &mut Office<K>,
+        journal: &mut Journal,
+        now: Moment,
+    ) -> Result<(), Loss>
         ensures { GoesAlong office.old office.new }
     {
-        let Some(line) = office.site().lines.as_slice().get(usize::from(self.place)) else {
-            return Err(Loss::Unreached);
-        };
-        let name = line.name.clone()?;
-        let conn = match open_line(office, name.as_str()) {
+        let conn = match open_line(office, self.stations.line()) {
             Ok(conn) => conn,
-            Err(error) => return Err(Loss::Broken(PollFault::from(error))),
+            Err(error) => return Err(Loss::Office(error)),
         };
-        self.link = Some(Link::new(self.alloc, conn));
+        self.link = Some(Link::new(self.alloc, conn, now));
+        self.is_unreached = false;
+        self.orders = None;
         self.beat.open();
+        if !self.told.is_of_answers() {
+            self.tell_up(journal);
+        }
         Ok(())
     }
 
@@ -86,90 +254,377 @@ impl Line {
         &mut self,
         office: &mut Office<K>,
         sockets: &S,
+        journal: &mut Journal,
         now: Moment,
-    ) -> Result<bool, Loss>
+    ) -> Result<bool, Stop>
         ensures { GoesAlong office.old office.new }
     {
-        match sockets.connected(usize::from(self.place)) {
+        match sockets.connected(self.place()) {
             Connected::Yes => {
-                self.open(office)?;
+                self.open(office, journal, now)?;
                 Ok(true)
             }
             Connected::NotYet if !self.beat.is_due(now) => Ok(false),
-            _ => Err(Loss::Unreached),
+            _ => Err(Stop::Lost(Loss::Unreached)),
         }
     }
 
-    /// Reads a piece, and takes it; tells whether something came.
-    fn receive<K: Keeper, S: Sockets>(
+    /// Takes the next frame that came, if there is one; tells whether it was one that the store has nothing to do with.
+    fn take_one<K: Keeper>(
         &mut self,
         office: &mut Office<K>,
-        sockets: &mut S,
+        journal: &mut Journal,
         now: Moment,
-    ) -> Result<bool, Loss>
+    ) -> Result<bool, Stop>
         ensures { GoesAlong office.old office.new }
     {
-        let mut piece = [0u8; PIECE];
-        let count = match sockets.read(self.source(), &mut piece) {
-            Came::Bytes(count) => count,
-            Came::Nothing => return Ok(false),
-            Came::Ended | Came::Failed => return Err(Loss::Ended),
-        };
         let Some(link) = &mut self.link else {
-            return Err(Loss::Ended);
+            return Err(Stop::Lost(Loss::Ended));
         };
-        if link.take(office, &piece[..count])? {
-            self.beat.wait_on(now);
+        match link.take(office, &mut self.stations, journal, now)? {
+            Some(Taken::Answer(arrival)) => {
+                self.has_kept |= is_kept(arrival);
+                self.tell_up(journal);
+                Ok(false)
+            }
+            Some(Taken::Refused(fault)) => Err(Stop::Refused(fault)),
+            Some(Taken::Repeat) => Ok(true),
+            Some(Taken::Noise(count)) => {
+                self.noise.add(0, count);
+                Ok(true)
+            }
+            None => Ok(false),
         }
-        Ok(true)
     }
 
-    /// Ends the round that is under way where it is done, and where some of it was answered and its slot is over, or
-    /// nothing more came in time. Where nothing was answered in time the line is silent.
-    fn settle(&mut self, times: Times) -> Result<(), Loss> {
-        let Stage::Polling { slot, .. } = self.beat.stage() else {
-            return Ok(());
-        };
-        let Some(link) = &mut self.link else {
-            return Err(Loss::Ended);
-        };
-        let is_due = self.beat.is_due(times.now);
-        if link.is_done() || (link.has_answer() && (is_due || slot != times.slot)) {
-            link.end_round();
-            self.beat.rest();
-        } else if is_due {
-            return Err(Loss::Silent);
+    /// Takes frames that came, up to the first that is an answer: each of these is a commit.
+    fn take_some<K: Keeper>(
+        &mut self,
+        office: &mut Office<K>,
+        journal: &mut Journal,
+        now: Moment,
+    ) -> Result<(), Stop>
+        ensures { GoesAlong office.old office.new }
+    {
+        for _ in 0..PIECE {
+            let may_go_on = self.take_one(office, journal, now)?;
+            if !may_go_on {
+                return Ok(());
+            }
         }
         Ok(())
     }
 
-    /// Begins the slot's round, if it isn't begun, and once more where orders came: then it asks what lacks.
+    /// The same, unless too much came that answers nothing.
+    fn take<K: Keeper>(
+        &mut self,
+        office: &mut Office<K>,
+        journal: &mut Journal,
+        now: Moment,
+    ) -> Result<(), Stop>
+        ensures { GoesAlong office.old office.new }
+    {
+        self.take_some(office, journal, now)?;
+        if self.noise.is_too_much() {
+            return Err(Stop::Lost(Loss::Noise));
+        }
+        Ok(())
+    }
+
+    /// Reads a piece; tells whether something came.
+    fn read<S: Sockets>(&mut self, sockets: &mut S) -> Result<bool, Loss> {
+        let source = self.source();
+        let Some(link) = &mut self.link else {
+            return Err(Loss::Ended);
+        };
+        if link.has_frames() {
+            return Ok(true);
+        }
+        let mut piece = [0u8; PIECE];
+        match sockets.read(source, &mut piece) {
+            Came::Bytes(count) => {
+                self.noise.add(count, 0);
+                match link.feed(&piece[..count]) {
+                    Ok(()) => Ok(true),
+                    Err(AllocError) => Err(Loss::Memory),
+                }
+            }
+            Came::Nothing => Ok(false),
+            Came::Ended | Came::Failed => Err(Loss::Ended),
+        }
+    }
+
+    /// Reads a piece, unless frames wait to be taken, and takes some; tells whether something came.
+    fn receive<K: Keeper, S: Sockets>(
+        &mut self,
+        office: &mut Office<K>,
+        sockets: &mut S,
+        journal: &mut Journal,
+        now: Moment,
+    ) -> Result<bool, Stop>
+        ensures { GoesAlong office.old office.new }
+    {
+        let has_come = self.read(sockets)?;
+        if has_come {
+            self.take(office, journal, now)?;
+        }
+        Ok(has_come)
+    }
+
+    /// Gives up the queries of each device that wasn't heard of in time.
+    fn give_up(&mut self, now: Moment) {
+        let Some(link) = &mut self.link else {
+            return;
+        };
+        for _ in 0..MOST_WAITING {
+            match link.waits_from() {
+                Some(from) if from.after(self.timeout) <= now => {
+                    if let Some(device) = link.give_up() {
+                        self.stations.fall_silent(device);
+                    }
+                }
+                _ => return,
+            }
+        }
+    }
+
+    /// Tells the round that is under way that orders came, where they did.
+    fn wake<K: Keeper>(&mut self, office: &mut Office<K>, orders: u64) -> Result<(), Stop>
+        ensures { GoesAlong office.old office.new }
+    {
+        if self.woken == orders {
+            return Ok(());
+        }
+        self.woken = orders;
+        match &mut self.link {
+            Some(link) => {
+                link.wake(office, &self.stations)?;
+                Ok(())
+            }
+            None => Err(Stop::Lost(Loss::Ended)),
+        }
+    }
+
+    /// Makes the queries that may be made, where a round is under way.
+    fn ask<K: Keeper>(&mut self, office: &mut Office<K>, now: Moment) -> Result<(), Stop>
+        ensures { GoesAlong office.old office.new }
+    {
+        match &mut self.link {
+            Some(link) => link.ask(office, &self.stations, now),
+            None => Err(Stop::Lost(Loss::Ended)),
+        }
+    }
+
+    /// Goes on with the round that is under way.
+    fn go_on_asking<K: Keeper>(
+        &mut self,
+        office: &mut Office<K>,
+        orders: u64,
+        now: Moment,
+    ) -> Result<(), Stop>
+        ensures { GoesAlong office.old office.new }
+    {
+        self.wake(office, orders)?;
+        self.ask(office, now)
+    }
+
+    /// Begins a round, where one is to be begun, and makes its first queries.
+    fn begin_asking<K: Keeper>(
+        &mut self,
+        office: &mut Office<K>,
+        times: Times,
+        orders: u64,
+    ) -> Result<(), Stop>
+        ensures { GoesAlong office.old office.new }
+    {
+        let now = times.now;
+        let has_begun = self.start(office, times, orders)?;
+        if !has_begun {
+            return Ok(());
+        }
+        self.ask(office, now)
+    }
+
+    /// Tells that a round of a slot was cut, unless it was of orders alone.
+    fn tell_cut(&self, journal: &mut Journal, kind: Kind, slot: u32) {
+        if kind == Kind::Whole {
+            let line = self.stations.line();
+            journal.tell(&Event::Cut { line, slot });
+        }
+    }
+
+    /// Ends the round that is under way.
+    fn end_round(&mut self) {
+        if let Some(link) = &mut self.link {
+            link.end_round();
+        }
+        self.beat.rest();
+        if self.is_unbegun {
+            self.beat.again();
+        }
+    }
+
+    /// What becomes of the round that is under way. Until its slot is over a device that was passed over may answer.
+    /// Where nothing was answered then, or for three time-outs, the line is silent.
+    fn judge(&self, times: Times) -> Option<Becomes> {
+        let link = self.link.as_ref()?;
+        let round = link.round()?;
+        let slot = round.slot();
+        let two = round.began().after(self.timeout).after(self.timeout);
+        let has_answer = link.has_answer(slot);
+        let is_over = times.slot().is_some_and(|later| slot < later);
+        let is_done = if has_answer {
+            is_over || !round.has_left(&self.stations)
+        } else {
+            !round.has_asked()
+        };
+        if link.is_settled() && is_done {
+            return Some(Becomes::Done);
+        }
+        if has_answer && is_over {
+            return Some(Becomes::Cut(round.kind(), slot));
+        }
+        if is_over || (!has_answer && two.after(self.timeout) <= times.now) {
+            return Some(Becomes::Silent);
+        }
+        Some(Becomes::Waiting)
+    }
+
+    /// From when on an answer is waited for in the round that is under way: where none came yet, for three time-outs
+    /// from its beginning at most.
+    fn waits_from(&self, now: Moment) -> Moment {
+        let Some(link) = &self.link else {
+            return now;
+        };
+        let from = link.waits_from().unwrap_or(now);
+        match link.round() {
+            Some(round) if !link.has_answer(round.slot()) => {
+                from.min(round.began().after(self.timeout).after(self.timeout))
+            }
+            _ => from,
+        }
+    }
+
+    /// Ends the round that is under way where it is done, or its slot is over.
+    fn settle(&mut self, journal: &mut Journal, times: Times) -> Result<(), Stop> {
+        let now = times.now;
+        match self.judge(times) {
+            Some(Becomes::Done) => {
+                self.refusals = Delay::none();
+                self.end_round();
+                self.stations.tell_silent(journal);
+            }
+            Some(Becomes::Cut(kind, slot)) => {
+                self.tell_cut(journal, kind, slot);
+                self.end_round();
+                self.stations.tell_silent(journal);
+            }
+            Some(Becomes::Silent) => return Err(Stop::Lost(Loss::Silent)),
+            Some(Becomes::Waiting) => {
+                let from = self.waits_from(now);
+                self.beat.wait_on(from);
+            }
+            None => {}
+        }
+        Ok(())
+    }
+
+    /// Begins a round of a slot.
+    fn begin_round<K: Keeper>(
+        &mut self,
+        office: &mut Office<K>,
+        slot: u32,
+        kind: Kind,
+        now: Moment,
+        orders: u64,
+    ) -> Result<(), Stop>
+        requires { Wants self.old.beat slot }
+        ensures { GoesAlong office.old office.new }
+    {
+        self.stations
+            .plan(self.alloc, office.site(), office.points(), self.place)?;
+        let Some(link) = &mut self.link else {
+            return Err(Stop::Lost(Loss::Ended));
+        };
+        let devices = self.stations.as_slice().len();
+        link.start(office, devices, slot, kind, now)?;
+        self.beat.start(slot, now);
+        self.retry = None;
+        self.orders = Some(orders);
+        self.woken = orders;
+        Ok(())
+    }
+
+    /// Looks whether its counters are counted in slots to come, where a slot is to be begun, and that isn't known.
+    fn look<K: Keeper>(&mut self, office: &mut Office<K>, slot: u32) -> Result<(), Stop>
+        ensures { GoesAlong office.old office.new }
+    {
+        if !self.lookout.is_unknown() || !self.beat.wants(slot) {
+            return Ok(());
+        }
+        self.stations
+            .plan(self.alloc, office.site(), office.points(), self.place)?;
+        self.lookout.look(office, &self.stations, slot)?;
+        Ok(())
+    }
+
+    /// The same, and stops where one is counted in a slot that is far.
+    fn look_ahead<K: Keeper>(&mut self, office: &mut Office<K>, times: &Times) -> Result<(), Stop>
+        ensures { GoesAlong office.old office.new }
+    {
+        let Some(slot) = times.slot() else {
+            return Ok(());
+        };
+        self.look(office, slot)?;
+        match self.lookout.ahead_of(slot) {
+            Some(ahead) if times.is_far(ahead.slot) => Err(Stop::Ahead(ahead)),
+            _ => Ok(()),
+        }
+    }
+
+    /// Begins the slot's round, if it isn't begun, and no counter of the line is counted in a later one. Where orders came since, or while no slot may be begun, since the
+    /// clock jumped ahead or stands behind one that was begun, it begins one of orders alone. Tells whether it begins
+    /// one.
     fn start<K: Keeper>(
         &mut self,
         office: &mut Office<K>,
         times: Times,
         orders: u64,
-    ) -> Result<(), Loss>
+    ) -> Result<bool, Stop>
         ensures { GoesAlong office.old office.new }
     {
-        if self.orders != orders {
+        let is_due = self.retry.is_some_and(|moment| moment <= times.now);
+        if is_due {
+            self.retry = None;
+            self.orders = None;
             self.beat.again();
         }
-        if !self.beat.wants(times.slot) {
-            return Ok(());
-        }
-        self.orders = orders;
-        let Some(link) = &mut self.link else {
-            return Err(Loss::Ended);
+        let Stage::Resting { polled } = self.beat.stage() else {
+            return Ok(false);
         };
-        let jobs = jobs_of(self.alloc, office.site(), office.points(), self.place)?;
-        link.start(office, times.slot, jobs)?;
-        self.beat.start(times.slot, times.now);
-        Ok(())
+        if let Some(slot) = times.slot()
+            && self.beat.wants(slot)
+            && self.lookout.admits(slot)
+        {
+            self.is_unbegun = false;
+            self.begin_round(office, slot, Kind::Whole, times.now, orders)?;
+            return Ok(true);
+        }
+        if self.orders == Some(orders) {
+            return Ok(false);
+        }
+        self.beat.again();
+        let last = self.beat.from();
+        if !self.beat.wants(last) {
+            return Ok(false);
+        }
+        self.is_unbegun = polled.is_none();
+        self.begin_round(office, last, Kind::OrdersAlone, times.now, orders)?;
+        Ok(true)
     }
 
     /// Writes what waits to be written; tells whether something was.
-    fn write<S: Sockets>(&mut self, sockets: &mut S) -> Result<bool, Loss> {
+    fn write<S: Sockets>(&mut self, sockets: &mut S, now: Moment) -> Result<bool, Loss> {
         let source = self.source();
         let Some(link) = &mut self.link else {
             return Err(Loss::Ended);
@@ -180,11 +635,50 @@ impl Line {
         match sockets.write(source, link.pending()) {
             Sent::Bytes(count) => {
                 link.wrote(count);
+                self.stuck = None;
                 Ok(true)
             }
-            Sent::Nothing => Ok(false),
+            Sent::Nothing => {
+                let since = self.stuck.unwrap_or(now);
+                self.stuck = Some(since);
+                if since.after(self.timeout) <= now {
+                    return Err(Loss::Stuck);
+                }
+                Ok(false)
+            }
             Sent::Failed => Err(Loss::Ended),
         }
+    }
+
+    /// Goes on with the round that is under way.
+    fn go_on_round<K: Keeper>(
+        &mut self,
+        office: &mut Office<K>,
+        journal: &mut Journal,
+        times: &Times,
+        orders: u64,
+    ) -> Result<(), Stop>
+        ensures { GoesAlong office.old office.new }
+    {
+        let now = times.now;
+        self.give_up(now);
+        self.go_on_asking(office, orders, now)?;
+        self.settle(journal, *times)
+    }
+
+    /// Goes on with the round that is under way, or begins one.
+    fn poll<K: Keeper>(
+        &mut self,
+        office: &mut Office<K>,
+        journal: &mut Journal,
+        times: Times,
+        orders: u64,
+    ) -> Result<(), Stop>
+        ensures { GoesAlong office.old office.new }
+    {
+        self.go_on_round(office, journal, &times, orders)?;
+        self.look_ahead(office, &times)?;
+        self.begin_asking(office, times, orders)
     }
 
     /// Goes on over a connection that stands; tells whether there may be more to do at once.
@@ -192,16 +686,20 @@ impl Line {
         &mut self,
         office: &mut Office<K>,
         sockets: &mut S,
+        journal: &mut Journal,
         times: Times,
         orders: u64,
-    ) -> Result<bool, Loss>
+    ) -> Result<bool, Stop>
         ensures { GoesAlong office.old office.new }
     {
-        let has_read = self.receive(office, sockets, times.now)?;
-        self.settle(times)?;
-        self.start(office, times, orders)?;
-        let has_written = self.write(sockets)?;
-        Ok(has_read || has_written)
+        let now = times.now;
+        if let Some(slot) = times.slot() {
+            self.noise.begin(slot);
+        }
+        let has_read = self.receive(office, sockets, journal, now)?;
+        self.poll(office, journal, times, orders)?;
+        let has_written = self.write(sockets, now)?;
+        Ok(has_read | has_written)
     }
 
     /// Does what is to be done, as it stands; tells whether there may be more to do at once.
@@ -209,40 +707,70 @@ impl Line {
         &mut self,
         office: &mut Office<K>,
         sockets: &mut S,
+        journal: &mut Journal,
         times: Times,
         orders: u64,
-    ) -> Result<bool, Loss>
+    ) -> Result<bool, Stop>
         ensures { GoesAlong office.old office.new }
     {
+        let now = times.now;
         match self.beat.stage() {
             Stage::Closed { .. } => {
-                self.begin(sockets, times.now);
+                self.begin(sockets, now);
                 Ok(false)
             }
-            Stage::Connecting { .. } => self.connect(office, sockets, times.now),
+            Stage::Connecting { .. } => self.connect(office, sockets, journal, now),
             Stage::Resting { .. } | Stage::Polling { .. } => {
-                self.go_on(office, sockets, times, orders)
+                self.go_on(office, sockets, journal, times, orders)
             }
         }
     }
 
-    /// Its turn; tells whether there may be more to do at once.
+    /// The store refused: the round that is under way ends, and the slot is begun again a while later.
+    fn refuse(&mut self, now: Moment) {
+        self.is_unbegun = false;
+        self.end_round();
+        self.refusals = self.refusals.longer();
+        self.retry = Some(now.after(self.refusals.millis()));
+    }
+
+    /// Its turn.
     pub fn turn<K: Keeper, S: Sockets>(
         &mut self,
         office: &mut Office<K>,
         sockets: &mut S,
+        journal: &mut Journal,
         times: Times,
         orders: u64,
-    ) -> bool
+    ) -> Turned
         ensures { GoesAlong office.old office.new }
     {
         let now = times.now;
-        match self.act(office, sockets, times, orders) {
-            Ok(is_more) => is_more,
-            Err(_) => {
-                self.lose(sockets, now);
-                false
-            }
+        let slot = times.slot();
+        let acted = self.act(office, sockets, journal, times, orders);
+        if let Some(slot) = slot {
+            let line = self.stations.line();
+            self.lookout.tell(office, journal, line, slot);
         }
+        let mut turned = Turned {
+            is_more: false,
+            refused: None,
+            has_kept: mem::replace(&mut self.has_kept, false),
+            ahead: None,
+        };
+        match acted {
+            Ok(is_more) => turned.is_more = is_more,
+            Err(Stop::Lost(why)) => {
+                self.lose(sockets, journal, now, why);
+                turned.refused = refused_in(why);
+            }
+            Err(Stop::Refused(fault)) => {
+                self.refuse(now);
+                turned.is_more = true;
+                turned.refused = Some(fault);
+            }
+            Err(Stop::Ahead(ahead)) => turned.ahead = Some(ahead),
+        }
+        turned
     }
 }

@@ -1,108 +1,74 @@
 //! A connection to a line that stands, and the round that is under way over it.
-ghost use Rattle.std.specs.Prelude.{◌≡◌, ◌≤◌, ◌≢◌, OnOk, drop, length};
+ghost use Rattle.std.specs.Prelude.{◌≡◌, ◌≤◌, ◌<◌, drop, length};
 ghost use Rattle.office_net.specs.Proceeding.{GoesAlong};
-ghost use Rattle.office_net.specs.Stages.{IsWaiting, taken_of};
-ghost use Rattle.office_run.specs.Links.{waiting_in};
+ghost use Rattle.office_run.specs.Links.{asked_in, waiting_in};
 
-use mb_mbap::{Frame, FrameReader};
-use office_core::{Office, OfficeError};
-use office_net::{LineJob, Poll, PollFault, take_late};
-use poll_book::Keeper;
+use crate::journal::Journal;
+use crate::loss::{Loss, Stop};
+use crate::round::{Asked, Kind, Round};
+use crate::station::Stations;
+use crate::window::{MOST_WAITING, Query, Window};
+use mb_mbap::{Frame, FrameFault, FrameReader};
+use office_core::{Arrival, Office, OfficeError};
+use office_net::take_late;
+use poll_book::{Keeper, StoreFault};
 use poll_match::Conn;
-use run_beat::Outbox;
-use std::alloc::Global;
-
-/// So many bytes are taken in a round at most.
-const MOST_READ: usize = 16_777_216;
+use run_beat::{Moment, Outbox};
+use std::alloc::{AllocError, Global};
+use std::collections::VecDeque;
 
 /// A connection to a line that stands.
 #[derive(Drop)]
 pub(crate) struct Link {
+    alloc: Global,
     conn: Conn,
     stream: FrameReader,
+    // The frames that came and weren't taken yet, and why none can follow them.
+    frames: VecDeque<Frame>,
+    fault: Option<FrameFault>,
     // The queries that wait to be written.
     out: Outbox,
-    poll: Option<Poll>,
-    // So many bytes came in the round.
-    read: usize,
-    // Whether one of its queries was answered.
-    is_answered: bool,
+    // Those that are neither answered nor given up.
+    window: Window,
+    round: Option<Round>,
+    // When something was answered last, or the connection came to stand.
+    heard: Moment,
+    // The slot in whose round something was answered last.
+    answered: Option<u32>,
 }
 
-/// Puts each query that may be sent behind those that wait to be written.
-fn ask<K: Keeper>(
-    poll: &mut Poll,
-    office: &mut Office<K>,
-    out: &mut Outbox,
-) -> Result<(), PollFault>
-    ensures along { GoesAlong office.old office.new }
-    ensures waits { OnOk result (IsWaiting poll.new) }
-    ensures taken { taken_of poll.new ≡ taken_of poll.old }
-{
-    while let Some(query) = poll.next(office)? {
-        let bytes = query.encode();
-        out.push(bytes.as_bytes())?;
-    }
-    Ok(())
+/// What a frame was.
+#[derive(Clone, Copy, Debug)]
+pub(crate) enum Taken {
+    /// An answer to a query.
+    Answer(Arrival),
+    /// An answer that the store refused.
+    Refused(StoreFault),
+    /// The answer of before, once more.
+    Repeat,
+    /// So many bytes that answer nothing which was asked.
+    Noise(usize),
 }
 
-/// Takes a frame in a round in which no query can be sent.
-fn take_one<K: Keeper>(
-    poll: &mut Poll,
-    office: &mut Office<K>,
-    frame: &Frame,
-) -> Result<(), PollFault>
-    requires { IsWaiting poll.old }
-    ensures { GoesAlong office.old office.new }
-{
-    if poll.taken() == u32::MAX {
-        return Err(PollFault::Noise);
-    }
-    poll.take(office, frame)
-}
-
-/// Takes frames as they came, and asks after each what may be asked then.
-fn bring<K: Keeper>(
-    poll: &mut Poll,
-    office: &mut Office<K>,
-    frames: &[Frame],
-    out: &mut Outbox,
-) -> Result<(), PollFault>
-    ensures { GoesAlong office.old office.new }
-{
-    for frame in frames {
-        ask(poll, office, out)?;
-        take_one(poll, office, frame)?;
-    }
-    ask(poll, office, out)
-}
-
-/// Takes frames that come where no round is under way. What they answer nothing to is passed over.
-fn bring_late<K: Keeper>(
-    office: &mut Office<K>,
-    conn: Conn,
-    frames: &[Frame],
-) -> Result<(), PollFault>
-    ensures { GoesAlong office.old office.new }
-{
-    for frame in frames {
-        if let Err(OfficeError::Store(fault)) = take_late(office, conn, frame) {
-            return Err(PollFault::Store(fault));
-        }
-    }
-    Ok(())
+/// The bytes of a frame.
+fn size_of(frame: &Frame) -> usize {
+    frame.unit.as_bytes().len() + 7
 }
 
 impl Link {
     /// A connection over which nothing was asked yet.
-    pub fn new(alloc: Global, conn: Conn) -> Link {
+    pub fn new(alloc: Global, conn: Conn, now: Moment) -> Link {
         Link {
+            alloc,
             conn,
             stream: FrameReader::new(alloc),
+            frames: VecDeque::new(alloc),
+            fault: None,
             out: Outbox::new(alloc),
-            poll: None,
-            read: 0,
-            is_answered: false,
+            window: Window::new(alloc),
+            round: None,
+            heard: now,
+            answered: None,
         }
     }
 
@@ -125,74 +91,222 @@ impl Link {
     pub fn start<K: Keeper>(
         &mut self,
         office: &mut Office<K>,
+        devices: usize,
         slot: u32,
-        jobs: Vec<LineJob>,
-    ) -> Result<(), PollFault>
+        kind: Kind,
+        now: Moment,
+    ) -> Result<(), OfficeError>
         ensures { GoesAlong office.old office.new }
     {
-        let mut poll = Poll::new(self.conn, slot, jobs);
-        ask(&mut poll, office, &mut self.out)?;
-        self.poll = Some(poll);
-        self.read = 0;
-        self.is_answered = false;
+        self.round = Some(Round::begin(self.alloc, office, devices, slot, kind, now)?);
         Ok(())
     }
 
-    /// Takes bytes, and tells whether they brought a frame that answers something.
+    /// A query was made: it waits to be written, and to be answered.
+    fn send(&mut self, asked: &Asked, now: Moment) -> Result<(), AllocError>
+        requires { length (asked_in self.old) < 16 }
+    {
+        let bytes = asked.query.encode();
+        self.out.push(bytes.as_bytes())?;
+        self.window.push(Query {
+            transaction: asked.query.transaction,
+            device: asked.device,
+            is_order: asked.is_order,
+            sent: now,
+        })
+    }
+
+    /// The query that the round that is under way makes next.
+    fn next<K: Keeper>(
+        &mut self,
+        office: &mut Office<K>,
+        stations: &Stations,
+    ) -> Result<Option<Asked>, OfficeError>
+        ensures along { GoesAlong office.old office.new }
+        ensures window { asked_in self.new ≡ asked_in self.old }
+    {
+        match &mut self.round {
+            Some(round) => round.next(office, self.conn, stations, &self.window),
+            None => Ok(None),
+        }
+    }
+
+    /// Makes one query, if one may be made in the round that is under way; tells whether it did.
+    fn ask_one<K: Keeper>(
+        &mut self,
+        office: &mut Office<K>,
+        stations: &Stations,
+        now: Moment,
+    ) -> Result<bool, Stop>
+        ensures { GoesAlong office.old office.new }
+    {
+        if self.window.len() >= MOST_WAITING {
+            return Ok(false);
+        }
+        let Some(asked) = self.next(office, stations)? else {
+            return Ok(false);
+        };
+        self.send(&asked, now)?;
+        Ok(true)
+    }
+
+    /// Makes the queries that may be made in the round that is under way.
+    pub fn ask<K: Keeper>(
+        &mut self,
+        office: &mut Office<K>,
+        stations: &Stations,
+        now: Moment,
+    ) -> Result<(), Stop>
+        ensures { GoesAlong office.old office.new }
+    {
+        for _ in 0..MOST_WAITING {
+            let has_asked = self.ask_one(office, stations, now)?;
+            if !has_asked {
+                return Ok(());
+            }
+        }
+        Ok(())
+    }
+
+    /// A device answered; none where the store refused the answer.
+    fn hear(
+        &mut self,
+        stations: &mut Stations,
+        journal: &mut Journal,
+        frame: &Frame,
+        arrival: Option<Arrival>,
+        now: Moment,
+    ) {
+        self.heard = now;
+        let query = self.window.answer(frame.transaction);
+        if let Some(round) = &self.round {
+            self.answered = Some(round.slot());
+        }
+        let Some(at) = stations.place_of(frame.unit_id) else {
+            return;
+        };
+        stations.answer(at, journal);
+        if let Some(round) = &mut self.round {
+            let is_order = query.is_some_and(|query| query.is_order);
+            round.hear(at, is_order, arrival);
+        }
+    }
+
+    /// Cuts bytes that came into frames, which are taken later.
+    pub fn feed(&mut self, piece: &[u8]) -> Result<(), AllocError> {
+        let fed = self.stream.feed(piece)?;
+        for frame in fed.frames {
+            self.frames.push_back(frame)?;
+        }
+        self.fault = fed.fault;
+        Ok(())
+    }
+
+    /// Whether frames came that weren't taken yet.
+    pub fn has_frames(&self) -> bool {
+        !self.frames.is_empty()
+    }
+
+    /// Takes a frame, whenever it came.
+    fn take_one<K: Keeper>(
+        &mut self,
+        office: &mut Office<K>,
+        stations: &mut Stations,
+        journal: &mut Journal,
+        frame: &Frame,
+        now: Moment,
+    ) -> Taken
+        ensures { GoesAlong office.old office.new }
+    {
+        match take_late(office, self.conn, frame) {
+            Ok(arrival) => {
+                self.hear(stations, journal, frame, Some(arrival), now);
+                Taken::Answer(arrival)
+            }
+            Err(OfficeError::Store(fault)) => {
+                self.hear(stations, journal, frame, None, now);
+                Taken::Refused(fault)
+            }
+            Err(OfficeError::Repeat) => Taken::Repeat,
+            Err(_) => Taken::Noise(size_of(frame)),
+        }
+    }
+
+    /// Takes the next frame that came, if there is one.
     pub fn take<K: Keeper>(
         &mut self,
         office: &mut Office<K>,
-        piece: &[u8],
-    ) -> Result<bool, PollFault>
+        stations: &mut Stations,
+        journal: &mut Journal,
+        now: Moment,
+    ) -> Result<Option<Taken>, Loss>
         ensures { GoesAlong office.old office.new }
     {
-        let fed = self.stream.feed(piece)?;
-        let is_answer = self.take_frames(office, piece.len(), &fed.frames)?;
-        match fed.fault {
-            Some(fault) => Err(PollFault::Frames(fault)),
-            None => Ok(is_answer),
+        match (self.frames.pop_front(), self.fault) {
+            (Some(frame), _) => {
+                let taken = self.take_one(office, stations, journal, &frame, now);
+                Ok(Some(taken))
+            }
+            (None, Some(fault)) => Err(Loss::Frames(fault)),
+            (None, None) => Ok(None),
         }
     }
 
-    /// Takes the frames that so many bytes completed.
-    fn take_frames<K: Keeper>(
+    /// From when on an answer is waited for, if one is: from the sending of the oldest query, or from the last answer,
+    /// whichever is later.
+    pub fn waits_from(&self) -> Option<Moment> {
+        match self.window.oldest() {
+            Some(query) => Some(query.sent.max(self.heard)),
+            None => None,
+        }
+    }
+
+    /// Gives up all queries of the device whose query is the oldest, and passes it over in the round that is under
+    /// way; tells where it is.
+    pub fn give_up(&mut self) -> Option<usize> {
+        let device = self.window.oldest()?.device;
+        self.window.give_up(device);
+        if let Some(round) = &mut self.round {
+            round.pass(device);
+        }
+        Some(device)
+    }
+
+    /// Orders came.
+    pub fn wake<K: Keeper>(
         &mut self,
         office: &mut Office<K>,
-        count: usize,
-        frames: &[Frame],
-    ) -> Result<bool, PollFault>
+        stations: &Stations,
+    ) -> Result<(), OfficeError>
         ensures { GoesAlong office.old office.new }
     {
-        let Some(poll) = &mut self.poll else {
-            bring_late(office, self.conn, frames)?;
-            return Ok(false);
-        };
-        self.read = self.read.saturating_add(count);
-        if self.read > MOST_READ {
-            return Err(PollFault::Noise);
+        match &mut self.round {
+            Some(round) => round.wake(office, stations),
+            None => Ok(()),
         }
-        let before = poll.round().refused;
-        bring(poll, office, frames, &mut self.out)?;
-        let is_answer = poll.round().refused.saturating_sub(before) < frames.len() as u64;
-        self.is_answered |= is_answer;
-        Ok(is_answer)
     }
 
-    /// Whether a frame of the round that is under way answered something.
-    pub fn has_answer(&self) -> bool {
-        self.is_answered
+    /// The round that is under way.
+    pub fn round(&self) -> Option<&Round> {
+        self.round.as_ref()
     }
 
-    /// Whether the round that is under way is done.
-    pub fn is_done(&self) -> bool {
-        match &self.poll {
-            Some(poll) => poll.is_done(),
+    /// Whether something was answered in a round of this slot.
+    pub fn has_answer(&self, slot: u32) -> bool {
+        self.answered == Some(slot)
+    }
+
+    /// Whether nothing is waited for, and nothing more is to be asked in the round that is under way, unless a device
+    /// that was passed over answers.
+    pub fn is_settled(&self) -> bool {
+        match &self.round {
+            Some(round) => round.is_idle() && self.window.is_empty(),
             None => false,
         }
     }
 
     /// Ends the round that is under way. What is still answered to it counts as late.
     pub fn end_round(&mut self) {
-        self.poll = None;
+        self.round = None;
     }
 }

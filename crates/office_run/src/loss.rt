@@ -1,5 +1,8 @@
-//! Why a line's connection is lost.
-use office_net::PollFault;
+//! Why a line's connection is lost, and why its round ends.
+use crate::ahead::Ahead;
+use mb_mbap::FrameFault;
+use office_core::OfficeError;
+use poll_book::StoreFault;
 use std::alloc::AllocError;
 use thiserror::Error;
 
@@ -13,21 +16,53 @@ pub(crate) enum Loss {
     #[error("the connection ended")]
     Ended,
     /// Nothing was answered in time.
-    #[error("it is silent")]
+    #[error("nothing was answered in time")]
     Silent,
-    /// A round over it broke off.
+    /// It took no bytes in time.
+    #[error("it takes no bytes")]
+    Stuck,
+    /// Too much came that answers nothing.
+    #[error("it sends what nobody asked for")]
+    Noise,
+    /// No frame can follow in what it sent.
+    #[error("no frame can follow: {0}")]
+    Frames(FrameFault),
+    /// The office refused what a round asks.
     #[error("{0}")]
-    Broken(PollFault),
+    Office(OfficeError),
+    /// Memory was refused.
+    #[error("memory was refused")]
+    Memory,
 }
 
-impl From<PollFault> for Loss {
-    fn from(fault: PollFault) -> Loss {
-        Loss::Broken(fault)
+/// Why something about a line doesn't go on.
+#[derive(Clone, Copy, Debug, PartialEq, Eq)]
+pub(crate) enum Stop {
+    /// The connection is lost.
+    Lost(Loss),
+    /// The store refused. The connection stands.
+    Refused(StoreFault),
+    /// A counter is counted in a slot a day from now, or later: nothing can be polled before it is known why.
+    Ahead(Ahead),
+}
+
+impl From<Loss> for Stop {
+    fn from(loss: Loss) -> Stop {
+        Stop::Lost(loss)
     }
 }
 
-impl From<AllocError> for Loss {
-    fn from(_: AllocError) -> Loss {
-        Loss::Broken(PollFault::Memory)
+impl From<AllocError> for Stop {
+    fn from(_: AllocError) -> Stop {
+        Stop::Lost(Loss::Memory)
+    }
+}
+
+impl From<OfficeError> for Stop {
+    fn from(error: OfficeError) -> Stop {
+        match error {
+            OfficeError::Store(fault) => Stop::Refused(fault),
+            error => Stop::Lost(Loss::Office(error)),
+        }
     }
 }

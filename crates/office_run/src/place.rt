@@ -1,7 +1,7 @@
 //! A caller's place.
 ghost use Rattle.office_net.specs.Proceeding.{GoesAlong};
 
-use crate::caller::{Caller, Gone};
+use crate::caller::{Caller, Gone, Hold, News};
 use office_core::Office;
 use poll_book::Keeper;
 use run_beat::{Moment, Sockets, Source};
@@ -13,6 +13,8 @@ pub(crate) struct Place {
     alloc: Global,
     at: usize,
     caller: Option<Caller>,
+    /// The pass in which it did something last.
+    pub served: u64,
 }
 
 impl Place {
@@ -22,6 +24,7 @@ impl Place {
             alloc,
             at,
             caller: None,
+            served: 0,
         }
     }
 
@@ -41,18 +44,26 @@ impl Place {
         self.caller.is_none()
     }
 
-    /// Whether its caller asked for an order since this was asked last.
-    pub fn has_ordered(&mut self) -> bool {
+    /// What became of what its caller asked for since this was asked last; nothing where it has none.
+    pub fn news(&mut self) -> Option<News> {
         match &mut self.caller {
-            Some(caller) => caller.has_ordered(),
-            None => false,
+            Some(caller) => Some(caller.news()),
+            None => None,
         }
     }
 
-    /// Since when its caller has been in its head, if it is, and was waited for.
-    pub fn in_head_since(&self) -> Option<Moment> {
+    /// How soon its caller goes where another one waits, if it may.
+    pub fn hold(&self, now: Moment) -> Option<Hold> {
         match &self.caller {
-            Some(caller) if caller.is_slow() => Some(caller.since()),
+            Some(caller) => caller.hold(now),
+            None => None,
+        }
+    }
+
+    /// The moment to come from which on its caller may go for another one, though its head is whole.
+    pub fn slow_from(&self, now: Moment) -> Option<Moment> {
+        match &self.caller {
+            Some(caller) if now < caller.slow_from() => Some(caller.slow_from()),
             _ => None,
         }
     }

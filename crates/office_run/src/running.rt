@@ -1,20 +1,32 @@
 //! The turns of an office that stays up.
-ghost use Rattle.std.specs.Prelude.{◌≡◌, ⊤};
+ghost use Rattle.std.specs.Prelude.{◌≡◌, ◌||◌, is_some, ⊤};
 ghost use Rattle.std.proofs.Common.{refl, ◌∙◌};
 ghost use Rattle.office_net.specs.Proceeding.{GoesAlong};
 ghost use Rattle.office_net.proofs.Proceeding.{along_still, along_then};
 
-use crate::line::Line;
+use crate::ahead::Ahead;
+use crate::caller::{Hold, News};
+use crate::event::Event;
+use crate::journal::Journal;
+use crate::line::{Line, Turned};
+use crate::pass::Pass;
 use crate::place::Place;
 use crate::times::Times;
-use office_core::Office;
-use poll_book::Keeper;
-use run_beat::{Called, MOST_CALLERS, MOST_LINES, Moment, Slots, SocketFault, Sockets, World};
+use office_core::{Office, OfficeError};
+use office_net::last_order;
+use point_list::Site;
+use poll_book::{Keeper, StoreFault};
+use run_beat::{
+    Called, MOST_CALLERS, MOST_LINES, Moment, Slots, SocketFault, Sockets, Watch, World,
+};
 use std::alloc::{AllocError, Global};
 use thiserror::Error;
 
 /// A turn waits for so many milliseconds at most.
 const MOST_WAIT: u64 = 60_000;
+
+/// So many milliseconds lie between two look-ups of where a line is, at least, since a look-up waits.
+const LOOK_UP_MILLIS: u32 = 60_000;
 
 /// Why no office can stay up.
 #[derive(Clone, Copy, Debug, PartialEq, Eq, Error)]
@@ -23,6 +35,13 @@ pub enum RunFault {
     Memory,
     #[error("{0}")]
     Sockets(SocketFault),
+    /// The store is broken: a call was told so, and so was another one right behind it.
+    #[error("store {0}")]
+    Store(StoreFault),
+    /// The counter of a number is counted in a slot that begins in a day or later: the clock was another one as that was polled, or
+    /// slots had another length.
+    #[error("point {point} is counted in slot {slot}, a day from now or later")]
+    Ahead { point: u32, slot: u32 },
 }
 
 impl From<AllocError> for RunFault {
@@ -42,28 +61,57 @@ impl From<SocketFault> for RunFault {
 struct Running<'a, K: Keeper, S: Sockets> {
     office: &'a mut Office<K>,
     sockets: &'a mut S,
-    slots: Slots,
+    watch: Watch,
     times: Times,
     // What of those that had their turn is due first.
     due: Option<Moment>,
     // Whether one of the places was free.
     is_free: bool,
-    // Which caller has been in its head for longest.
-    longest: Option<InHead>,
+    // Which caller goes first where another one waits.
+    least: Option<Held>,
     // Whose place is wanted for a caller that waits.
     wanted: Option<usize>,
-    // So many orders came.
-    orders: u64,
+    // So many orders came for each line, and so many slots were voided.
+    orders: &'a mut Vec<u64>,
+    voids: u64,
+    // Which line that can't be reached has been looked up longest ago.
+    unreached: Option<Unreached>,
+    // Which line is to be looked up now, and from when on another one may be.
+    to_look_up: Option<usize>,
+    may_look_up: Moment,
+    journal: &'a mut Journal,
+    // Whether the clock is held, and whether it stands behind the last slot that was begun on a line.
+    is_held: bool,
+    is_behind: bool,
+    from: u32,
+    // What the store refused, as it was told.
+    refused: Option<StoreFault>,
+    // Why the run ends, before it is to.
+    fault: Option<RunFault>,
+    lines: Pass,
+    callers: Pass,
 }
 
-/// A caller that is in its head: its place, and since when.
+/// A caller that may go for another one: how soon, and its place.
 #[derive(Clone, Copy)]
-struct InHead {
-    since: Moment,
+struct Held {
+    hold: Hold,
     at: usize,
 }
 
+/// A line that can't be reached: when it was looked up last where it is, and its place.
+#[derive(Clone, Copy)]
+struct Unreached {
+    looked_up: Moment,
+    place: usize,
+}
+
 impl<K: Keeper, S: Sockets> Running<'_, K, S> {
+    /// The moment of now; that of the turn, where the clock fails, which the next wait tells.
+    fn moment(&self) -> Moment {
+        self.sockets.now().unwrap_or(self.times.now)
+    }
+
     /// Something is due at a moment.
     fn expect(&mut self, due: Option<Moment>)
         ensures { self.new.office ≡ self.old.office }
@@ -74,20 +122,172 @@ impl<K: Keeper, S: Sockets> Running<'_, K, S> {
         };
     }
 
-    /// A place had its turn.
-    fn note(&mut self, place: &mut Place)
+    /// An order for a line was accepted.
+    fn wake(&mut self, line: u16)
         ensures { self.new.office ≡ self.old.office }
     {
-        self.expect(place.due());
-        self.is_free |= place.is_free();
-        if place.has_ordered() {
-            self.orders = self.orders.wrapping_add(1);
+        if let Some(orders) = self.orders.get_mut(usize::from(line)) {
+            *orders = orders.wrapping_add(1);
         }
-        if let Some(since) = place.in_head_since() {
-            let is_longest = self.longest.is_none_or(|longest| since < longest.since);
-            if is_longest {
+    }
+
+    /// The store refused something: where a file failed it is asked once more, and is broken where it fails again.
+    fn note_refusal(&mut self, fault: StoreFault)
+        ensures { (self.new.office.ghost_name ≡ self.old.office.ghost_name) × GoesAlong self.old.office.now self.new.office.now }
+    {
+        if self.refused != Some(fault) {
+            self.refused = Some(fault);
+            self.journal.tell(&Event::Refused(fault));
+        }
+        if fault == StoreFault::Disk {
+            let again = last_order(self.office);
+            if matches!(again, Err(OfficeError::Store(StoreFault::Disk))) {
+                self.fault = Some(RunFault::Store(fault));
+            }
+        }
+    }
+
+    /// The store kept something.
+    fn note_kept(&mut self)
+        ensures { self.new.office ≡ self.old.office }
+    {
+        if self.refused.is_some() {
+            self.refused = None;
+            self.journal.tell(&Event::Kept);
+        }
+    }
+
+    /// A line had its turn.
+    fn note_line(&mut self, line: &Line, turned: Turned)
+        ensures { (self.new.office.ghost_name ≡ self.old.office.ghost_name) × GoesAlong self.old.office.now self.new.office.now }
+    {
+        self.note_turn(line, &turned);
+        if let Some(fault) = turned.refused {
+            self.note_refusal(fault);
+        }
+    }
+
+    /// The same, but for what the store refused.
+    fn note_turn(&mut self, line: &Line, turned: &Turned)
+        ensures { self.new.office ≡ self.old.office }
+    {
+        self.expect(line.due());
+        self.note_unreached(line);
+        self.from = self.from.max(line.from());
+        if let Some(Ahead { point, slot }) = turned.ahead {
+            self.fault = Some(RunFault::Ahead { point, slot });
+        }
+        if turned.has_kept {
+            self.note_kept();
+        }
+    }
+
+    /// Notes a line that can't be reached.
+    fn note_unreached(&mut self, line: &Line)
+        ensures { self.new.office ≡ self.old.office }
+    {
+        if let Some(looked_up) = line.unreached() {
+            let is_longer = self
+                .unreached
+                .is_none_or(|unreached| looked_up < unreached.looked_up);
+            if is_longer {
+                let place = line.place();
+                self.unreached = Some(Unreached { looked_up, place });
+            }
+        }
+    }
+
+    /// Looks up where a line is, if that is to be done now.
+    fn look_up(&mut self, line: &mut Line)
+        ensures { self.new.office ≡ self.old.office }
+    {
+        if self.to_look_up != Some(line.place()) {
+            return;
+        }
+        self.to_look_up = None;
+        let before = self.moment();
+        let is_name = self.sockets.look_up(line.place());
+        let now = self.moment();
+        line.note_look_up(now);
+        if is_name {
+            self.may_look_up = now.after(LOOK_UP_MILLIS);
+            let millis = before.until(now);
+            let line = line.name();
+            self.journal.tell(&Event::LookedUp { line, millis });
+        }
+    }
+
+    /// Whether a line may do something in this turn. If not, it is noted how it stands.
+    fn admit_line(&mut self, line: &mut Line) -> bool
+        ensures { self.new.office ≡ self.old.office }
+    {
+        let now = self.moment();
+        let is_admitted = self.lines.admit(line.served, now);
+        if is_admitted {
+            line.served = self.lines.number();
+        } else {
+            self.expect(line.due());
+            self.note_unreached(line);
+        }
+        is_admitted
+    }
+
+    /// Whether a place may do something in this turn. If not, it is noted how it stands.
+    fn admit(&mut self, place: &mut Place) -> bool
+        ensures { self.new.office ≡ self.old.office }
+    {
+        let now = self.moment();
+        if place.at() == 0 {
+            self.callers.begin_turn(now);
+        }
+        let is_admitted = self.callers.admit(place.served, now);
+        if is_admitted {
+            place.served = self.callers.number();
+        } else {
+            self.note(place);
+        }
+        is_admitted
+    }
+
+    /// A place did something.
+    fn note_place(&mut self, place: &mut Place)
+        ensures { (self.new.office.ghost_name ≡ self.old.office.ghost_name) × GoesAlong self.old.office.now self.new.office.now }
+    {
+        self.note(place);
+        if let Some(news) = place.news() {
+            self.note_news(news);
+        }
+    }
+
+    /// What became of what a caller asked for.
+    fn note_news(&mut self, news: News)
+        ensures { (self.new.office.ghost_name ≡ self.old.office.ghost_name) × GoesAlong self.old.office.now self.new.office.now }
+    {
+        if let Some(line) = news.ordered {
+            self.wake(line);
+            self.note_kept();
+        }
+        if news.has_voided {
+            self.voids = self.voids.wrapping_add(1);
+        }
+        if let Some(fault) = news.refused {
+            self.note_refusal(fault);
+        }
+    }
+
+    /// A place had its turn.
+    fn note(&mut self, place: &Place)
+        ensures { self.new.office ≡ self.old.office }
+    {
+        let now = self.times.now;
+        self.expect(place.due());
+        self.expect(place.slow_from(now));
+        self.is_free |= place.is_free();
+        if let Some(hold) = place.hold(now) {
+            let is_first = self.least.is_none_or(|least| hold < least.hold);
+            if is_first {
                 let at = place.at();
-                self.longest = Some(InHead { since, at });
+                self.least = Some(Held { hold, at });
             }
         }
     }
@@ -101,9 +301,58 @@ impl<K: Keeper, S: Sockets> Running<'_, K, S> {
         }
     }
 
+    /// Tells what the clock does, where that is new.
+    fn tell_clock(&mut self)
+        ensures { self.new.office ≡ self.old.office }
+    {
+        self.journal.set_clock(self.times.clock);
+        let is_held = self.times.slot().is_none();
+        if self.times.has_jumped {
+            self.journal.tell(&Event::Jumped);
+        } else if self.is_held && !is_held {
+            self.journal.tell(&Event::Followed);
+        }
+        self.is_held = is_held;
+        let Some(slot) = self.times.slot() else {
+            return;
+        };
+        let is_behind = slot < self.from;
+        if is_behind && !self.is_behind {
+            self.journal.tell(&Event::Behind { slot: self.from });
+        } else if self.is_behind && !is_behind {
+            self.journal.tell(&Event::CaughtUp);
+        }
+        self.is_behind = is_behind;
+    }
+
+    /// Chooses who goes for a caller that waits, and which line is looked up.
+    fn choose(&mut self)
+        ensures office { self.new.office ≡ self.old.office }
+        ensures sockets { self.new.sockets ≡ self.old.sockets }
+        ensures fault { self.new.fault ≡ self.old.fault }
+    {
+        self.wanted = match self.least {
+            Some(least) if !self.is_free && self.sockets.has_caller() => Some(least.at),
+            _ => None,
+        };
+        self.to_look_up = match self.unreached {
+            Some(unreached) if self.may_look_up <= self.times.now => Some(unreached.place),
+            _ => None,
+        };
+    }
+
+    /// How the run ended, where no fault of the system ended it.
+    fn ended(&self) -> Result<(), RunFault> {
+        match self.fault {
+            Some(fault) => Err(fault),
+            None => Ok(()),
+        }
+    }
+
     /// So many milliseconds may pass, if nothing comes.
     fn patience(&self) -> u64 {
-        let most = self.slots.until_next(self.times.clock).min(MOST_WAIT);
+        let most = self.times.slots.until_next(self.times.clock);
+        let most = most.min(MOST_WAIT);
         match self.due {
             Some(due) => most.min(self.times.now.until(due)),
             None => most,
@@ -116,27 +365,28 @@ impl<K: Keeper, S: Sockets> World for Running<'_, K, S> {
     ghost goes = { λ old new. (new.office.ghost_name ≡ old.office.ghost_name)
         × GoesAlong old.office.now new.office.now };
 
-    ghost stopped = { λ world. S.stopped world.sockets.now };
+    ghost stopped = { λ world. is_some world.fault || S.stopped world.sockets.now };
 
     fn is_stopped(&self) -> bool {
-        self.sockets.is_stopped()
+        self.fault.is_some() || self.sockets.is_stopped()
     }
 
     fn wait(&mut self, is_more: bool) -> Result<(), SocketFault> {
-        self.wanted = match self.longest {
-            Some(longest) if !self.is_free && self.sockets.has_caller() => Some(longest.at),
-            _ => None,
-        };
-        let most = if is_more || self.wanted.is_some() {
+        self.choose();
+        let has_told = self.journal.write(self.sockets);
+        let most = if is_more || has_told || self.wanted.is_some() || self.to_look_up.is_some() {
             0
         } else {
             self.patience()
         };
         self.sockets.wait(most)?;
-        self.times = Times::of(self.sockets, self.slots)?;
-        self.due = None;
+        self.times = Times::of(self.sockets, self.times.slots, &mut self.watch)?;
+        self.due = self.watch.held_until(self.times.now);
+        self.tell_clock();
+        self.lines.begin_turn(self.times.now);
         self.is_free = false;
-        self.longest = None;
+        self.least = None;
+        self.unreached = None;
         Ok(())
     }
 
@@ -152,8 +402,22 @@ impl<K: Keeper, S: Sockets> Called<Running<'_, K, S>> for Line {
     ghost steps = { λ _ _ _. ⊤ };
 
     fn call(&mut self, world: &mut Running<'_, K, S>) -> bool {
-        let is_more = self.turn(world.office, world.sockets, world.times, world.orders);
-        world.expect(self.due());
+        if !world.admit_line(self) {
+            return world.lines.is_owed();
+        }
+        world.look_up(self);
+        let voids = world.voids;
+        self.lookout.note_voids(voids);
+        let orders = world.orders.get(self.place()).copied().unwrap_or(0);
+        let turned = self.turn(
+            world.office,
+            world.sockets,
+            world.journal,
+            world.times,
+            orders,
+        );
+        let is_more = turned.is_more;
+        world.note_line(self, turned);
         is_more
     }
 }
@@ -162,18 +426,21 @@ impl<K: Keeper, S: Sockets> Called<Running<'_, K, S>> for Place {
     ghost steps = { λ _ _ _. ⊤ };
 
     fn call(&mut self, world: &mut Running<'_, K, S>) -> bool {
+        if !world.admit(self) {
+            return world.callers.is_owed();
+        }
         world.make_room(self);
         let is_more = self.turn(world.office, world.sockets, world.times.now);
-        world.note(self);
+        world.note_place(self);
         is_more
     }
 }
 
 /// The lines of a site, of which none has a connection.
-fn lines_of(alloc: Global, count: usize, timeout: u32) -> Result<Vec<Line>, AllocError> {
+fn lines_of(alloc: Global, site: &Site, timeout: u32) -> Result<Vec<Line>, AllocError> {
     let mut lines = Vec::new(alloc);
-    for place in 0..count.min(MOST_LINES) {
-        lines.push(Line::new(alloc, place as u16, timeout))?;
+    for (place, line) in (0u16..).zip(site.lines.as_slice()).take(MOST_LINES) {
+        lines.push(Line::new(alloc, place, line.name.clone()?, timeout))?;
     }
     Ok(lines)
 }
@@ -187,9 +454,56 @@ fn places(alloc: Global) -> Result<Vec<Place>, AllocError> {
     Ok(places)
 }
 
+/// What a run begins at.
+#[derive(Clone, Copy)]
+struct Outset {
+    watch: Watch,
+    times: Times,
+}
+
+/// Turns until the run is to end.
+fn turns<K: Keeper, S: Sockets>(
+    office: &mut Office<K>,
+    sockets: &mut S,
+    orders: &mut Vec<u64>,
+    journal: &mut Journal,
+    lines: &mut Vec<Line>,
+    places: &mut Vec<Place>,
+    outset: Outset,
+) -> Result<(), RunFault>
+    ensures { GoesAlong office.old office.new }
+{
+    let mut world = Running {
+        office,
+        sockets,
+        watch: outset.watch,
+        times: outset.times,
+        due: None,
+        is_free: false,
+        least: None,
+        wanted: None,
+        orders,
+        voids: 0,
+        unreached: None,
+        to_look_up: None,
+        may_look_up: Moment::new(0),
+        journal,
+        is_held: false,
+        is_behind: false,
+        from: 0,
+        refused: None,
+        fault: None,
+        lines: Pass::at(outset.times.now),
+        callers: Pass::new(),
+    };
+    run_beat::run(lines, places, &mut world)?;
+    world.ended()
+}
+
 /// Keeps an office up until the run is to end: each line of its site polls each slot, over a connection that stays
 /// and is made again where it was lost; an order that comes is sent at once; and callers are answered. A device
-/// is given so many milliseconds for each answer. A fault is memory's as it begins, or the system's.
+/// is given so many milliseconds for each answer. A fault is memory's as it begins, the system's, or the store's where
+/// it is broken.
 pub fn run<K: Keeper, S: Sockets>(
     alloc: Global,
     office: &mut Office<K>,
@@ -199,21 +513,19 @@ pub fn run<K: Keeper, S: Sockets>(
 ) -> Result<(), RunFault>
     ensures { GoesAlong office.old office.new }
 {
-    let count = office.site().lines.as_slice().len();
-    let mut lines = lines_of(alloc, count, timeout)?;
+    let mut lines = lines_of(alloc, office.site(), timeout)?;
     let mut places = places(alloc)?;
-    let times = Times::of(sockets, slots)?;
-    let mut world = Running {
+    let mut orders = vec![in alloc; 0; MOST_LINES]?;
+    let mut watch = Watch::new(slots);
+    let times = Times::of(sockets, slots, &mut watch)?;
+    let mut journal = Journal::new(alloc, times.clock);
+    turns(
         office,
         sockets,
-        slots,
-        times,
-        due: None,
-        is_free: false,
-        longest: None,
-        wanted: None,
-        orders: 0,
-    };
-    run_beat::run(&mut lines, &mut places, &mut world)?;
-    Ok(())
+        &mut orders,
+        &mut journal,
+        &mut lines,
+        &mut places,
+        Outset { watch, times },
+    )
 }

@@ -1,23 +1,53 @@
 //! What time it is in a turn.
-use run_beat::{ClockTime, Moment, Slots, SocketFault, Sockets};
+use run_beat::{ClockTime, Moment, Sight, Slots, SocketFault, Sockets, Watch};
+
+/// The seconds of a day.
+const DAY_SECONDS: u64 = 86_400;
 
 /// The times of a turn, which are the same for all that is called in it.
 #[derive(Clone, Copy, Debug, PartialEq, Eq)]
 pub(crate) struct Times {
     pub now: Moment,
     pub clock: ClockTime,
+    pub slots: Slots,
     /// The slot at that time.
-    pub slot: u32,
+    slot: u32,
+    /// Whether the clock is held, as it jumped ahead a short while ago.
+    is_held: bool,
+    /// Whether the clock jumped ahead since the turn before.
+    pub has_jumped: bool,
 }
 
 impl Times {
     /// What time it is; a fault where the clock can't be read, or shows a time that has no slot.
-    pub fn of<S: Sockets>(sockets: &S, slots: Slots) -> Result<Times, SocketFault> {
+    pub fn of<S: Sockets>(
+        sockets: &S,
+        slots: Slots,
+        watch: &mut Watch,
+    ) -> Result<Times, SocketFault> {
         let now = sockets.now()?;
         let clock = sockets.clock()?;
-        match slots.slot_at(clock) {
-            Some(slot) => Ok(Times { now, clock, slot }),
-            None => Err(SocketFault::Clock),
-        }
+        let Some(slot) = slots.slot_at(clock) else {
+            return Err(SocketFault::Clock);
+        };
+        let has_jumped = watch.look(&Sight { moment: now, clock });
+        Ok(Times {
+            now,
+            clock,
+            slots,
+            slot,
+            is_held: watch.is_held(now),
+            has_jumped,
+        })
+    }
+
+    /// The slot that may be begun; none while the clock is held.
+    pub fn slot(&self) -> Option<u32> {
+        if self.is_held { None } else { Some(self.slot) }
+    }
+
+    /// Whether it is a day or longer until a slot begins.
+    pub fn is_far(&self, slot: u32) -> bool {
+        self.slots.seconds_until(slot, self.clock) >= DAY_SECONDS
     }
 }

@@ -7,3 +7,4 @@ pub mod Slots
 pub mod Stages
 pub mod Times
 pub mod Turns
+pub mod Watches

@@ -1,8 +1,10 @@
 //! When a line is due.
-ghost use Rattle.std.specs.Prelude.{◌≡◌, ◌↔◌, IsTrue, None};
+ghost use Rattle.std.specs.Prelude.{◌≡◌, ◌↔◌, ℕ, IsTrue, List, None, Option, Some};
 ghost use Rattle.run_beat.specs.Delays.{longer_than};
 ghost use Rattle.run_beat.specs.Times.{later};
 ghost use Rattle.run_beat.specs.Stages.{IsPolling, due_in, rested, renewed, unpolled};
+ghost use Rattle.run_beat.specs.Beats.{Calls, NeverFall, begun_by};
+ghost use Rattle.run_beat.specs.declared.beat.Beat.{Beat};
 
 use crate::delay::Delay;
 use crate::times::Moment;
@@ -28,6 +30,8 @@ pub struct Beat {
     timeout: u32,
     stage: Stage,
     delay: Delay,
+    // No slot before this one is begun any more.
+    from: u32,
 }
 
 impl Stage {
@@ -44,7 +48,7 @@ impl Stage {
 }
 
 impl Beat {
-    ghost use Rattle.run_beat.specs.Beats.{IsDue, IsSoon, KeepsTimes, Wants, delay_of, due_of, stage_of, timeout_of};
+    ghost use Rattle.run_beat.specs.Beats.{Begins, IsDue, IsSoon, KeepsTimes, Wants, delay_of, due_of, from_of, stage_of, timeout_of};
 
     /// A line with no connection, due as the run begins. It gives its devices so many milliseconds
     /// to connect, and for each next frame of a round.
@@ -52,6 +56,7 @@ impl Beat {
         ensures closed { stage_of result ≡ Stage.Closed 0 }
         ensures delay { delay_of result ≡ 0 }
         ensures timeout { timeout_of result ≡ timeout }
+        ensures from { from_of result ≡ 0 }
     {
         Beat {
             timeout,
@@ -59,6 +64,7 @@ impl Beat {
                 until: Moment::new(0),
             },
             delay: Delay::none(),
+            from: 0,
         }
     }
 
@@ -85,13 +91,20 @@ impl Beat {
         }
     }
 
-    /// Whether a round of this slot is to be begun: a connection stands, no round is under way, and
-    /// the last one over it was of another slot.
+    /// No slot before this one is to be begun.
+    pub fn from(&self) -> u32
+        ensures { result ≡ from_of self.now }
+    {
+        self.from
+    }
+
+    /// Whether a round of this slot is to be begun: a connection stands, no round is under way, the
+    /// last one over it was of another slot, and no later slot was begun.
     pub fn wants(&self, slot: u32) -> bool
         ensures { IsTrue result ↔ Wants self.now slot }
     {
         match self.stage {
-            Stage::Resting { polled } => polled != Some(slot),
+            Stage::Resting { polled } => polled != Some(slot) && self.from <= slot,
             _ => false,
         }
     }
@@ -100,6 +113,7 @@ impl Beat {
     pub fn begin(&mut self, now: Moment)
         ensures stage { stage_of self.new ≡ Stage.Connecting (later now (timeout_of self.old)) }
         ensures same { KeepsTimes self.old self.new }
+        ensures begins { Begins self.old None self.new }
         ensures soon { IsSoon self.new now }
     {
         self.stage = Stage::Connecting {
@@ -111,6 +125,7 @@ impl Beat {
     pub fn open(&mut self)
         ensures stage { stage_of self.new ≡ Stage.Resting None }
         ensures same { KeepsTimes self.old self.new }
+        ensures begins { Begins self.old None self.new }
     {
         self.stage = Stage::Resting { polled: None };
     }
@@ -120,12 +135,14 @@ impl Beat {
         requires { Wants self.old slot }
         ensures stage { stage_of self.new ≡ Stage.Polling slot (later now (timeout_of self.old)) }
         ensures same { KeepsTimes self.old self.new }
+        ensures begins { Begins self.old (Some slot) self.new }
         ensures soon { IsSoon self.new now }
     {
         self.stage = Stage::Polling {
             slot,
             until: now.after(self.timeout),
         };
+        self.from = slot;
     }
 
     /// An answer came in a round: the next one has the time again. Where no round is under way,
@@ -133,6 +150,7 @@ impl Beat {
     pub fn wait_on(&mut self, now: Moment)
         ensures stage { stage_of self.new ≡ renewed (stage_of self.old) (later now (timeout_of self.old)) }
         ensures same { KeepsTimes self.old self.new }
+        ensures begins { Begins self.old None self.new }
         ensures soon { IsPolling (stage_of self.old) → IsSoon self.new now }
     {
         if let Stage::Polling { slot, .. } = self.stage {
@@ -150,6 +168,7 @@ impl Beat {
         ensures delay { IsPolling (stage_of self.old) → delay_of self.new ≡ 0 }
         ensures same { (IsPolling (stage_of self.old) → ⊥) → self.new ≡ self.old }
         ensures timeout { timeout_of self.new ≡ timeout_of self.old }
+        ensures begins { Begins self.old None self.new }
     {
         if let Stage::Polling { slot, .. } = self.stage {
             self.stage = Stage::Resting { polled: Some(slot) };
@@ -161,6 +180,7 @@ impl Beat {
     pub fn again(&mut self)
         ensures stage { stage_of self.new ≡ unpolled (stage_of self.old) }
         ensures same { KeepsTimes self.old self.new }
+        ensures begins { Begins self.old None self.new }
     {
         if let Stage::Resting { .. } = self.stage {
             self.stage = Stage::Resting { polled: None };
@@ -173,6 +193,7 @@ impl Beat {
         ensures stage { stage_of self.new ≡ Stage.Closed (later now (longer_than (delay_of self.old))) }
         ensures delay { delay_of self.new ≡ longer_than (delay_of self.old) }
         ensures timeout { timeout_of self.new ≡ timeout_of self.old }
+        ensures begins { Begins self.old None self.new }
         ensures soon { IsSoon self.new now }
     {
         self.delay = self.delay.longer();
@@ -181,3 +202,8 @@ impl Beat {
         };
     }
 }
+
+/// Of the calls of a line's beat, whatever the clocks showed: none begins a slot before one that was begun.
+pub fn slots_never_fall()
+    ensures { (first last : Beat) (calls : List (Option ℕ)) → Calls first calls last → NeverFall (begun_by calls) }
+{}

@@ -11,6 +11,7 @@ mod slots;
 mod sockets;
 mod times;
 mod turns;
+mod watch;
 
 pub use beat::{Beat, Stage};
 pub use callers::{CLOSING_MILLIS, EXCHANGE_MILLIS, HEAD_MILLIS, MOST_CALLERS};
@@ -20,3 +21,4 @@ pub use slots::Slots;
 pub use sockets::{Came, Connected, MOST_LINES, Sent, SocketFault, Sockets, Source};
 pub use times::{ClockTime, Moment};
 pub use turns::{Called, World, call_each, run, turn};
+pub use watch::{Sight, Watch};

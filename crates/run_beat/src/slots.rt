@@ -1,5 +1,5 @@
 //! Slots by the clock.
-ghost use Rattle.std.specs.Prelude.{◌≡◌, ◌≤◌, ◌<◌, ◌+◌, ◌*◌, ◌^◌, SomeIff};
+ghost use Rattle.std.specs.Prelude.{◌≡◌, ◌≤◌, ◌<◌, ◌+◌, ◌-◌, ◌*◌, ◌/◌, ◌^◌, SomeIff};
 ghost use Rattle.run_beat.specs.Slots.{slot, begins};
 
 use crate::times::ClockTime;
@@ -36,7 +36,7 @@ impl Slots {
         }
     }
 
-    fn millis(self) -> u64
+    pub(crate) fn millis(self) -> u64
         ensures { result ≡ self * 1000 }
     {
         u64::from(self.seconds) * 1_000
@@ -58,5 +58,12 @@ impl Slots {
     {
         let millis = self.millis();
         millis - time.millis() % millis
+    }
+
+    /// How many whole seconds of the clock it is to the beginning of a slot: 0 where that is past.
+    pub fn seconds_until(self, slot: u32, time: ClockTime) -> u64
+        ensures { result ≡ slot * self - time / 1000 }
+    {
+        (u64::from(slot) * u64::from(self.seconds)).saturating_sub(time.millis() / 1_000)
     }
 }

@@ -115,6 +115,11 @@ pub trait Sockets {
         ensures err { OnErr result (places self.new ≡ places self.old) }
         ensures fault { IfErr result (λ fault. fault ≡ SocketFault.Connect) };
 
+    /// Looks up once more where a line is, if its address is a name, and waits until whoever knows names answers; tells
+    /// whether it was a name. The next `connect` goes where the line is now, if that was answered.
+    fn look_up(&mut self, line: usize) -> bool
+        ensures { places self.new ≡ places self.old };
+
     /// How the connection to a line stands.
     fn connected(&self, line: usize) -> Connected
         ensures { has_socket (Source.Line line) (places self.now) ≡ false → result ≡ Connected.Failed };
@@ -149,6 +154,12 @@ pub trait Sockets {
     /// Tells the peer that no more is written.
     fn finish(&mut self, source: Source)
         ensures { places self.new ≡ places self.old };
+
+    /// Writes once to standard error, of one byte or more, as far as it takes them without waiting.
+    fn tell(&mut self, bytes: &[u8]) -> Sent
+        requires { 0 < length bytes.now }
+        ensures within { SentWithin (length bytes.now) result }
+        ensures same { places self.new ≡ places self.old };
 
     /// Closes a connection, if there is one.
     fn close(&mut self, source: Source)

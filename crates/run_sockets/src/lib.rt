@@ -1,12 +1,14 @@
 //! The sockets of an office that stays up, over `mio`: what `run_beat` asks of the system.
 #![tactic(auto)]
 
+mod address;
 mod door;
 mod place;
 mod ports;
 mod socket;
 mod system;
 mod table;
+mod teller;
 mod tokens;
 
 pub use system::System;

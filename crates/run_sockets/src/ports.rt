@@ -6,20 +6,22 @@ ghost use Rattle.run_beat.specs.Places.{has_socket, no_sockets, with_socket};
 
 use crate::door::Door;
 use crate::table::Table;
-use crate::tokens::{INPUT, LISTENER, source_of};
+use crate::tokens::{ERROR, INPUT, LISTENER, source_of};
 use mio::Events;
 use mio::event::Event;
 use mio::net::{TcpListener, TcpStream};
 use run_beat::{Came, Connected, MOST_CALLERS, MOST_LINES, Sent, Source};
 use std::alloc::{AllocError, Global};
 
-/// The connections of lines and callers, the door, and whether standard input has ended.
+/// The connections of lines and callers, the door, whether standard input has ended, and whether standard error may
+/// take bytes.
 #[derive(Drop)]
 pub(crate) struct Ports {
     lines: Table,
     callers: Table,
     pub(crate) door: Door,
     pub(crate) is_stopped: bool,
+    pub(crate) may_tell: bool,
 }
 
 impl Ports {
@@ -34,6 +36,7 @@ impl Ports {
             callers: Table::new(alloc, MOST_CALLERS)?,
             door: Door::new(listener),
             is_stopped: false,
+            may_tell: false,
         })
     }
 
@@ -48,6 +51,7 @@ impl Ports {
             Some(Source::Caller(place)) => self.callers.note(place, event),
             None if token == LISTENER => self.door.note(),
             None if token == INPUT && event.is_read_closed() => self.is_stopped = true,
+            None if token == ERROR => self.may_tell = true,
             None => {}
         }
     }

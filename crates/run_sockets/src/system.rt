@@ -3,14 +3,16 @@ ghost use Rattle.std.specs.Prelude.{◌≡◌, ◌/◌, ◌-◌, ◌^◌, IfOk, 
 ghost use Rattle.std.specs.Duration.{as_nanos};
 ghost use Rattle.run_beat.specs.Places.{no_sockets, with_socket};
 
+use crate::address::{Address, addresses_of};
 use crate::ports::Ports;
+use crate::teller::Teller;
 use crate::tokens::{INPUT, LISTENER, TOKENS, token_of};
 use mio::net::{TcpListener, TcpStream};
 use mio::unix::SourceFd;
 use mio::{Events, Interest, Poll};
 use run_beat::{Came, ClockTime, Connected, Moment, Sent, SocketFault, Sockets, Source};
 use std::alloc::Global;
-use std::io::{self, ErrorKind};
+use std::io::{self, ErrorKind, Write};
 use std::net::{Net, SocketAddr};
 use std::os::fd::RawFd;
 use std::rt::Clock;
@@ -22,15 +24,16 @@ const STANDARD_INPUT: RawFd = 0;
 /// After so many milliseconds at most, a caller that couldn't be accepted is tried again.
 const RETRY_MILLIS: u64 = 1_000;
 
-/// The sockets of an office's lines and callers, all over one `Poll`, and the clocks.
+/// The sockets of an office's lines and callers, all over one `Poll`, standard error, and the clocks.
 #[derive(Drop)]
-pub struct System<'a, R> {
+pub struct System<'a, R, E> {
     rt: &'a R,
     begun: Instant,
     poll: Poll,
+    teller: Teller<E>,
     events: Events,
     // A line's at its place.
-    addresses: Vec<Option<SocketAddr>>,
+    addresses: Vec<Address>,
     ports: Ports,
 }
 
@@ -49,19 +52,22 @@ fn watch_input(poll: &Poll) {
         .register(&mut SourceFd(&STANDARD_INPUT), INPUT, Interest::READABLE);
 }
 
-impl<'a, R: Clock + Net> System<'a, R> {
+impl<'a, R: Clock + Net, E: Write + Drop> System<'a, R, E> {
     ghost use Rattle.run_sockets.specs.Systems.{places_of};
 
     /// Listens for callers at an address, for a run that begins now and may connect to these
-    /// addresses, a line's at its place. A line with no address can't be connected to. The run is
+    /// addresses, each a host and port, a line's at its place. They are looked up, which waits. A line whose
+    /// address nobody knows can't be connected to before it is known. The run is
     /// stopped by the end of standard input: where the writers of a pipe are gone, the peer of a
-    /// socket sends no more, or a terminal is hung up.
+    /// socket sends no more, or a terminal is hung up. What it tells goes to `errors`, which is
+    /// standard error.
     pub fn new(
         rt: &'a R,
         alloc: Global,
         listen: SocketAddr,
-        addresses: Vec<Option<SocketAddr>>,
-    ) -> io::Result<System<'a, R>>
+        addresses: Vec<String>,
+        errors: E,
+    ) -> io::Result<System<'a, R, E>>
         ensures { IfOk result (λ system. places_of system ≡ no_sockets) }
     {
         let poll = Poll::new(rt)?;
@@ -69,12 +75,14 @@ impl<'a, R: Clock + Net> System<'a, R> {
         poll.registry()
             .register(&mut listener, LISTENER, Interest::READABLE)?;
         watch_input(&poll);
+        let teller = Teller::new(&poll, errors);
         Ok(System {
             rt,
             begun: Instant::now(rt)?,
             poll,
+            teller,
             events: Events::with_capacity(alloc, TOKENS)?,
-            addresses,
+            addresses: addresses_of(rt, alloc, addresses)?,
             ports: Ports::new(alloc, listener)?,
         })
     }
@@ -105,7 +113,7 @@ impl<'a, R: Clock + Net> System<'a, R> {
         ensures ok { OnOk result (places_of self.new ≡ with_socket (Source.Line line) true (places_of self.old)) }
         ensures err { OnErr result (places_of self.new ≡ places_of self.old) }
     {
-        let Some(Some(address)) = self.addresses.get(line).copied() else {
+        let Some(address) = self.addresses.get(line).and_then(Address::found) else {
             return Err(io::Error::from(ErrorKind::NotFound));
         };
         let stream = TcpStream::connect(self.rt, address)?;
@@ -113,7 +121,7 @@ impl<'a, R: Clock + Net> System<'a, R> {
     }
 }
 
-impl<R: Clock + Net> Sockets for System<'_, R> {
+impl<R: Clock + Net, E: Write + Drop> Sockets for System<'_, R, E> {
     ghost use Rattle.run_sockets.specs.Systems.{is_ended, is_waited_at, places_of};
 
     ghost places = { places_of };
@@ -165,6 +173,13 @@ impl<R: Clock + Net> Sockets for System<'_, R> {
         }
     }
 
+    fn look_up(&mut self, line: usize) -> bool {
+        match self.addresses.get_mut(line) {
+            Some(address) => address.look_up(self.rt),
+            None => false,
+        }
+    }
+
     fn connected(&self, line: usize) -> Connected {
         self.ports.connected(line)
     }
@@ -189,6 +204,11 @@ impl<R: Clock + Net> Sockets for System<'_, R> {
 
     fn write(&mut self, source: Source, bytes: &[u8]) -> Sent {
         self.ports.write(source, bytes)
+    }
+
+    fn tell(&mut self, bytes: &[u8]) -> Sent {
+        self.teller
+            .write(&self.poll, &mut self.ports.may_tell, bytes)
     }
 
     fn finish(&mut self, source: Source) {

@@ -11,8 +11,11 @@ pub(crate) const LISTENER: Token = Token(MOST_LINES + MOST_CALLERS);
 /// The token of standard input.
 pub(crate) const INPUT: Token = Token(MOST_LINES + MOST_CALLERS + 1);
 
+/// The token of standard error.
+pub(crate) const ERROR: Token = Token(MOST_LINES + MOST_CALLERS + 2);
+
 /// So many tokens there are.
-pub(crate) const TOKENS: usize = MOST_LINES + MOST_CALLERS + 2;
+pub(crate) const TOKENS: usize = MOST_LINES + MOST_CALLERS + 3;
 
 /// The token of a source: none of a place that isn't there.
 pub(crate) fn token_of(source: Source) -> Option<Token>
@@ -25,7 +28,7 @@ pub(crate) fn token_of(source: Source) -> Option<Token>
     }
 }
 
-/// The source of a token: none of the listener and standard input.
+/// The source of a token: none of the listener, standard input and standard error.
 pub(crate) fn source_of(token: Token) -> Option<Source>
     ensures found { IfSome result (λ source. IsPlace source × (number_of source ≡ token.0)) }
     ensures none { IsNone result ↔ (MOST_LINES + MOST_CALLERS ≤ token.0) }

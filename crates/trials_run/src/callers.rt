@@ -1,5 +1,6 @@
 //! Callers who take their time.
 use crate::guest::{Guest, Speech};
+use crate::orders::WAITING;
 use crate::scenes::{keep_up, office, world};
 use crate::world::World;
 use office_core::OfficeError;
@@ -25,6 +26,8 @@ fn assert_guest(trial: &Trial<'_>, guest: &Guest, heard: &str, gone: u64) {
 /// The number of the caller that finds all 64 places taken; the first one has 0.
 const LAST: u16 = 64;
 
+const NEXT: u16 = 65;
+
 /// When a caller before that one comes: one every 10 milliseconds.
 fn comes(number: u16) -> u64 {
     1_000 + 10 * u64::from(number)
@@ -43,7 +46,7 @@ fn crowd(alloc: Global) -> Result<Vec<Speech>, OfficeError> {
 /// The world after an office was kept up in it, in which these callers came.
 fn played(alloc: Global, speeches: &[Speech], most: usize) -> Result<World, OfficeError> {
     let mut office = office(alloc)?;
-    let mut world = world(alloc, 12_000, None, speeches)?.with_most(most);
+    let mut world = world(alloc, 12_000, &[], speeches)?.with_most(most);
     keep_up(alloc, &mut office, &mut world)?;
     Ok(world)
 }
@@ -64,6 +67,50 @@ fn crowded(trial: &Trial<'_>) -> Result<(), OfficeError> {
 #[test]
 fn the_longest_in_its_head_goes_for_another(rt: HostRuntime) -> Result<(), Fail> {
     Ok(twice!(rt, crowded)?)
+}
+
+/// A head of which the body doesn't come, and one of which a part comes every three seconds.
+const NO_BODY: &str = "PUT /callers/ann/orders/k1 HTTP/1.1\r\nContent-Length: 200\r\n\r\n";
+
+const SLOW_BODY: &str =
+    "PUT /callers/ann/orders/k1 HTTP/1.1\r\nContent-Length: 200\r\n\r\naaaaaaaaaaaaaaaaaaaaaaaaaaaaaaaaaaaaaaaaaaaaaaaaaaaaaaaaaaaaaaaaaaaaaaaaaaaaaaaaaaaaaaaaaaaaaaaaaaaaaaaaaaaaaaaaaaaaaaaaaaaaaaaaaaaaaaaaaaaaaaaaaaaaaaaaaaaaaaaaaaaaaaaaaaaaaaaa";
+
+/// All places are taken by callers whose body doesn't come, the first by one whose body is slow; and one more of these
+/// comes, and then another one.
+fn slow_bodies(alloc: Global) -> Result<Vec<Speech>, OfficeError> {
+    let mut speeches = Vec::new(alloc);
+    let first = Speech {
+        most: NO_BODY.len(),
+        pause: 3_000,
+        ..Speech::at_once(comes(0), SLOW_BODY)
+    };
+    push(&mut speeches, first)?;
+    for number in 1..LAST {
+        push(&mut speeches, Speech::at_once(comes(number), NO_BODY))?;
+    }
+    push(&mut speeches, Speech::at_once(3_500, NO_BODY))?;
+    push(&mut speeches, Speech::at_once(11_900, WHOLE))?;
+    Ok(speeches)
+}
+
+/// For the one more the first goes once it has been there for ten seconds, and for the other one the next, which moved
+/// nothing in the last ten.
+fn held(trial: &Trial<'_>) -> Result<(), OfficeError> {
+    let world = played(trial.alloc(), &slow_bodies(trial.alloc())?, usize::MAX)?;
+    for (number, guest) in (0u16..).zip(&world.guests.all) {
+        match number {
+            0 => assert_guest(trial, guest, "", 11_000),
+            1 => assert_guest(trial, guest, "", 11_900),
+            NEXT => assert_guest(trial, guest, ANSWER, 11_900),
+            _ => trial.told(&"gone", &guest.gone, &None),
+        }
+    }
+    Ok(())
+}
+
+#[test]
+fn one_that_moved_nothing_goes_for_another(rt: HostRuntime) -> Result<(), Fail> {
+    Ok(twice!(rt, held)?)
 }
 
 /// One says a byte every 20 milliseconds, of which there are 43.
@@ -97,4 +144,29 @@ fn narrow(trial: &Trial<'_>) -> Result<(), OfficeError> {
 #[test]
 fn an_answer_may_take_many_writes(rt: HostRuntime) -> Result<(), Fail> {
     Ok(twice!(rt, narrow)?)
+}
+
+/// A head whose lines end by LF alone (RFC 9112, section 2.2).
+const SHORT_ENDS: &str = "PUT /callers/ann/orders/k1 HTTP/1.1\nContent-Length: 26\n\n";
+
+const ORDER: &str =
+    "PUT /callers/ann/orders/k1 HTTP/1.1\nContent-Length: 26\n\n{\"point\":\"lim\",\"value\":80}";
+
+/// One says the head, and six seconds later the body: a head may take five, and both together thirty.
+fn short_ends(trial: &Trial<'_>) -> Result<(), OfficeError> {
+    let speech = Speech {
+        most: SHORT_ENDS.len(),
+        pause: 6_000,
+        ..Speech::at_once(4_000, ORDER)
+    };
+    let world = played(trial.alloc(), &[speech], usize::MAX)?;
+    for guest in &world.guests.all {
+        assert_guest(trial, guest, WAITING, 10_000);
+    }
+    Ok(())
+}
+
+#[test]
+fn a_head_may_end_by_line_feeds_alone(rt: HostRuntime) -> Result<(), Fail> {
+    Ok(twice!(rt, short_ends)?)
 }

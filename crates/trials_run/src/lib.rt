@@ -2,9 +2,17 @@
 #![tactic(auto)]
 
 #[cfg(test)]
+mod ahead;
+#[cfg(test)]
 mod arrivals;
 #[cfg(test)]
 mod callers;
+#[cfg(test)]
+mod clocks;
+#[cfg(test)]
+mod floods;
+#[cfg(test)]
+mod gateways;
 #[cfg(test)]
 mod guest;
 #[cfg(test)]
@@ -13,6 +21,8 @@ mod lines;
 mod orders;
 #[cfg(test)]
 mod scenes;
+#[cfg(test)]
+mod stores;
 #[cfg(test)]
 mod wire;
 #[cfg(test)]

@@ -1,29 +1,19 @@
 //! Lines that are polled slot by slot, and one whose device is silent or away.
-use crate::scenes::{keep_up, office, readings, world};
+use crate::scenes::{
+    Behind, IMAGE, assert_readings, assert_told, keep_up, office, world, world_of,
+};
 use crate::wire::{Spell, Trouble};
-use office_core::{Office, OfficeError};
-use poll_book::MemKeeper;
+use office_core::OfficeError;
 use std::test::Fail;
 use telling::{Trial, twice};
-
-/// Expects the readings of a point: slots, and in each the second in which it was read.
-fn assert_readings(
-    trial: &Trial<'_>,
-    office: &mut Office<MemKeeper>,
-    point: &str,
-    expected: &[(u32, u16)],
-) -> Result<(), OfficeError> {
-    let told = readings(trial.alloc(), office, point)?;
-    trial.told(&point, &told.as_slice(), &expected);
-    Ok(())
-}
 
 /// A run for so many milliseconds, what may be wrong with the device in the cellar, when its line is connected to, and
 /// the readings of both devices.
 struct Run {
     ends: u64,
-    cellar: Option<Spell>,
+    cellar: &'static [Spell],
     begun: &'static [u64],
+    told: &'static str,
     roof: &'static [(u32, u16)],
     readings: &'static [(u32, u16)],
 }
@@ -35,6 +25,7 @@ fn assert_run(trial: &Trial<'_>, run: &Run) -> Result<(), OfficeError> {
     keep_up(alloc, &mut office, &mut world)?;
     let begun = world.wires.get(1).map(|wire| wire.begun.as_slice());
     trial.told(&"begun", &begun, &Some(run.begun));
+    assert_told(trial, &world, run.told);
     assert_readings(trial, &mut office, "e", run.roof)?;
     assert_readings(trial, &mut office, "f", run.readings)
 }
@@ -42,8 +33,9 @@ fn assert_run(trial: &Trial<'_>, run: &Run) -> Result<(), OfficeError> {
 /// Nothing is wrong for three slots.
 const WELL: Run = Run {
     ends: 13_000,
-    cellar: None,
+    cellar: &[],
     begun: &[0],
+    told: "1970-01-01T00:08:22Z office: line roof is up\n1970-01-01T00:08:22Z office: line cellar is up\n",
     roof: &[(100, 0), (101, 3), (102, 8)],
     readings: &[(100, 0), (101, 3), (102, 8)],
 };
@@ -57,15 +49,17 @@ fn each_point_has_a_reading_in_each_slot(rt: HostRuntime) -> Result<(), Fail> {
     Ok(twice!(rt, well)?)
 }
 
-/// What is silent is given up after two seconds, and then left alone for 1, 2, 4 and 8 seconds.
+/// What is silent has three time-outs, or until its slot ends, and is then left alone for 1, 2, 4 and 8 seconds.
 const SILENT: Run = Run {
     ends: 24_000,
-    cellar: Some(Spell {
+    cellar: &[Spell {
         trouble: Trouble::Silent,
+        unit: None,
         from: 0,
         to: u64::MAX,
-    }),
-    begun: &[0, 3_000, 7_000, 13_000, 23_000],
+    }],
+    begun: &[0, 4000, 10000, 17000],
+    told: "1970-01-01T00:08:22Z office: line roof is up\n1970-01-01T00:08:22Z office: line cellar is up\n1970-01-01T00:08:25Z office: line cellar is down: nothing was answered in time\n",
     roof: &[
         (100, 0),
         (101, 3),
@@ -89,12 +83,14 @@ fn a_silent_device_holds_up_no_other_line(rt: HostRuntime) -> Result<(), Fail> {
 /// What refuses connections for eight seconds is tried after 1, 2, 4 and 8 seconds.
 const REFUSING: Run = Run {
     ends: 18_000,
-    cellar: Some(Spell {
+    cellar: &[Spell {
         trouble: Trouble::Away,
+        unit: None,
         from: 0,
         to: 8_000,
-    }),
+    }],
     begun: &[0, 1_000, 3_000, 7_000, 15_000],
+    told: "1970-01-01T00:08:22Z office: line roof is up\n1970-01-01T00:08:22Z office: line cellar is down: it can't be reached\n1970-01-01T00:08:22Z office: it took 30 ms to look up where line cellar is\n1970-01-01T00:08:37Z office: line cellar is up\n",
     roof: &[(100, 0), (101, 3), (102, 8), (103, 13)],
     readings: &[(103, 15)],
 };
@@ -108,15 +104,73 @@ fn a_refused_connection_is_tried_again(rt: HostRuntime) -> Result<(), Fail> {
     Ok(twice!(rt, refusing)?)
 }
 
+/// It is elsewhere now, and is looked up once. Its name is asked for no more often than once a minute.
+const MOVED: Run = Run {
+    ends: 8_000,
+    cellar: &[Spell {
+        trouble: Trouble::Moved,
+        unit: None,
+        from: 0,
+        to: u64::MAX,
+    }],
+    begun: &[0, 1_000],
+    told: "1970-01-01T00:08:22Z office: line roof is up\n1970-01-01T00:08:22Z office: line cellar is down: it can't be reached\n1970-01-01T00:08:22Z office: it took 30 ms to look up where line cellar is\n1970-01-01T00:08:23Z office: line cellar is up\n",
+    roof: &[(100, 0), (101, 3)],
+    readings: &[(100, 1), (101, 3)],
+};
+
+fn moved(trial: &Trial<'_>) -> Result<(), OfficeError> {
+    assert_run(trial, &MOVED)
+}
+
+#[test]
+fn a_line_that_moved_is_looked_up(rt: HostRuntime) -> Result<(), Fail> {
+    Ok(twice!(rt, moved)?)
+}
+
+/// When the one and the other are.
+const LOOK_UPS: &[&[u64]] = &[&[0, 127_000], &[63_000, 188_000]];
+
+/// Both refuse connections all the time, so that each is to be looked up behind each try.
+const LOOKED_UP: &[Spell] = &[Spell {
+    trouble: Trouble::Away,
+    unit: None,
+    from: 0,
+    to: 200_000,
+}];
+
+/// The two are looked up in turn, a minute apart.
+fn in_turn(trial: &Trial<'_>) -> Result<(), OfficeError> {
+    let alloc = trial.alloc();
+    let mut office = office(alloc)?;
+    let lines = [Behind {
+        image: IMAGE,
+        spells: LOOKED_UP,
+    }; 2];
+    let mut world = world_of(alloc, 200_000, &lines, &[])?;
+    keep_up(alloc, &mut office, &mut world)?;
+    for (wire, expected) in world.wires.iter().zip(LOOK_UPS.iter()) {
+        trial.told(&"looked up", &wire.looked_up.as_slice(), expected);
+    }
+    Ok(())
+}
+
+#[test]
+fn lines_are_looked_up_in_turn_once_a_minute(rt: HostRuntime) -> Result<(), Fail> {
+    Ok(twice!(rt, in_turn)?)
+}
+
 /// It ends its connection as slot 101 begins, and is there again as that ends.
 const AWAY: Run = Run {
     ends: 18_000,
-    cellar: Some(Spell {
+    cellar: &[Spell {
         trouble: Trouble::Away,
+        unit: None,
         from: 3_000,
         to: 8_000,
-    }),
+    }],
     begun: &[0, 4_000, 6_000, 10_000],
+    told: "1970-01-01T00:08:22Z office: line roof is up\n1970-01-01T00:08:22Z office: line cellar is up\n1970-01-01T00:08:25Z office: line cellar is down: the connection ended\n1970-01-01T00:08:26Z office: it took 30 ms to look up where line cellar is\n1970-01-01T00:08:32Z office: line cellar is up\n",
     roof: &[(100, 0), (101, 3), (102, 8), (103, 13)],
     readings: &[(100, 0), (102, 10), (103, 13)],
 };
@@ -128,4 +182,28 @@ fn away(trial: &Trial<'_>) -> Result<(), OfficeError> {
 #[test]
 fn a_slot_lacks_what_was_away(rt: HostRuntime) -> Result<(), Fail> {
     Ok(twice!(rt, away)?)
+}
+
+/// It answers three seconds after the question, and two are waited for.
+const LATE: Run = Run {
+    ends: 18_000,
+    cellar: &[Spell {
+        trouble: Trouble::Late(3_000),
+        unit: None,
+        from: 3_000,
+        to: u64::MAX,
+    }],
+    begun: &[0],
+    told: "1970-01-01T00:08:22Z office: line roof is up\n1970-01-01T00:08:22Z office: line cellar is up\n",
+    roof: &[(100, 0), (101, 3), (102, 8), (103, 13)],
+    readings: &[(100, 0), (101, 3), (102, 8), (103, 13)],
+};
+
+fn late(trial: &Trial<'_>) -> Result<(), OfficeError> {
+    assert_run(trial, &LATE)
+}
+
+#[test]
+fn a_device_that_answers_after_the_time_out_is_heard(rt: HostRuntime) -> Result<(), Fail> {
+    Ok(twice!(rt, late)?)
 }

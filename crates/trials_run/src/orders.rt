@@ -1,18 +1,22 @@
-//! An order in the middle of a slot.
+//! Orders: one in the middle of a slot, several that wait, and requests that are no new ones.
 use crate::guest::Speech;
-use crate::scenes::{keep_up, office, world};
-use crate::wire::Wire;
+use crate::scenes::{Behind, IMAGE, keep_up, office, office_in, world, world_of};
+use crate::wire::{Spell, Trouble, Wire};
 use crate::world::World;
 use office_core::OfficeError;
+use office_plays::refusing::Refusing;
+use office_plays::steps::Happens::{self, Order};
+use office_plays::steps::push;
+use poll_book::{MemKeeper, StoreFault};
 use std::test::Fail;
 use telling::{Trial, twice};
 
-const ORDER: &str =
+pub(crate) const ORDER: &str =
     "PUT /callers/ann/orders/k1 HTTP/1.1\r\nContent-Length: 26\r\n\r\n{\"point\":\"lim\",\"value\":80}";
 
-const ASKED: &str = "GET /callers/ann/orders/k1 HTTP/1.1\r\n\r\n";
+pub(crate) const ASKED: &str = "GET /callers/ann/orders/k1 HTTP/1.1\r\n\r\n";
 
-const WAITING: &str =
+pub(crate) const WAITING: &str =
     "HTTP/1.1 201 Created\r\nContent-Type: application/json\r\nContent-Length: 29\r\nConnection: close\r\n\r\n{\"order\":1,\"state\":\"waiting\"}";
 
 const DONE: &str =
@@ -23,28 +27,30 @@ const QUERY: &[u8] = &[0, 9, 0, 0, 0, 6, 17, 3, 0, 40, 0, 1];
 
 const EIGHTY: &[u8] = &[0, 9, 0, 0, 0, 5, 17, 3, 2, 0, 80];
 
+/// Slot 101 ends at 8 seconds, and the worlds before that.
+const ENDS: u64 = 7_500;
+
 /// Expects that the register has the value that was ordered.
 fn assert_set(trial: &Trial<'_>, wire: &mut Wire) -> Result<(), OfficeError> {
     let mut reply = [0u8; 11];
-    wire.take(QUERY, 0)?;
-    wire.read(&mut reply, 0);
+    wire.take(QUERY, ENDS)?;
+    wire.read(&mut reply, ENDS);
     trial.told(&"register", &reply.as_slice(), &EIGHTY);
     Ok(())
 }
 
 /// Expects what the callers heard.
-fn assert_heard(trial: &Trial<'_>, world: &World) {
+pub(crate) fn assert_heard(trial: &Trial<'_>, world: &World) {
     for (guest, expected) in world.guests.all.iter().zip([WAITING, DONE]) {
         trial.told(&"heard", &guest.heard.as_slice(), &expected.as_bytes());
     }
 }
 
-/// Slot 101 ends at 8 seconds, and the world before that.
 fn ordered(trial: &Trial<'_>) -> Result<(), OfficeError> {
     let alloc = trial.alloc();
     let mut office = office(alloc)?;
     let speeches = [Speech::at_once(5_000, ORDER), Speech::at_once(5_001, ASKED)];
-    let mut world = world(alloc, 7_000, None, &speeches)?;
+    let mut world = world(alloc, ENDS, &[], &speeches)?;
     keep_up(alloc, &mut office, &mut world)?;
     assert_heard(trial, &world);
     match world.wires.first_mut() {
@@ -56,4 +62,85 @@ fn ordered(trial: &Trial<'_>) -> Result<(), OfficeError> {
 #[test]
 fn an_order_is_sent_at_once(rt: HostRuntime) -> Result<(), Fail> {
     Ok(twice!(rt, ordered)?)
+}
+
+/// Orders that wait, of which the last one is for 80.
+const WAIT: &[Happens] = &[
+    Order("k1", "lim", 10),
+    Order("k2", "lim", 20),
+    Order("k3", "lim", 30),
+    Order("k4", "lim", 80),
+];
+
+/// The roof can't be reached for four seconds, so that it is connected to after seven.
+const ROOF_AWAY: [Behind; 2] = [
+    Behind {
+        image: IMAGE,
+        spells: &[Spell {
+            trouble: Trouble::Away,
+            unit: None,
+            from: 0,
+            to: 4_000,
+        }],
+    },
+    Behind {
+        image: IMAGE,
+        spells: &[],
+    },
+];
+
+/// Four orders and a read are sent over one connection, at one moment.
+fn waited(trial: &Trial<'_>) -> Result<(), OfficeError> {
+    let alloc = trial.alloc();
+    let mut office = office_in(alloc, MemKeeper::new(alloc), WAIT)?;
+    let mut world = world_of(alloc, ENDS, &ROOF_AWAY, &[])?;
+    keep_up(alloc, &mut office, &mut world)?;
+    match world.wires.first_mut() {
+        Some(wire) => {
+            let asked: [(u64, u8); 5] = [(7_000, 17); 5];
+            trial.told(&"asked", &wire.asked.as_slice(), &asked.as_slice());
+            assert_set(trial, wire)
+        }
+        None => Err(OfficeError::WrongLine),
+    }
+}
+
+#[test]
+fn orders_that_wait_are_sent_in_one_round(rt: HostRuntime) -> Result<(), Fail> {
+    Ok(twice!(rt, waited)?)
+}
+
+/// So many times the same request comes.
+const REPEATS: u16 = 40;
+
+/// What a store is asked, and the roof, where a request comes so many times.
+fn asked_by(trial: &Trial<'_>, times: u16) -> Result<(u32, usize), OfficeError> {
+    let alloc = trial.alloc();
+    let keeper = Refusing::new(alloc, u32::MAX, StoreFault::Other);
+    let mut office = office_in(alloc, keeper, &[])?;
+    let mut speeches = Vec::new(alloc);
+    for number in 0..times {
+        push(
+            &mut speeches,
+            Speech::at_once(u64::from(number) * 20 + 5_000, ORDER),
+        )?;
+    }
+    let mut world = world(alloc, ENDS, &[], &speeches)?;
+    keep_up(alloc, &mut office, &mut world)?;
+    let asked = world.wires.first().map_or(0, |wire| wire.asked.len());
+    Ok((office.into_keeper().calls, asked))
+}
+
+/// Each costs three look-ups, and no query.
+fn repeated(trial: &Trial<'_>) -> Result<(), OfficeError> {
+    let (once, asked) = asked_by(trial, 1)?;
+    let more = asked_by(trial, REPEATS)?;
+    let calls = u32::from(REPEATS) * 3 - 3;
+    trial.told(&"more", &more, &(once.saturating_add(calls), asked));
+    Ok(())
+}
+
+#[test]
+fn a_request_that_is_repeated_wakes_no_line(rt: HostRuntime) -> Result<(), Fail> {
+    Ok(twice!(rt, repeated)?)
 }

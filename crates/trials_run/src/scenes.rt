@@ -1,15 +1,17 @@
-//! An office of two lines in a small world.
+//! Offices in a small world.
 use crate::guest::Speech;
 use crate::wire::{Spell, Wire};
 use crate::world::World;
 use mb_map::Sim;
 use office_core::{Office, OfficeError};
-use office_plays::builders::{MEMORY, office_after};
+use office_plays::builders::{MEMORY, TWO, begun};
 use office_plays::steps::Happens::{self, Load};
-use office_plays::steps::{push, rows};
-use poll_book::MemKeeper;
+use office_plays::steps::{push, rows, take_happening};
+use office_run::RunFault;
+use poll_book::{Keeper, MemKeeper};
 use run_beat::Slots;
 use std::alloc::Global;
+use telling::Trial;
 
 /// The clock shows so many milliseconds as a run begins: three seconds of slot 100 are left.
 const BEGAN: u64 = 502_000;
@@ -21,7 +23,7 @@ const SLOT: u32 = 5;
 const TIMEOUT: u32 = 2_000;
 
 /// A register that an order sets, and one in which the device counts the seconds of the run.
-const IMAGE: &str = "[[unit]]\nid = 17\nholding_start = 40\nholding = [0, 0]\n";
+pub(crate) const IMAGE: &str = "[[unit]]\nid = 17\nholding_start = 40\nholding = [0, 0]\n";
 
 /// The seconds of the device on the roof, a setting of it, and the seconds of the device in the cellar.
 const POINTS: &[Happens] = &[Load(
@@ -29,44 +31,113 @@ const POINTS: &[Happens] = &[Load(
     "e,m1,holding,41,uint16,,,counter,\nlim,m1,holding,40,uint16,,,setting,\nf,m2,holding,41,uint16,,,gauge,\n",
 )];
 
-pub(crate) fn office(alloc: Global) -> Result<Office<MemKeeper>, OfficeError> {
-    office_after(alloc, MemKeeper::new(alloc), POINTS)
+/// A line's devices, and what is wrong with them.
+#[derive(Clone, Copy, Debug)]
+pub(crate) struct Behind {
+    pub image: &'static str,
+    pub spells: &'static [Spell],
 }
 
-fn wire(alloc: Global, spell: Option<Spell>) -> Result<Wire, OfficeError> {
-    match Sim::from_toml(alloc, IMAGE.as_bytes()) {
-        Ok(sim) => Ok(Wire::new(alloc, sim, spell)),
+/// Takes what happens, in its order.
+fn take_all<K: Keeper>(
+    alloc: Global,
+    office: &mut Office<K>,
+    happened: &[Happens],
+) -> Result<(), OfficeError> {
+    for happens in happened {
+        take_happening(alloc, office, happens)?;
+    }
+    Ok(())
+}
+
+/// An office of a site over a keeper, to which this has happened.
+pub(crate) fn office_over<K: Keeper + Drop>(
+    alloc: Global,
+    keeper: K,
+    site: &str,
+    happened: &[Happens],
+) -> Result<Office<K>, OfficeError> {
+    let mut office = begun(alloc, keeper, site)?.map_err(|(error, _)| error)?;
+    take_all(alloc, &mut office, happened)?;
+    Ok(office)
+}
+
+/// An office of the roof and the cellar over a keeper, to which this has happened since its points came.
+pub(crate) fn office_in<K: Keeper + Drop>(
+    alloc: Global,
+    keeper: K,
+    happened: &[Happens],
+) -> Result<Office<K>, OfficeError> {
+    let mut office = office_over(alloc, keeper, TWO, POINTS)?;
+    take_all(alloc, &mut office, happened)?;
+    Ok(office)
+}
+
+/// The same in memory, to which nothing has happened since.
+pub(crate) fn office(alloc: Global) -> Result<Office<MemKeeper>, OfficeError> {
+    office_in(alloc, MemKeeper::new(alloc), &[])
+}
+
+fn wire(alloc: Global, behind: &Behind) -> Result<Wire, OfficeError> {
+    match Sim::from_toml(alloc, behind.image.as_bytes()) {
+        Ok(sim) => Ok(Wire::new(alloc, sim, behind.spells)),
         Err(_) => Err(MEMORY),
     }
 }
 
-/// A world that ends after so many milliseconds, in which something may be wrong with the device in the cellar.
-pub(crate) fn world(
+/// A world of these lines that ends after so many milliseconds, and into which these callers come.
+pub(crate) fn world_of(
     alloc: Global,
     ends: u64,
-    cellar: Option<Spell>,
+    lines: &[Behind],
     speeches: &[Speech],
 ) -> Result<World, OfficeError> {
     let mut wires = Vec::new(alloc);
-    push(&mut wires, wire(alloc, None)?)?;
-    push(&mut wires, wire(alloc, cellar)?)?;
+    for behind in lines {
+        push(&mut wires, wire(alloc, behind)?)?;
+    }
     Ok(World::new(alloc, BEGAN, ends, wires, speeches)?)
 }
 
-/// Keeps an office up to the world's end.
-pub(crate) fn keep_up(
+/// A world of the roof and the cellar, in which something may be wrong with the cellar.
+pub(crate) fn world(
     alloc: Global,
-    office: &mut Office<MemKeeper>,
+    ends: u64,
+    cellar: &'static [Spell],
+    speeches: &[Speech],
+) -> Result<World, OfficeError> {
+    let lines = [&[] as &'static [Spell], cellar].map(|spells| Behind {
+        image: IMAGE,
+        spells,
+    });
+    world_of(alloc, ends, &lines, speeches)
+}
+
+/// Keeps an office up to the world's end, or as long as it can be.
+pub(crate) fn ran<K: Keeper>(
+    alloc: Global,
+    office: &mut Office<K>,
+    world: &mut World,
+) -> Result<(), RunFault> {
+    match Slots::new(SLOT) {
+        Some(slots) => office_run::run(alloc, office, world, slots, TIMEOUT),
+        None => Ok(()),
+    }
+}
+
+/// Keeps an office up to the world's end.
+pub(crate) fn keep_up<K: Keeper>(
+    alloc: Global,
+    office: &mut Office<K>,
     world: &mut World,
 ) -> Result<(), OfficeError> {
-    let slots = Slots::new(SLOT).ok_or(OfficeError::NoRead)?;
-    office_run::run(alloc, office, world, slots, TIMEOUT).map_err(|_| MEMORY)
+    ran(alloc, office, world).map_err(|_| MEMORY)
 }
 
 /// The readings of a point of one register, each with its slot.
-pub(crate) fn readings(
+fn readings<K: Keeper>(
     alloc: Global,
-    office: &mut Office<MemKeeper>,
+    office: &mut Office<K>,
     point: &str,
 ) -> Result<Vec<(u32, u16)>, OfficeError> {
     let mut all = Vec::new(alloc);
@@ -77,4 +148,22 @@ pub(crate) fn readings(
         }
     }
     Ok(all)
+}
+
+/// Expects the readings of a point: slots, and in each the second in which it was read.
+pub(crate) fn assert_readings<K: Keeper>(
+    trial: &Trial<'_>,
+    office: &mut Office<K>,
+    point: &str,
+    expected: &[(u32, u16)],
+) -> Result<(), OfficeError> {
+    let told = readings(trial.alloc(), office, point)?;
+    trial.told(&point, &told.as_slice(), &expected);
+    Ok(())
+}
+
+/// Expects what was told on standard error.
+pub(crate) fn assert_told(trial: &Trial<'_>, world: &World, expected: &str) {
+    let told = str::from_utf8(&world.told).unwrap_or("no text");
+    trial.told(&"told", &told, &expected);
 }

@@ -1,52 +1,94 @@
-//! A line's device, as the office reaches it.
-ghost use Rattle.std.specs.Prelude.{◌<◌, length};
-ghost use Rattle.run_beat.specs.Counts.{CameWithin};
+//! A line's devices, as the office reaches them: one alone, or several behind a gateway.
+ghost use Rattle.std.specs.Prelude.{◌<◌, ◌≤◌, ℕ, length};
+ghost use Rattle.run_beat.specs.Counts.{CameWithin, SentWithin};
 
 use crate::arrivals::give;
 use mb_map::{MapError, Sim, Table};
 use mb_mbap::{Frame, FrameReader};
-use run_beat::{Came, Connected};
+use run_beat::{Came, Connected, Sent};
 use std::alloc::{AllocError, Global};
 
-/// The device of each line has this unit identifier.
-const UNIT: u8 = 17;
-
-/// In this register it counts the seconds of the run.
+/// In this register each device counts the seconds of the run.
 pub(crate) const SECONDS: u16 = 41;
 
-/// What is wrong with a device.
+/// A reply to a query that nobody made: of transaction 65,000, unit 17, a register.
+const NOISE: [u8; 11] = [0xfd, 0xe8, 0, 0, 0, 5, 17, 3, 2, 0, 0];
+
+/// What is wrong with a device, or with the line.
 #[derive(Clone, Copy, Debug, PartialEq, Eq)]
 pub(crate) enum Trouble {
     /// It answers nothing.
     Silent,
-    /// It has no connection, and refuses each.
+    /// It answers so many milliseconds later.
+    Late(u64),
+    /// The line has no connection, and refuses each.
     Away,
+    /// The same, until it is looked up where it is.
+    Moved,
+    /// The line sends what nobody asked for, as fast as it is read.
+    Flooding,
+    /// The line takes no bytes.
+    Stuck,
 }
 
-/// Something is wrong with a device from a moment on, until another.
+/// Something is wrong from a moment on, until another: with the device of a unit identifier, or with all of the line.
 #[derive(Clone, Copy, Debug)]
 pub(crate) struct Spell {
     pub trouble: Trouble,
+    pub unit: Option<u8>,
     pub from: u64,
     pub to: u64,
 }
 
-/// A line's device, and the bytes on their way from it.
+impl Spell {
+    /// All of the line, from the beginning on.
+    pub const fn always(trouble: Trouble) -> Spell {
+        Spell {
+            trouble,
+            unit: None,
+            from: 0,
+            to: u64::MAX,
+        }
+    }
+
+    fn is_at(&self, now: u64) -> bool {
+        self.from <= now && now < self.to
+    }
+
+    fn is_of(&self, unit: u8) -> bool {
+        self.unit.is_none_or(|of| of == unit)
+    }
+}
+
+/// A reply on its way.
+#[derive(Drop)]
+struct Reply {
+    due: u64,
+    frame: Frame,
+}
+
+/// A line's devices, and the bytes on their way from them.
 #[derive(Drop)]
 pub(crate) struct Wire {
     alloc: Global,
     sim: Sim,
-    spell: Option<Spell>,
+    spells: &'static [Spell],
     queries: FrameReader,
+    later: Vec<Reply>,
     replies: Vec<u8>,
-    /// The moments at which a connection was begun.
+    /// The moments at which a connection was begun, and at which it was looked up where it is.
     pub begun: Vec<u64>,
+    pub looked_up: Vec<u64>,
+    /// Each query: when it came, and to which unit identifier.
+    pub asked: Vec<(u64, u8)>,
+    /// So many bytes were read of it.
+    pub read: usize,
 }
 
 /// The device counts so many seconds.
-fn count_seconds(sim: &mut Sim, seconds: u64) {
+fn count_seconds(sim: &mut Sim, unit: u8, seconds: u64) {
     let seconds = u16::try_from(seconds).unwrap_or(u16::MAX);
-    sim.set(UNIT, Table::Holding, SECONDS, seconds);
+    sim.set(unit, Table::Holding, SECONDS, seconds);
 }
 
 /// What a device replies to a query.
@@ -62,53 +104,116 @@ fn queries(reader: &mut FrameReader, bytes: &[u8]) -> Result<Vec<Frame>, AllocEr
     Ok(reader.feed(bytes)?.frames)
 }
 
+/// What a write took, where memory was refused or not.
+pub(crate) fn sent(taken: Result<(), AllocError>, count: usize) -> Sent
+    ensures { (there : ℕ) → 0 < count → count ≤ there → SentWithin there result }
+{
+    match taken {
+        Ok(()) => Sent::Bytes(count),
+        Err(_) => Sent::Failed,
+    }
+}
+
 impl Wire {
-    pub fn new(alloc: Global, sim: Sim, spell: Option<Spell>) -> Wire {
+    pub fn new(alloc: Global, sim: Sim, spells: &'static [Spell]) -> Wire {
         Wire {
             alloc,
             sim,
-            spell,
+            spells,
             queries: FrameReader::new(alloc),
+            later: Vec::new(alloc),
             replies: Vec::new(alloc),
             begun: Vec::new(alloc),
+            looked_up: Vec::new(alloc),
+            asked: Vec::new(alloc),
+            read: 0,
         }
     }
 
-    fn trouble(&self, now: u64) -> Option<Trouble> {
-        match self.spell {
-            Some(spell) if spell.from <= now && now < spell.to => Some(spell.trouble),
-            _ => None,
+    /// Whether something is wrong with all of the line.
+    fn has(&self, trouble: Trouble, now: u64) -> bool {
+        self.spells
+            .iter()
+            .any(|spell| spell.trouble == trouble && spell.is_at(now))
+    }
+
+    /// How many milliseconds the device of a unit identifier takes to answer; none where it answers nothing.
+    fn delay(&self, unit: u8, now: u64) -> Option<u64> {
+        let mut delay = 0;
+        for spell in self.spells {
+            match spell.trouble {
+                Trouble::Silent if spell.is_at(now) && spell.is_of(unit) => return None,
+                Trouble::Late(millis) if spell.is_at(now) && spell.is_of(unit) => delay = millis,
+                _ => {}
+            }
         }
+        Some(delay)
     }
 
     /// The first moment after this one at which it is to be looked at.
     pub fn next(&self, now: u64) -> u64 {
-        match self.spell {
-            Some(spell) if now < spell.from => spell.from,
-            _ => u64::MAX,
+        let mut first = u64::MAX;
+        for spell in self.spells {
+            for moment in [spell.from, spell.to] {
+                if now < moment {
+                    first = first.min(moment);
+                }
+            }
         }
+        for reply in &self.later {
+            if now < reply.due {
+                first = first.min(reply.due);
+            }
+        }
+        first
     }
 
     /// A connection is begun.
     pub fn begin(&mut self, now: u64) -> Result<(), AllocError> {
         self.begun.push(now)?;
         self.queries = FrameReader::new(self.alloc);
+        self.later.clear();
         self.replies.clear();
         Ok(())
     }
 
+    /// It is looked up where it is.
+    pub fn look_up(&mut self, now: u64) -> Result<(), AllocError> {
+        self.looked_up.push(now)?;
+        Ok(())
+    }
+
     pub fn connected(&self, now: u64) -> Connected {
-        match self.trouble(now) {
-            Some(Trouble::Away) => Connected::Failed,
-            _ => Connected::Yes,
+        let is_lost = self.looked_up.is_empty() && self.has(Trouble::Moved, now);
+        if is_lost || self.has(Trouble::Away, now) {
+            Connected::Failed
+        } else {
+            Connected::Yes
         }
+    }
+
+    /// The replies that are due come.
+    fn bring(&mut self, now: u64) -> Result<(), AllocError> {
+        for reply in &self.later {
+            if reply.due <= now {
+                self.replies
+                    .extend_from_slice(reply.frame.encode().as_bytes())?;
+            }
+        }
+        self.later.retain(|reply| now < reply.due);
+        if self.replies.is_empty() && self.has(Trouble::Flooding, now) {
+            for _ in 0..20 {
+                self.replies.extend_from_slice(&NOISE)?;
+            }
+        }
+        Ok(())
     }
 
     pub fn read(&mut self, piece: &mut [u8], now: u64) -> Came
         requires { 0 < length piece.old }
         ensures { CameWithin (length piece.new) result }
     {
-        if self.trouble(now) == Some(Trouble::Away) {
+        if self.has(Trouble::Away, now) || self.bring(now).is_err() {
             return Came::Ended;
         }
         let count = give(&self.replies, piece);
@@ -116,19 +221,41 @@ impl Wire {
             return Came::Nothing;
         }
         self.replies.drain(..count);
+        self.read = self.read.saturating_add(count);
         Came::Bytes(count)
     }
 
-    /// Takes bytes of queries, and replies at once to each that is whole.
-    pub fn take(&mut self, bytes: &[u8], now: u64) -> Result<(), AllocError> {
-        for query in &queries(&mut self.queries, bytes)? {
-            if self.trouble(now).is_none() {
-                count_seconds(&mut self.sim, now / 1000);
-                for reply in &replies(&mut self.sim, query)? {
-                    self.replies.extend_from_slice(reply.encode().as_bytes())?;
-                }
-            }
+    /// A query comes.
+    fn hear(&mut self, query: &Frame, now: u64) -> Result<(), AllocError> {
+        self.asked.push((now, query.unit_id))?;
+        let Some(delay) = self.delay(query.unit_id, now) else {
+            return Ok(());
+        };
+        count_seconds(&mut self.sim, query.unit_id, now / 1000);
+        for frame in replies(&mut self.sim, query)? {
+            self.later.push(Reply {
+                due: now.saturating_add(delay),
+                frame,
+            })?;
         }
         Ok(())
+    }
+
+    /// Takes bytes of queries, and replies to each that is whole.
+    pub fn take(&mut self, bytes: &[u8], now: u64) -> Result<(), AllocError> {
+        for query in &queries(&mut self.queries, bytes)? {
+            self.hear(query, now)?;
+        }
+        Ok(())
+    }
+
+    pub fn write(&mut self, bytes: &[u8], now: u64) -> Sent
+        requires { 0 < length bytes.now }
+        ensures { SentWithin (length bytes.now) result }
+    {
+        if self.has(Trouble::Stuck, now) {
+            return Sent::Nothing;
+        }
+        sent(self.take(bytes, now), bytes.len())
     }
 }

@@ -1,14 +1,24 @@
 //! A small world in the place of the system's sockets. Its time passes in waits alone, up to the next moment at which
 //! something comes: what a turn left unread ends no wait.
-ghost use Rattle.std.specs.Prelude.{◌≡◌, ◌≤◌, ◌<◌, ℕ, IsTrue, false, is_some, length, slice_index_or, slice_set};
-ghost use Rattle.run_beat.specs.Counts.{SentWithin};
+ghost use Rattle.std.specs.Prelude.{◌≡◌, IsTrue, false, is_some, slice_index_or, slice_set};
 
 use crate::guest::{Guests, Speech};
-use crate::wire::Wire;
+use crate::wire::{Wire, sent};
 use run_beat::{
     Came, ClockTime, Connected, MOST_CALLERS, Moment, Sent, SocketFault, Sockets, Source,
 };
 use std::alloc::{AllocError, Global};
+
+/// It takes so many milliseconds to look up where a line is.
+const LOOK_UP_MILLIS: u64 = 30;
+
+/// Somebody sets the clock, once so many milliseconds of the run have passed: so many ahead, and so many back.
+#[derive(Clone, Copy, Debug)]
+pub(crate) struct Setting {
+    pub at: u64,
+    pub ahead: u64,
+    pub back: u64,
+}
 
 /// Lines and their devices, callers, and a clock.
 #[derive(Drop)]
@@ -17,6 +27,7 @@ pub(crate) struct World {
     now: u64,
     // The clock showed so many milliseconds as the run began.
     began: u64,
+    settings: &'static [Setting],
     // The run is to end once so many have passed.
     ends: u64,
     is_over: bool,
@@ -33,6 +44,8 @@ pub(crate) struct World {
     pub guests: Guests,
     // Who waits to be taken.
     door: Option<usize>,
+    /// What was told on standard error.
+    pub told: Vec<u8>,
 }
 
 /// Whether a place has a socket.
@@ -64,6 +77,7 @@ impl World {
         Ok(World {
             now: 0,
             began,
+            settings: &[],
             ends,
             is_over: false,
             has_news: false,
@@ -73,12 +87,31 @@ impl World {
             wires,
             guests: Guests::new(alloc, MOST_CALLERS, speeches)?,
             door: None,
+            told: Vec::new(alloc),
         })
     }
 
     /// The same world, where a write to a caller takes so many bytes at most.
     pub fn with_most(self, most: usize) -> World {
         World { most, ..self }
+    }
+
+    /// The same world, where the clock is set.
+    pub fn with_settings(self, settings: &'static [Setting]) -> World {
+        World { settings, ..self }
+    }
+
+    /// What the clock shows.
+    fn shown(&self) -> u64 {
+        let mut shown = self.began.saturating_add(self.now);
+        for setting in self.settings {
+            if setting.at <= self.now {
+                shown = shown
+                    .saturating_add(setting.ahead)
+                    .saturating_sub(setting.back);
+            }
+        }
+        shown
     }
 
     /// The first moment from now on at which something comes.
@@ -88,16 +121,6 @@ impl World {
             first = first.min(wire.next(self.now));
         }
         first
-    }
-}
-
-/// What a write took, where memory was refused or not.
-fn sent(taken: Result<(), AllocError>, count: usize) -> Sent
-    ensures { (there : ℕ) → 0 < count → count ≤ there → SentWithin there result }
-{
-    match taken {
-        Ok(()) => Sent::Bytes(count),
-        Err(_) => Sent::Failed,
     }
 }
 
@@ -113,7 +136,7 @@ impl Sockets for World {
     }
 
     fn clock(&self) -> Result<ClockTime, SocketFault> {
-        Ok(ClockTime::new(self.began.saturating_add(self.now)))
+        Ok(ClockTime::new(self.shown()))
     }
 
     fn wait(&mut self, most: u64) -> Result<(), SocketFault> {
@@ -140,6 +163,17 @@ impl Sockets for World {
         put(&mut self.lines, line, true);
         self.has_news = true;
         Ok(())
+    }
+
+    fn look_up(&mut self, line: usize) -> bool {
+        match self.wires.get_mut(line) {
+            Some(wire) => {
+                let now = self.now;
+                self.now = now.saturating_add(LOOK_UP_MILLIS);
+                wire.look_up(now).is_ok()
+            }
+            None => false,
+        }
     }
 
     fn connected(&self, line: usize) -> Connected {
@@ -181,10 +215,9 @@ impl Sockets for World {
     }
 
     fn write(&mut self, source: Source, bytes: &[u8]) -> Sent {
-        self.has_news = true;
-        match source {
+        let sent = match source {
             Source::Line(line) if has(&self.lines, line) => match self.wires.get_mut(line) {
-                Some(wire) => sent(wire.take(bytes, self.now), bytes.len()),
+                Some(wire) => wire.write(bytes, self.now),
                 None => Sent::Failed,
             },
             Source::Caller(caller) if has(&self.callers, caller) => match self.guests.at(caller) {
@@ -195,7 +228,13 @@ impl Sockets for World {
                 None => Sent::Failed,
             },
             _ => Sent::Failed,
-        }
+        };
+        self.has_news |= sent != Sent::Nothing;
+        sent
+    }
+
+    fn tell(&mut self, bytes: &[u8]) -> Sent {
+        sent(self.told.extend_from_slice(bytes), bytes.len())
     }
 
     fn finish(&mut self, source: Source) {

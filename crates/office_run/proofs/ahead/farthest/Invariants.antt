@@ -1,0 +1,5 @@
+use Rattle.office_net.specs.Proceeding.{GoesAlong}
+use Rattle.office_run.proofs.ahead.farthest.Given as goal
+
+abbrev pub invariant-loop-place : goal.invariant-loop-place
+invariant-loop-place g l = GoesAlong l.fn.office l.office

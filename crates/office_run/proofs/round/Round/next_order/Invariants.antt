@@ -1,0 +1,5 @@
+use Rattle.office_net.specs.Proceeding.{GoesAlong}
+use Rattle.office_run.proofs.round.Round.next_order.Given as goal
+
+abbrev pub invariant-loop-device : goal.invariant-loop-device
+invariant-loop-device g l = GoesAlong l.fn.office l.office

@@ -1,0 +1,140 @@
+//! A clock that somebody sets, while the devices go on by one that nobody does.
+use crate::guest::Speech;
+use crate::orders::{ASKED, ORDER, assert_heard};
+use crate::scenes::{assert_readings, assert_told, keep_up, office, world};
+use crate::world::Setting;
+use office_core::{Office, OfficeError};
+use poll_book::MemKeeper;
+use std::test::Fail;
+use telling::{Trial, twice};
+
+/// How a clock is set in a run of so many milliseconds, what the device on the roof counted in each slot, and its
+/// total, which is what it counted in all.
+struct Run {
+    settings: &'static [Setting],
+    ends: u64,
+    told: &'static str,
+    readings: &'static [(u32, u16)],
+    total: u128,
+}
+
+fn assert_total(
+    trial: &Trial<'_>,
+    office: &mut Office<MemKeeper>,
+    expected: u128,
+) -> Result<(), OfficeError> {
+    let total = office.total("e")?;
+    trial.told(&"total", &total, &Some(expected));
+    Ok(())
+}
+
+fn assert_run(trial: &Trial<'_>, run: &Run) -> Result<(), OfficeError> {
+    let alloc = trial.alloc();
+    let mut office = office(alloc)?;
+    let mut world = world(alloc, run.ends, &[], &[])?.with_settings(run.settings);
+    keep_up(alloc, &mut office, &mut world)?;
+    assert_told(trial, &world, run.told);
+    assert_readings(trial, &mut office, "e", run.readings)?;
+    assert_total(trial, &mut office, run.total)
+}
+
+/// In slot 102 it is set back by 16 seconds, and stands behind the slots that were begun until slot 103.
+const BACK: Run = Run {
+    settings: &[Setting {
+        at: 9_000,
+        ahead: 0,
+        back: 16_000,
+    }],
+    ends: 30_000,
+    told: "1970-01-01T00:08:22Z office: line roof is up\n1970-01-01T00:08:22Z office: line cellar is up\n1970-01-01T00:08:19Z office: the clock stands behind slot 102: no slot before it is begun\n1970-01-01T00:08:30Z office: the clock has caught up\n",
+    readings: &[(100, 0), (101, 3), (102, 8), (103, 29)],
+    total: 29,
+};
+
+fn back(trial: &Trial<'_>) -> Result<(), OfficeError> {
+    assert_run(trial, &BACK)
+}
+
+#[test]
+fn a_clock_that_is_set_back_fills_no_slot_before_one_that_was_begun(
+    rt: HostRuntime,
+) -> Result<(), Fail> {
+    Ok(twice!(rt, back)?)
+}
+
+/// It is an hour ahead for half a minute, and no slot is begun for a minute.
+const AHEAD_AND_RIGHT_AGAIN: Run = Run {
+    settings: &[
+        Setting {
+            at: 9_000,
+            ahead: 3_600_000,
+            back: 0,
+        },
+        Setting {
+            at: 40_000,
+            ahead: 0,
+            back: 3_600_000,
+        },
+    ],
+    ends: 75_000,
+    told: "1970-01-01T00:08:22Z office: line roof is up\n1970-01-01T00:08:22Z office: line cellar is up\n1970-01-01T01:08:35Z office: the clock jumped ahead: no slot is begun before it stood for a minute\n1970-01-01T00:09:35Z office: the clock is followed again\n",
+    readings: &[(100, 0), (101, 3), (102, 8), (115, 73)],
+    total: 73,
+};
+
+fn ahead_and_right_again(trial: &Trial<'_>) -> Result<(), OfficeError> {
+    assert_run(trial, &AHEAD_AND_RIGHT_AGAIN)
+}
+
+#[test]
+fn a_clock_that_jumps_ahead_and_comes_right_again_fills_no_slot_to_come(
+    rt: HostRuntime,
+) -> Result<(), Fail> {
+    Ok(twice!(rt, ahead_and_right_again)?)
+}
+
+/// It is set ahead by an hour for good, and followed a minute later.
+const AHEAD: Run = Run {
+    settings: &[Setting {
+        at: 9_000,
+        ahead: 3_600_000,
+        back: 0,
+    }],
+    ends: 75_000,
+    told: "1970-01-01T00:08:22Z office: line roof is up\n1970-01-01T00:08:22Z office: line cellar is up\n1970-01-01T01:08:35Z office: the clock jumped ahead: no slot is begun before it stood for a minute\n1970-01-01T01:09:35Z office: the clock is followed again\n",
+    readings: &[(100, 0), (101, 3), (102, 8), (835, 73)],
+    total: 73,
+};
+
+fn ahead(trial: &Trial<'_>) -> Result<(), OfficeError> {
+    assert_run(trial, &AHEAD)
+}
+
+#[test]
+fn a_clock_that_is_set_ahead_is_followed_once_it_stood_for_a_minute(
+    rt: HostRuntime,
+) -> Result<(), Fail> {
+    Ok(twice!(rt, ahead)?)
+}
+
+const BACK_BEFORE_AN_ORDER: &[Setting] = &[Setting {
+    at: 4_000,
+    ahead: 0,
+    back: 16_000,
+}];
+
+/// While the clock stands behind the slots that were begun, an order is sent all the same.
+fn ordered(trial: &Trial<'_>) -> Result<(), OfficeError> {
+    let alloc = trial.alloc();
+    let mut office = office(alloc)?;
+    let speeches = [Speech::at_once(5_000, ORDER), Speech::at_once(5_001, ASKED)];
+    let mut world = world(alloc, 7_000, &[], &speeches)?.with_settings(BACK_BEFORE_AN_ORDER);
+    keep_up(alloc, &mut office, &mut world)?;
+    assert_heard(trial, &world);
+    Ok(())
+}
+
+#[test]
+fn an_order_is_sent_while_the_clock_stands_behind(rt: HostRuntime) -> Result<(), Fail> {
+    Ok(twice!(rt, ordered)?)
+}

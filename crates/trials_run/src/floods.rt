@@ -1,0 +1,83 @@
+//! Lines that send what nobody asked for, or take no bytes.
+use crate::scenes::{assert_readings, assert_told, keep_up, office, world};
+use crate::wire::{Spell, Trouble};
+use crate::world::World;
+use office_core::OfficeError;
+use std::test::Fail;
+use telling::{Trial, twice};
+
+/// What is wrong with the cellar for a minute of slots, what is told, when its line is connected to, and how many
+/// bytes are read of it.
+struct Run {
+    cellar: &'static [Spell],
+    told: &'static str,
+    begun: &'static [u64],
+    read: usize,
+}
+
+/// Expects when the cellar is connected to, and how much is read of it.
+fn assert_cellar(trial: &Trial<'_>, world: &World, run: &Run) {
+    let begun = world.wires.get(1).map(|wire| wire.begun.as_slice());
+    trial.told(&"begun", &begun, &Some(run.begun));
+    let read = world.wires.get(1).map(|wire| wire.read);
+    trial.told(&"read", &read, &Some(run.read));
+}
+
+fn assert_run(trial: &Trial<'_>, run: &Run) -> Result<(), OfficeError> {
+    let alloc = trial.alloc();
+    let mut office = office(alloc)?;
+    let mut world = world(alloc, 18_000, run.cellar, &[])?;
+    keep_up(alloc, &mut office, &mut world)?;
+    assert_told(trial, &world, run.told);
+    assert_cellar(trial, &world, run);
+    assert_readings(
+        trial,
+        &mut office,
+        "e",
+        &[(100, 0), (101, 3), (102, 8), (103, 13)],
+    )
+}
+
+/// It floods from a moment on at which it rests.
+const FLOODING: Run = Run {
+    cellar: &[Spell {
+        trouble: Trouble::Flooding,
+        unit: None,
+        from: 4_000,
+        to: u64::MAX,
+    }],
+    told: "1970-01-01T00:08:22Z office: line roof is up\n1970-01-01T00:08:22Z office: line cellar is up\n1970-01-01T00:08:26Z office: line cellar is down: it sends what nobody asked for\n1970-01-01T00:08:33Z office: line cellar is up\n1970-01-01T00:08:33Z office: line cellar is down: it sends what nobody asked for\n",
+    begun: &[0, 5000, 7000, 11000],
+    read: 262_273,
+};
+
+fn flooding(trial: &Trial<'_>) -> Result<(), OfficeError> {
+    assert_run(trial, &FLOODING)
+}
+
+#[test]
+fn a_line_that_floods_while_it_rests_is_cut(rt: HostRuntime) -> Result<(), Fail> {
+    Ok(twice!(rt, flooding)?)
+}
+
+/// From slot 101 on it takes no bytes.
+const STUCK: Run = Run {
+    cellar: &[Spell {
+        trouble: Trouble::Stuck,
+        unit: None,
+        from: 2_000,
+        to: 10_000,
+    }],
+    told: "1970-01-01T00:08:22Z office: line roof is up\n1970-01-01T00:08:22Z office: line cellar is up\n1970-01-01T00:08:27Z office: line cellar is down: it takes no bytes\n1970-01-01T00:08:32Z office: line cellar is up\n",
+    begun: &[0, 6000, 10000],
+    read: 33,
+};
+
+fn stuck(trial: &Trial<'_>) -> Result<(), OfficeError> {
+    assert_run(trial, &STUCK)
+}
+
+#[test]
+fn a_line_that_takes_no_bytes_is_cut(rt: HostRuntime) -> Result<(), Fail> {
+    Ok(twice!(rt, stuck)?)
+}

@@ -1,0 +1,171 @@
+//! Gateways: a line with several devices, of which one doesn't answer, or answers late.
+use crate::scenes::{Behind, assert_readings, assert_told, keep_up, office_over, world_of};
+use crate::wire::{Spell, Trouble};
+use office_core::OfficeError;
+use office_plays::steps::Happens::{self, Load};
+use office_plays::steps::push;
+use poll_book::MemKeeper;
+use std::alloc::Global;
+use std::test::Fail;
+use telling::{Trial, twice};
+
+/// A gateway with two devices behind it.
+const SITE: &str =
+    "[[line]]\nname = \"roof\"\naddress = \"127.0.0.1:502\"\n[[device]]\nname = \"near\"\nline = \"roof\"\nunit = 1\n[[device]]\nname = \"far\"\nline = \"roof\"\nunit = 2\n";
+
+const IMAGE: &str =
+    "[[unit]]\nid = 1\nholding_start = 41\nholding = [0]\n[[unit]]\nid = 2\nholding_start = 41\nholding = [0]\n";
+
+/// The seconds of both devices; of the near one twenty times, so that it has twenty reads more than the far one.
+const POINTS: &[Happens] = &[Load(
+    "l1",
+    "near,near,holding,41,uint16,,,gauge,\nfar,far,holding,41,uint16,,,gauge,\na0,near,holding,100,uint16,,,gauge,\na1,near,holding,102,uint16,,,gauge,\na2,near,holding,104,uint16,,,gauge,\na3,near,holding,106,uint16,,,gauge,\na4,near,holding,108,uint16,,,gauge,\na5,near,holding,110,uint16,,,gauge,\na6,near,holding,112,uint16,,,gauge,\na7,near,holding,114,uint16,,,gauge,\na8,near,holding,116,uint16,,,gauge,\na9,near,holding,118,uint16,,,gauge,\nb0,near,holding,120,uint16,,,gauge,\nb1,near,holding,122,uint16,,,gauge,\nb2,near,holding,124,uint16,,,gauge,\nb3,near,holding,126,uint16,,,gauge,\nb4,near,holding,128,uint16,,,gauge,\nb5,near,holding,130,uint16,,,gauge,\nb6,near,holding,132,uint16,,,gauge,\nb7,near,holding,134,uint16,,,gauge,\nb8,near,holding,136,uint16,,,gauge,\nb9,near,holding,138,uint16,,,gauge,\n",
+)];
+
+/// A run for so many milliseconds, what is wrong with the near device, and what comes of it.
+struct Run {
+    ends: u64,
+    spells: &'static [Spell],
+    told: &'static str,
+    // How many queries came at each moment, and to which unit identifier.
+    asked: &'static [(u64, u8, usize)],
+    near: &'static [(u32, u16)],
+    far: &'static [(u32, u16)],
+}
+
+/// How many queries one behind the other came at one moment to one unit identifier.
+fn counted(alloc: Global, asked: &[(u64, u8)]) -> Result<Vec<(u64, u8, usize)>, OfficeError> {
+    let mut all: Vec<(u64, u8, usize)> = Vec::new(alloc);
+    for (at, unit) in asked {
+        match all.last_mut() {
+            Some(last) if last.0 == *at && last.1 == *unit => last.2 = last.2.saturating_add(1),
+            _ => push(&mut all, (*at, *unit, 1))?,
+        }
+    }
+    Ok(all)
+}
+
+fn assert_run(trial: &Trial<'_>, run: &Run) -> Result<(), OfficeError> {
+    let alloc = trial.alloc();
+    let mut office = office_over(alloc, MemKeeper::new(alloc), SITE, POINTS)?;
+    let lines = [Behind {
+        image: IMAGE,
+        spells: run.spells,
+    }];
+    let mut world = world_of(alloc, run.ends, &lines, &[])?;
+    keep_up(alloc, &mut office, &mut world)?;
+    assert_told(trial, &world, run.told);
+    for wire in &world.wires {
+        let asked = counted(alloc, &wire.asked)?;
+        trial.told(&"asked", &asked.as_slice(), &run.asked);
+    }
+    assert_readings(trial, &mut office, "near", run.near)?;
+    assert_readings(trial, &mut office, "far", run.far)
+}
+
+/// The near device answers nothing.
+const DEAD: Run = Run {
+    ends: 13_000,
+    spells: &[Spell {
+        trouble: Trouble::Silent,
+        unit: Some(1),
+        from: 0,
+        to: u64::MAX,
+    }],
+    told: "1970-01-01T00:08:22Z office: line roof is up\n1970-01-01T00:08:25Z office: device near of line roof is silent\n",
+    asked: &[
+        (0, 1, 16),
+        (2000, 2, 1),
+        (3000, 1, 1),
+        (3000, 2, 1),
+        (8000, 1, 1),
+        (8000, 2, 1),
+    ],
+    near: &[],
+    far: &[(100, 2), (101, 3), (102, 8)],
+};
+
+fn dead(trial: &Trial<'_>) -> Result<(), OfficeError> {
+    assert_run(trial, &DEAD)
+}
+
+#[test]
+fn a_dead_device_costs_those_behind_its_gateway_one_time_out(rt: HostRuntime) -> Result<(), Fail> {
+    Ok(twice!(rt, dead)?)
+}
+
+/// The near device answers three seconds after the question, and two are waited for.
+const LATE: Run = Run {
+    ends: 23_000,
+    spells: &[Spell {
+        trouble: Trouble::Late(3_000),
+        unit: Some(1),
+        from: 3_000,
+        to: u64::MAX,
+    }],
+    told: "1970-01-01T00:08:22Z office: line roof is up\n1970-01-01T00:08:30Z office: device near of line roof is silent\n1970-01-01T00:08:31Z office: device near of line roof answers again\n1970-01-01T00:08:35Z office: the round of line roof in slot 102 was cut\n1970-01-01T00:08:40Z office: the round of line roof in slot 103 was cut\n",
+    asked: &[
+        (0, 1, 21),
+        (0, 2, 1),
+        (3000, 1, 16),
+        (5000, 2, 1),
+        (6000, 1, 5),
+        (8000, 1, 1),
+        (8000, 2, 1),
+        (9000, 1, 15),
+        (11000, 1, 1),
+        (12000, 1, 4),
+        (13000, 1, 11),
+        (14000, 1, 1),
+        (15000, 1, 4),
+        (16000, 1, 5),
+        (16000, 2, 1),
+        (18000, 1, 11),
+        (19000, 1, 5),
+        (21000, 1, 5),
+        (21000, 2, 1),
+    ],
+    near: &[(100, 0), (101, 3), (102, 8), (103, 13), (104, 18)],
+    far: &[(100, 0), (101, 5), (102, 8), (103, 16), (104, 21)],
+};
+
+fn late(trial: &Trial<'_>) -> Result<(), OfficeError> {
+    assert_run(trial, &LATE)
+}
+
+#[test]
+fn a_late_device_is_taken_up_again(rt: HostRuntime) -> Result<(), Fail> {
+    Ok(twice!(rt, late)?)
+}
+
+/// What the near device is asked in slot 101 it answers in slot 102.
+const BEHIND: Run = Run {
+    ends: 13_000,
+    spells: &[Spell {
+        trouble: Trouble::Late(6_000),
+        unit: Some(1),
+        from: 3_000,
+        to: 8_000,
+    }],
+    told: "1970-01-01T00:08:22Z office: line roof is up\n1970-01-01T00:08:30Z office: device near of line roof is silent\n1970-01-01T00:08:30Z office: device near of line roof answers again\n",
+    asked: &[
+        (0, 1, 21),
+        (0, 2, 1),
+        (3000, 1, 16),
+        (5000, 2, 1),
+        (8000, 1, 1),
+        (8000, 2, 1),
+        (8000, 1, 20),
+    ],
+    near: &[(100, 0), (101, 3), (102, 8)],
+    far: &[(100, 0), (101, 5), (102, 8)],
+};
+
+fn behind(trial: &Trial<'_>) -> Result<(), OfficeError> {
+    assert_run(trial, &BEHIND)
+}
+
+#[test]
+fn an_answer_to_the_slot_before_is_recorded_in_it(rt: HostRuntime) -> Result<(), Fail> {
+    Ok(twice!(rt, behind)?)
+}

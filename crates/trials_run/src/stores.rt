@@ -1,0 +1,87 @@
+//! Stores that refuse.
+use crate::scenes::{assert_readings, assert_told, office_in, ran, world};
+use office_core::{Office, OfficeError};
+use office_plays::refusing::Refusing;
+use office_run::RunFault;
+use poll_book::StoreFault;
+use std::test::Fail;
+use telling::{Trial, twice};
+
+/// Keeps an office up over a store that refuses some calls; expects how that ends, and what is told.
+fn ran_over(
+    trial: &Trial<'_>,
+    keeper: Refusing,
+    expected: Result<(), RunFault>,
+    told: &str,
+) -> Result<Office<Refusing>, OfficeError> {
+    let alloc = trial.alloc();
+    let mut office = office_in(alloc, keeper, &[])?;
+    let mut world = world(alloc, 18_000, &[], &[])?;
+    let ended = ran(alloc, &mut office, &mut world);
+    trial.told(&"ended", &ended, &expected);
+    assert_told(trial, &world, told);
+    Ok(office)
+}
+
+/// No change is taken for a while.
+fn full(trial: &Trial<'_>) -> Result<(), OfficeError> {
+    let keeper = Refusing::changes(trial.alloc(), 5, 9, StoreFault::Full);
+    let mut office = ran_over(
+        trial,
+        keeper,
+        Ok(()),
+        "1970-01-01T00:08:22Z office: line roof is up\n1970-01-01T00:08:22Z office: line cellar is up\n1970-01-01T00:08:25Z office: the store refuses: full\n1970-01-01T00:08:28Z office: the store takes what comes again\n",
+    )?;
+    assert_readings(
+        trial,
+        &mut office,
+        "e",
+        &[(100, 0), (101, 6), (102, 8), (103, 13)],
+    )
+}
+
+#[test]
+fn a_slot_is_begun_again_where_the_store_was_full(rt: HostRuntime) -> Result<(), Fail> {
+    Ok(twice!(rt, full)?)
+}
+
+/// One call is told that a file failed.
+fn passing(trial: &Trial<'_>) -> Result<(), OfficeError> {
+    let keeper = Refusing::new(trial.alloc(), 41, StoreFault::Disk);
+    let mut office = ran_over(
+        trial,
+        keeper,
+        Ok(()),
+        "1970-01-01T00:08:22Z office: line roof is up\n1970-01-01T00:08:22Z office: line cellar is up\n1970-01-01T00:08:30Z office: the store refuses: disk\n1970-01-01T00:08:30Z office: the store takes what comes again\n",
+    )?;
+    assert_readings(
+        trial,
+        &mut office,
+        "e",
+        &[(100, 0), (101, 3), (102, 8), (103, 13)],
+    )
+}
+
+#[test]
+fn a_run_goes_on_where_a_file_failed_once(rt: HostRuntime) -> Result<(), Fail> {
+    Ok(twice!(rt, passing)?)
+}
+
+/// From a call on each is told that a file failed.
+fn broken(trial: &Trial<'_>) -> Result<(), OfficeError> {
+    let keeper = Refusing::from(trial.alloc(), 41, StoreFault::Disk);
+    let fault = Err(RunFault::Store(StoreFault::Disk));
+    let office = ran_over(
+        trial,
+        keeper,
+        fault,
+        "1970-01-01T00:08:22Z office: line roof is up\n1970-01-01T00:08:22Z office: line cellar is up\n1970-01-01T00:08:30Z office: the store refuses: disk\n",
+    )?;
+    trial.told(&"calls", &office.into_keeper().calls, &43);
+    Ok(())
+}
+
+#[test]
+fn a_run_ends_where_the_store_is_broken(rt: HostRuntime) -> Result<(), Fail> {
+    Ok(twice!(rt, broken)?)
+}
