@@ -1,7 +1,9 @@
 //! A store in which a counter is counted in a slot to come.
 use crate::guest::Speech;
-use crate::orders::{ASKED, ORDER, assert_heard};
-use crate::scenes::{assert_readings, assert_told, office_in, ran, world};
+use crate::orders::{ASKED, ORDER, OrderDone};
+use crate::scenes::{
+    Left, Look, assert_readings, assert_told, assert_total, look_behind_new, world,
+};
 use office_core::OfficeError;
 use office_plays::steps::Happens::{self, Arrive, Ask, Open};
 use office_run::RunFault;
@@ -35,17 +37,18 @@ struct Run {
     total: u128,
 }
 
+impl Look<MemKeeper> for Run {
+    fn look(&self, trial: &Trial<'_>, left: &mut Left<MemKeeper>) -> Result<(), OfficeError> {
+        trial.told(&"ended", &left.ended, &Ok(()));
+        assert_told(trial, &left.world, self.told);
+        assert_readings(trial, &mut left.office, "e", self.readings)?;
+        assert_total(trial, &mut left.office, self.total)
+    }
+}
+
 fn assert_run(trial: &Trial<'_>, run: &Run, speeches: &[Speech]) -> Result<(), OfficeError> {
-    let alloc = trial.alloc();
-    let mut office = office_in(alloc, MemKeeper::new(alloc), run.happened)?;
-    let mut world = world(alloc, run.ends, &[], speeches)?;
-    let ended = ran(alloc, &mut office, &mut world);
-    trial.told(&"ended", &ended, &Ok(()));
-    assert_told(trial, &world, run.told);
-    assert_readings(trial, &mut office, "e", run.readings)?;
-    let total = office.total("e")?;
-    trial.told(&"total", &total, &Some(run.total));
-    Ok(())
+    let world = world(trial.alloc(), run.ends, &[], speeches)?;
+    look_behind_new(trial, run.happened, world, run)
 }
 
 /// No slot before 103 is begun, and that isn't asked for what it has.
@@ -86,14 +89,9 @@ fn a_line_goes_on_once_the_slot_is_voided(rt: HostRuntime) -> Result<(), Fail> {
 
 /// Orders are sent while a line waits.
 fn ordered(trial: &Trial<'_>) -> Result<(), OfficeError> {
-    let alloc = trial.alloc();
-    let mut office = office_in(alloc, MemKeeper::new(alloc), SOON)?;
     let speeches = [Speech::at_once(5_000, ORDER), Speech::at_once(5_001, ASKED)];
-    let mut world = world(alloc, 7_000, &[], &speeches)?;
-    let ended = ran(alloc, &mut office, &mut world);
-    trial.told(&"ended", &ended, &Ok(()));
-    assert_heard(trial, &world);
-    Ok(())
+    let world = world(trial.alloc(), 7_000, &[], &speeches)?;
+    look_behind_new(trial, SOON, world, &OrderDone)
 }
 
 #[test]
@@ -101,16 +99,23 @@ fn an_order_is_sent_while_a_line_waits(rt: HostRuntime) -> Result<(), Fail> {
     Ok(twice!(rt, ordered)?)
 }
 
+/// The run has ended for it.
+struct Ended;
+
+impl Look<MemKeeper> for Ended {
+    fn look(&self, trial: &Trial<'_>, left: &mut Left<MemKeeper>) -> Result<(), OfficeError> {
+        let fault = RunFault::Ahead {
+            point: 1,
+            slot: 17_381,
+        };
+        trial.told(&"ended", &left.ended, &Err(fault));
+        assert_readings(trial, &mut left.office, "e", &[(17_381, 2)])
+    }
+}
+
 fn far(trial: &Trial<'_>) -> Result<(), OfficeError> {
-    let alloc = trial.alloc();
-    let mut office = office_in(alloc, MemKeeper::new(alloc), FAR)?;
-    let mut world = world(alloc, 7_000, &[], &[])?;
-    let ended = ran(alloc, &mut office, &mut world);
-    trial.told(&"ended", &ended, &Err(RunFault::Ahead {
-        point: 1,
-        slot: 17_381,
-    }));
-    assert_readings(trial, &mut office, "e", &[(17_381, 2)])
+    let world = world(trial.alloc(), 7_000, &[], &[])?;
+    look_behind_new(trial, FAR, world, &Ended)
 }
 
 #[test]

@@ -1,10 +1,10 @@
 //! Callers who take their time.
 use crate::guest::{Guest, Speech};
 use crate::orders::WAITING;
-use crate::scenes::{keep_up, office, world};
-use crate::world::World;
+use crate::scenes::{Left, Look, look_behind_new, world};
 use office_core::OfficeError;
 use office_plays::steps::push;
+use poll_book::MemKeeper;
 use std::alloc::Global;
 use std::test::Fail;
 use telling::{Trial, twice};
@@ -43,25 +43,52 @@ fn crowd(alloc: Global) -> Result<Vec<Speech>, OfficeError> {
     Ok(speeches)
 }
 
-/// The world after an office was kept up in it, in which these callers came.
-fn played(alloc: Global, speeches: &[Speech], most: usize) -> Result<World, OfficeError> {
-    let mut office = office(alloc)?;
-    let mut world = world(alloc, 12_000, &[], speeches)?.with_most(most);
-    keep_up(alloc, &mut office, &mut world)?;
-    Ok(world)
+/// Keeps an office up in a world in which these callers come and a write takes so many bytes at most, and has what
+/// they heard looked at.
+fn look_at_guests<L: Look<MemKeeper>>(
+    trial: &Trial<'_>,
+    speeches: &[Speech],
+    most: usize,
+    look: &L,
+) -> Result<(), OfficeError> {
+    let world = world(trial.alloc(), 12_000, &[], speeches)?.with_most(most);
+    look_behind_new(trial, &[], world, look)
+}
+
+/// Each heard this, and went then.
+#[derive(Clone, Copy)]
+struct Each {
+    heard: &'static str,
+    gone: u64,
+}
+
+impl Look<MemKeeper> for Each {
+    fn look(&self, trial: &Trial<'_>, left: &mut Left<MemKeeper>) -> Result<(), OfficeError> {
+        for guest in &left.world.guests.all {
+            assert_guest(trial, guest, self.heard, self.gone);
+        }
+        Ok(())
+    }
 }
 
 /// The first goes for the last one, and each other once it has been in its head for five seconds.
-fn crowded(trial: &Trial<'_>) -> Result<(), OfficeError> {
-    let world = played(trial.alloc(), &crowd(trial.alloc())?, usize::MAX)?;
-    for (number, guest) in (0u16..).zip(&world.guests.all) {
-        match number {
-            0 => assert_guest(trial, guest, "", 3_500),
-            LAST => assert_guest(trial, guest, ANSWER, 3_500),
-            _ => assert_guest(trial, guest, "", comes(number).saturating_add(5_000)),
+struct AfterCrowd;
+
+impl Look<MemKeeper> for AfterCrowd {
+    fn look(&self, trial: &Trial<'_>, left: &mut Left<MemKeeper>) -> Result<(), OfficeError> {
+        for (number, guest) in (0u16..).zip(&left.world.guests.all) {
+            match number {
+                0 => assert_guest(trial, guest, "", 3_500),
+                LAST => assert_guest(trial, guest, ANSWER, 3_500),
+                _ => assert_guest(trial, guest, "", comes(number).saturating_add(5_000)),
+            }
         }
+        Ok(())
     }
-    Ok(())
+}
+
+fn crowded(trial: &Trial<'_>) -> Result<(), OfficeError> {
+    look_at_guests(trial, &crowd(trial.alloc())?, usize::MAX, &AfterCrowd)
 }
 
 #[test]
@@ -95,17 +122,29 @@ fn slow_bodies(alloc: Global) -> Result<Vec<Speech>, OfficeError> {
 
 /// For the one more the first goes once it has been there for ten seconds, and for the other one the next, which moved
 /// nothing in the last ten.
-fn held(trial: &Trial<'_>) -> Result<(), OfficeError> {
-    let world = played(trial.alloc(), &slow_bodies(trial.alloc())?, usize::MAX)?;
-    for (number, guest) in (0u16..).zip(&world.guests.all) {
-        match number {
-            0 => assert_guest(trial, guest, "", 11_000),
-            1 => assert_guest(trial, guest, "", 11_900),
-            NEXT => assert_guest(trial, guest, ANSWER, 11_900),
-            _ => trial.told(&"gone", &guest.gone, &None),
+struct AfterSlowBodies;
+
+impl Look<MemKeeper> for AfterSlowBodies {
+    fn look(&self, trial: &Trial<'_>, left: &mut Left<MemKeeper>) -> Result<(), OfficeError> {
+        for (number, guest) in (0u16..).zip(&left.world.guests.all) {
+            match number {
+                0 => assert_guest(trial, guest, "", 11_000),
+                1 => assert_guest(trial, guest, "", 11_900),
+                NEXT => assert_guest(trial, guest, ANSWER, 11_900),
+                _ => trial.told(&"gone", &guest.gone, &None),
+            }
         }
+        Ok(())
     }
-    Ok(())
+}
+
+fn held(trial: &Trial<'_>) -> Result<(), OfficeError> {
+    look_at_guests(
+        trial,
+        &slow_bodies(trial.alloc())?,
+        usize::MAX,
+        &AfterSlowBodies,
+    )
 }
 
 #[test]
@@ -120,11 +159,11 @@ fn slow(trial: &Trial<'_>) -> Result<(), OfficeError> {
         pause: 20,
         ..Speech::at_once(4_000, WHOLE)
     };
-    let world = played(trial.alloc(), &[speech], usize::MAX)?;
-    for guest in &world.guests.all {
-        assert_guest(trial, guest, ANSWER, 4_840);
-    }
-    Ok(())
+    let each = Each {
+        heard: ANSWER,
+        gone: 4_840,
+    };
+    look_at_guests(trial, &[speech], usize::MAX, &each)
 }
 
 #[test]
@@ -134,11 +173,11 @@ fn a_caller_may_say_a_byte_at_a_time(rt: HostRuntime) -> Result<(), Fail> {
 
 /// A write takes seven bytes at most.
 fn narrow(trial: &Trial<'_>) -> Result<(), OfficeError> {
-    let world = played(trial.alloc(), &[Speech::at_once(4_000, WHOLE)], 7)?;
-    for guest in &world.guests.all {
-        assert_guest(trial, guest, ANSWER, 4_000);
-    }
-    Ok(())
+    let each = Each {
+        heard: ANSWER,
+        gone: 4_000,
+    };
+    look_at_guests(trial, &[Speech::at_once(4_000, WHOLE)], 7, &each)
 }
 
 #[test]
@@ -159,11 +198,11 @@ fn short_ends(trial: &Trial<'_>) -> Result<(), OfficeError> {
         pause: 6_000,
         ..Speech::at_once(4_000, ORDER)
     };
-    let world = played(trial.alloc(), &[speech], usize::MAX)?;
-    for guest in &world.guests.all {
-        assert_guest(trial, guest, WAITING, 10_000);
-    }
-    Ok(())
+    let each = Each {
+        heard: WAITING,
+        gone: 10_000,
+    };
+    look_at_guests(trial, &[speech], usize::MAX, &each)
 }
 
 #[test]

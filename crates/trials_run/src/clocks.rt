@@ -1,9 +1,11 @@
 //! A clock that somebody sets, while the devices go on by one that nobody does.
 use crate::guest::Speech;
-use crate::orders::{ASKED, ORDER, assert_heard};
-use crate::scenes::{assert_readings, assert_told, keep_up, office, world};
+use crate::orders::{ASKED, ORDER, OrderDone};
+use crate::scenes::{
+    Left, Look, assert_readings, assert_told, assert_total, look_behind_new, world,
+};
 use crate::world::Setting;
-use office_core::{Office, OfficeError};
+use office_core::OfficeError;
 use poll_book::MemKeeper;
 use std::test::Fail;
 use telling::{Trial, twice};
@@ -18,24 +20,17 @@ struct Run {
     total: u128,
 }
 
-fn assert_total(
-    trial: &Trial<'_>,
-    office: &mut Office<MemKeeper>,
-    expected: u128,
-) -> Result<(), OfficeError> {
-    let total = office.total("e")?;
-    trial.told(&"total", &total, &Some(expected));
-    Ok(())
+impl Look<MemKeeper> for Run {
+    fn look(&self, trial: &Trial<'_>, left: &mut Left<MemKeeper>) -> Result<(), OfficeError> {
+        assert_told(trial, &left.world, self.told);
+        assert_readings(trial, &mut left.office, "e", self.readings)?;
+        assert_total(trial, &mut left.office, self.total)
+    }
 }
 
 fn assert_run(trial: &Trial<'_>, run: &Run) -> Result<(), OfficeError> {
-    let alloc = trial.alloc();
-    let mut office = office(alloc)?;
-    let mut world = world(alloc, run.ends, &[], &[])?.with_settings(run.settings);
-    keep_up(alloc, &mut office, &mut world)?;
-    assert_told(trial, &world, run.told);
-    assert_readings(trial, &mut office, "e", run.readings)?;
-    assert_total(trial, &mut office, run.total)
+    let world = world(trial.alloc(), run.ends, &[], &[])?.with_settings(run.settings);
+    look_behind_new(trial, &[], world, run)
 }
 
 /// In slot 102 it is set back by 16 seconds, and stands behind the slots that were begun until slot 103.
@@ -125,13 +120,10 @@ const BACK_BEFORE_AN_ORDER: &[Setting] = &[Setting {
 
 /// While the clock stands behind the slots that were begun, an order is sent all the same.
 fn ordered(trial: &Trial<'_>) -> Result<(), OfficeError> {
-    let alloc = trial.alloc();
-    let mut office = office(alloc)?;
     let speeches = [Speech::at_once(5_000, ORDER), Speech::at_once(5_001, ASKED)];
-    let mut world = world(alloc, 7_000, &[], &speeches)?.with_settings(BACK_BEFORE_AN_ORDER);
-    keep_up(alloc, &mut office, &mut world)?;
-    assert_heard(trial, &world);
-    Ok(())
+    let world = world(trial.alloc(), 7_000, &[], &speeches)?;
+    let world = world.with_settings(BACK_BEFORE_AN_ORDER);
+    look_behind_new(trial, &[], world, &OrderDone)
 }
 
 #[test]

@@ -1,8 +1,9 @@
 //! Lines that send what nobody asked for, or take no bytes.
-use crate::scenes::{assert_readings, assert_told, keep_up, office, world};
+use crate::scenes::{Left, Look, assert_readings, assert_told, look_behind_new, world};
 use crate::wire::{Spell, Trouble};
 use crate::world::World;
 use office_core::OfficeError;
+use poll_book::MemKeeper;
 use std::test::Fail;
 use telling::{Trial, twice};
 
@@ -23,19 +24,22 @@ fn assert_cellar(trial: &Trial<'_>, world: &World, run: &Run) {
     trial.told(&"read", &read, &Some(run.read));
 }
 
+impl Look<MemKeeper> for Run {
+    fn look(&self, trial: &Trial<'_>, left: &mut Left<MemKeeper>) -> Result<(), OfficeError> {
+        assert_told(trial, &left.world, self.told);
+        assert_cellar(trial, &left.world, self);
+        assert_readings(
+            trial,
+            &mut left.office,
+            "e",
+            &[(100, 0), (101, 3), (102, 8), (103, 13)],
+        )
+    }
+}
+
 fn assert_run(trial: &Trial<'_>, run: &Run) -> Result<(), OfficeError> {
-    let alloc = trial.alloc();
-    let mut office = office(alloc)?;
-    let mut world = world(alloc, 18_000, run.cellar, &[])?;
-    keep_up(alloc, &mut office, &mut world)?;
-    assert_told(trial, &world, run.told);
-    assert_cellar(trial, &world, run);
-    assert_readings(
-        trial,
-        &mut office,
-        "e",
-        &[(100, 0), (101, 3), (102, 8), (103, 13)],
-    )
+    let world = world(trial.alloc(), 18_000, run.cellar, &[])?;
+    look_behind_new(trial, &[], world, run)
 }
 
 /// It floods from a moment on at which it rests.

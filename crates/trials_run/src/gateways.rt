@@ -1,6 +1,9 @@
 //! Gateways: a line with several devices, of which one doesn't answer, or answers late.
-use crate::scenes::{Behind, assert_readings, assert_told, keep_up, office_over, world_of};
+use crate::scenes::{
+    Behind, Left, Look, assert_readings, assert_told, look_behind, office_over, world_of,
+};
 use crate::wire::{Spell, Trouble};
+use crate::world::World;
 use office_core::OfficeError;
 use office_plays::steps::Happens::{self, Load};
 use office_plays::steps::push;
@@ -45,22 +48,32 @@ fn counted(alloc: Global, asked: &[(u64, u8)]) -> Result<Vec<(u64, u8, usize)>, 
     Ok(all)
 }
 
-fn assert_run(trial: &Trial<'_>, run: &Run) -> Result<(), OfficeError> {
-    let alloc = trial.alloc();
-    let mut office = office_over(alloc, MemKeeper::new(alloc), SITE, POINTS)?;
+impl Look<MemKeeper> for Run {
+    fn look(&self, trial: &Trial<'_>, left: &mut Left<MemKeeper>) -> Result<(), OfficeError> {
+        assert_told(trial, &left.world, self.told);
+        for wire in &left.world.wires {
+            let asked = counted(trial.alloc(), &wire.asked)?;
+            trial.told(&"asked", &asked.as_slice(), &self.asked);
+        }
+        assert_readings(trial, &mut left.office, "near", self.near)?;
+        assert_readings(trial, &mut left.office, "far", self.far)
+    }
+}
+
+/// A world of the gateway that ends after so many milliseconds.
+fn gateway(alloc: Global, ends: u64, spells: &'static [Spell]) -> Result<World, OfficeError> {
     let lines = [Behind {
         image: IMAGE,
-        spells: run.spells,
+        spells,
     }];
-    let mut world = world_of(alloc, run.ends, &lines, &[])?;
-    keep_up(alloc, &mut office, &mut world)?;
-    assert_told(trial, &world, run.told);
-    for wire in &world.wires {
-        let asked = counted(alloc, &wire.asked)?;
-        trial.told(&"asked", &asked.as_slice(), &run.asked);
-    }
-    assert_readings(trial, &mut office, "near", run.near)?;
-    assert_readings(trial, &mut office, "far", run.far)
+    world_of(alloc, ends, &lines, &[])
+}
+
+fn assert_run(trial: &Trial<'_>, run: &Run) -> Result<(), OfficeError> {
+    let alloc = trial.alloc();
+    let office = office_over(alloc, MemKeeper::new(alloc), SITE, POINTS)?;
+    let world = gateway(alloc, run.ends, run.spells)?;
+    look_behind(trial, office, world, run)
 }
 
 /// The near device answers nothing.

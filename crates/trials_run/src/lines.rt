@@ -1,9 +1,10 @@
 //! Lines that are polled slot by slot, and one whose device is silent or away.
 use crate::scenes::{
-    Behind, IMAGE, assert_readings, assert_told, keep_up, office, world, world_of,
+    Behind, IMAGE, Left, Look, assert_readings, assert_told, look_behind_new, world, world_of,
 };
-use crate::wire::{Spell, Trouble};
+use crate::wire::{Spell, Trouble, Wire};
 use office_core::OfficeError;
+use poll_book::MemKeeper;
 use std::test::Fail;
 use telling::{Trial, twice};
 
@@ -18,16 +19,19 @@ struct Run {
     readings: &'static [(u32, u16)],
 }
 
+impl Look<MemKeeper> for Run {
+    fn look(&self, trial: &Trial<'_>, left: &mut Left<MemKeeper>) -> Result<(), OfficeError> {
+        let begun = left.world.wires.get(1).map(|wire| wire.begun.as_slice());
+        trial.told(&"begun", &begun, &Some(self.begun));
+        assert_told(trial, &left.world, self.told);
+        assert_readings(trial, &mut left.office, "e", self.roof)?;
+        assert_readings(trial, &mut left.office, "f", self.readings)
+    }
+}
+
 fn assert_run(trial: &Trial<'_>, run: &Run) -> Result<(), OfficeError> {
-    let alloc = trial.alloc();
-    let mut office = office(alloc)?;
-    let mut world = world(alloc, run.ends, run.cellar, &[])?;
-    keep_up(alloc, &mut office, &mut world)?;
-    let begun = world.wires.get(1).map(|wire| wire.begun.as_slice());
-    trial.told(&"begun", &begun, &Some(run.begun));
-    assert_told(trial, &world, run.told);
-    assert_readings(trial, &mut office, "e", run.roof)?;
-    assert_readings(trial, &mut office, "f", run.readings)
+    let world = world(trial.alloc(), run.ends, run.cellar, &[])?;
+    look_behind_new(trial, &[], world, run)
 }
 
 /// Nothing is wrong for three slots.
@@ -139,20 +143,31 @@ const LOOKED_UP: &[Spell] = &[Spell {
     to: 200_000,
 }];
 
+/// Expects when it was looked up where a line is.
+fn assert_looked_up(trial: &Trial<'_>, wire: &Wire, expected: &[u64]) {
+    trial.told(&"looked up", &wire.looked_up.as_slice(), &expected);
+}
+
+/// When both were looked up.
+struct LookedUp;
+
+impl Look<MemKeeper> for LookedUp {
+    fn look(&self, trial: &Trial<'_>, left: &mut Left<MemKeeper>) -> Result<(), OfficeError> {
+        for (wire, expected) in left.world.wires.iter().zip(LOOK_UPS.iter()) {
+            assert_looked_up(trial, wire, expected);
+        }
+        Ok(())
+    }
+}
+
 /// The two are looked up in turn, a minute apart.
 fn in_turn(trial: &Trial<'_>) -> Result<(), OfficeError> {
-    let alloc = trial.alloc();
-    let mut office = office(alloc)?;
     let lines = [Behind {
         image: IMAGE,
         spells: LOOKED_UP,
     }; 2];
-    let mut world = world_of(alloc, 200_000, &lines, &[])?;
-    keep_up(alloc, &mut office, &mut world)?;
-    for (wire, expected) in world.wires.iter().zip(LOOK_UPS.iter()) {
-        trial.told(&"looked up", &wire.looked_up.as_slice(), expected);
-    }
-    Ok(())
+    let world = world_of(trial.alloc(), 200_000, &lines, &[])?;
+    look_behind_new(trial, &[], world, &LookedUp)
 }
 
 #[test]

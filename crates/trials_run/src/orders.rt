@@ -1,6 +1,6 @@
 //! Orders: one in the middle of a slot, several that wait, and requests that are no new ones.
 use crate::guest::Speech;
-use crate::scenes::{Behind, IMAGE, keep_up, office, office_in, world, world_of};
+use crate::scenes::{Behind, IMAGE, Left, Look, keep_up_in, look_behind_new, world, world_of};
 use crate::wire::{Spell, Trouble, Wire};
 use crate::world::World;
 use office_core::OfficeError;
@@ -8,6 +8,7 @@ use office_plays::refusing::Refusing;
 use office_plays::steps::Happens::{self, Order};
 use office_plays::steps::push;
 use poll_book::{MemKeeper, StoreFault};
+use std::alloc::Global;
 use std::test::Fail;
 use telling::{Trial, twice};
 
@@ -40,23 +41,44 @@ fn assert_set(trial: &Trial<'_>, wire: &mut Wire) -> Result<(), OfficeError> {
 }
 
 /// Expects what the callers heard.
-pub(crate) fn assert_heard(trial: &Trial<'_>, world: &World) {
+fn assert_heard(trial: &Trial<'_>, world: &World) {
     for (guest, expected) in world.guests.all.iter().zip([WAITING, DONE]) {
         trial.told(&"heard", &guest.heard.as_slice(), &expected.as_bytes());
     }
 }
 
-fn ordered(trial: &Trial<'_>) -> Result<(), OfficeError> {
-    let alloc = trial.alloc();
-    let mut office = office(alloc)?;
-    let speeches = [Speech::at_once(5_000, ORDER), Speech::at_once(5_001, ASKED)];
-    let mut world = world(alloc, ENDS, &[], &speeches)?;
-    keep_up(alloc, &mut office, &mut world)?;
-    assert_heard(trial, &world);
+/// Expects that the roof has the value that was ordered.
+fn assert_roof(trial: &Trial<'_>, world: &mut World) -> Result<(), OfficeError> {
     match world.wires.first_mut() {
         Some(wire) => assert_set(trial, wire),
         None => Err(OfficeError::WrongLine),
     }
+}
+
+/// The callers heard that an order waits, and that it is done.
+pub(crate) struct OrderDone;
+
+impl Look<MemKeeper> for OrderDone {
+    fn look(&self, trial: &Trial<'_>, left: &mut Left<MemKeeper>) -> Result<(), OfficeError> {
+        assert_heard(trial, &left.world);
+        Ok(())
+    }
+}
+
+/// The same, and the roof has the value.
+struct Set;
+
+impl Look<MemKeeper> for Set {
+    fn look(&self, trial: &Trial<'_>, left: &mut Left<MemKeeper>) -> Result<(), OfficeError> {
+        assert_heard(trial, &left.world);
+        assert_roof(trial, &mut left.world)
+    }
+}
+
+fn ordered(trial: &Trial<'_>) -> Result<(), OfficeError> {
+    let speeches = [Speech::at_once(5_000, ORDER), Speech::at_once(5_001, ASKED)];
+    let world = world(trial.alloc(), ENDS, &[], &speeches)?;
+    look_behind_new(trial, &[], world, &Set)
 }
 
 #[test]
@@ -89,20 +111,27 @@ const ROOF_AWAY: [Behind; 2] = [
     },
 ];
 
+/// Expects that the roof was asked five times at one moment.
+fn assert_asked(trial: &Trial<'_>, world: &World) {
+    let asked = world.wires.first().map(|wire| wire.asked.as_slice());
+    let expected: [(u64, u8); 5] = [(7_000, 17); 5];
+    trial.told(&"asked", &asked, &Some(expected.as_slice()));
+}
+
+/// All were sent, the last one last.
+struct AllSent;
+
+impl Look<MemKeeper> for AllSent {
+    fn look(&self, trial: &Trial<'_>, left: &mut Left<MemKeeper>) -> Result<(), OfficeError> {
+        assert_asked(trial, &left.world);
+        assert_roof(trial, &mut left.world)
+    }
+}
+
 /// Four orders and a read are sent over one connection, at one moment.
 fn waited(trial: &Trial<'_>) -> Result<(), OfficeError> {
-    let alloc = trial.alloc();
-    let mut office = office_in(alloc, MemKeeper::new(alloc), WAIT)?;
-    let mut world = world_of(alloc, ENDS, &ROOF_AWAY, &[])?;
-    keep_up(alloc, &mut office, &mut world)?;
-    match world.wires.first_mut() {
-        Some(wire) => {
-            let asked: [(u64, u8); 5] = [(7_000, 17); 5];
-            trial.told(&"asked", &wire.asked.as_slice(), &asked.as_slice());
-            assert_set(trial, wire)
-        }
-        None => Err(OfficeError::WrongLine),
-    }
+    let world = world_of(trial.alloc(), ENDS, &ROOF_AWAY, &[])?;
+    look_behind_new(trial, WAIT, world, &AllSent)
 }
 
 #[test]
@@ -113,22 +142,24 @@ fn orders_that_wait_are_sent_in_one_round(rt: HostRuntime) -> Result<(), Fail> {
 /// So many times the same request comes.
 const REPEATS: u16 = 40;
 
+/// The same request, which comes so many times.
+fn repeats(alloc: Global, times: u16) -> Result<Vec<Speech>, OfficeError> {
+    let mut speeches = Vec::new(alloc);
+    for number in 0..times {
+        let comes = u64::from(number) * 20 + 5_000;
+        push(&mut speeches, Speech::at_once(comes, ORDER))?;
+    }
+    Ok(speeches)
+}
+
 /// What a store is asked, and the roof, where a request comes so many times.
 fn asked_by(trial: &Trial<'_>, times: u16) -> Result<(u32, usize), OfficeError> {
     let alloc = trial.alloc();
     let keeper = Refusing::new(alloc, u32::MAX, StoreFault::Other);
-    let mut office = office_in(alloc, keeper, &[])?;
-    let mut speeches = Vec::new(alloc);
-    for number in 0..times {
-        push(
-            &mut speeches,
-            Speech::at_once(u64::from(number) * 20 + 5_000, ORDER),
-        )?;
-    }
-    let mut world = world(alloc, ENDS, &[], &speeches)?;
-    keep_up(alloc, &mut office, &mut world)?;
-    let asked = world.wires.first().map_or(0, |wire| wire.asked.len());
-    Ok((office.into_keeper().calls, asked))
+    let world = world(alloc, ENDS, &[], &repeats(alloc, times)?)?;
+    let left = keep_up_in(alloc, keeper, &[], world)?;
+    let asked = left.world.wires.first().map_or(0, |wire| wire.asked.len());
+    Ok((left.office.into_keeper().calls, asked))
 }
 
 /// Each costs three look-ups, and no query.

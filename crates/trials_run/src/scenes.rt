@@ -6,7 +6,7 @@ use mb_map::Sim;
 use office_core::{Office, OfficeError};
 use office_plays::builders::{MEMORY, TWO, begun};
 use office_plays::steps::Happens::{self, Load};
-use office_plays::steps::{push, rows, take_happening};
+use office_plays::steps::{push, rows, take_happening, total};
 use office_run::RunFault;
 use poll_book::{Keeper, MemKeeper};
 use run_beat::Slots;
@@ -63,7 +63,7 @@ pub(crate) fn office_over<K: Keeper + Drop>(
 }
 
 /// An office of the roof and the cellar over a keeper, to which this has happened since its points came.
-pub(crate) fn office_in<K: Keeper + Drop>(
+fn office_in<K: Keeper + Drop>(
     alloc: Global,
     keeper: K,
     happened: &[Happens],
@@ -71,11 +71,6 @@ pub(crate) fn office_in<K: Keeper + Drop>(
     let mut office = office_over(alloc, keeper, TWO, POINTS)?;
     take_all(alloc, &mut office, happened)?;
     Ok(office)
-}
-
-/// The same in memory, to which nothing has happened since.
-pub(crate) fn office(alloc: Global) -> Result<Office<MemKeeper>, OfficeError> {
-    office_in(alloc, MemKeeper::new(alloc), &[])
 }
 
 fn wire(alloc: Global, behind: &Behind) -> Result<Wire, OfficeError> {
@@ -113,8 +108,15 @@ pub(crate) fn world(
     world_of(alloc, ends, &lines, speeches)
 }
 
-/// Keeps an office up to the world's end, or as long as it can be.
-pub(crate) fn ran<K: Keeper>(
+/// A run that has ended: the office and the world as it left them, and how it ended.
+#[derive(Drop)]
+pub(crate) struct Left<K: Keeper> {
+    pub office: Office<K>,
+    pub world: World,
+    pub ended: Result<(), RunFault>,
+}
+
+fn ran<K: Keeper>(
     alloc: Global,
     office: &mut Office<K>,
     world: &mut World,
@@ -125,13 +127,61 @@ pub(crate) fn ran<K: Keeper>(
     }
 }
 
-/// Keeps an office up to the world's end.
-pub(crate) fn keep_up<K: Keeper>(
+/// What is looked at behind a run.
+pub(crate) trait Look<K: Keeper> {
+    fn look(&self, trial: &Trial<'_>, left: &mut Left<K>) -> Result<(), OfficeError>;
+}
+
+/// Keeps an office up to the world's end, or as long as it can be. Refused memory ends the attempt.
+fn keep_up<K: Keeper + Drop>(
     alloc: Global,
-    office: &mut Office<K>,
-    world: &mut World,
+    mut office: Office<K>,
+    mut world: World,
+) -> Result<Left<K>, OfficeError> {
+    let ended = ran(alloc, &mut office, &mut world);
+    if ended == Err(RunFault::Memory) {
+        return Err(MEMORY);
+    }
+    Ok(Left {
+        office,
+        world,
+        ended,
+    })
+}
+
+/// Keeps an office up in a world, and has what is left of both looked at.
+// What owns an office and a world stands here: each function that did would be proved to give back all that they hold.
+pub(crate) fn look_behind<K: Keeper + Drop, L: Look<K>>(
+    trial: &Trial<'_>,
+    office: Office<K>,
+    world: World,
+    look: &L,
 ) -> Result<(), OfficeError> {
-    ran(alloc, office, world).map_err(|_| MEMORY)
+    let mut left = keep_up(trial.alloc(), office, world)?;
+    look.look(trial, &mut left)
+}
+
+/// The same of the roof and the cellar over a keeper, to which this has happened since its points came.
+pub(crate) fn keep_up_in<K: Keeper + Drop>(
+    alloc: Global,
+    keeper: K,
+    happened: &[Happens],
+    world: World,
+) -> Result<Left<K>, OfficeError> {
+    let office = office_in(alloc, keeper, happened)?;
+    keep_up(alloc, office, world)
+}
+
+/// The same in memory, looked at.
+pub(crate) fn look_behind_new<L: Look<MemKeeper>>(
+    trial: &Trial<'_>,
+    happened: &[Happens],
+    world: World,
+    look: &L,
+) -> Result<(), OfficeError> {
+    let alloc = trial.alloc();
+    let mut left = keep_up_in(alloc, MemKeeper::new(alloc), happened, world)?;
+    look.look(trial, &mut left)
 }
 
 /// The readings of a point of one register, each with its slot.
@@ -159,6 +209,17 @@ pub(crate) fn assert_readings<K: Keeper>(
 ) -> Result<(), OfficeError> {
     let told = readings(trial.alloc(), office, point)?;
     trial.told(&point, &told.as_slice(), &expected);
+    Ok(())
+}
+
+/// Expects the total of the device on the roof.
+pub(crate) fn assert_total<K: Keeper>(
+    trial: &Trial<'_>,
+    office: &mut Office<K>,
+    expected: u128,
+) -> Result<(), OfficeError> {
+    let told = total(office, "e")?;
+    trial.told(&"total", &told, &Some(expected));
     Ok(())
 }
 

@@ -1,5 +1,5 @@
 //! Stores that refuse.
-use crate::scenes::{assert_readings, assert_told, office_in, ran, world};
+use crate::scenes::{assert_readings, assert_told, keep_up_in, world};
 use office_core::{Office, OfficeError};
 use office_plays::refusing::Refusing;
 use office_run::RunFault;
@@ -15,12 +15,11 @@ fn ran_over(
     told: &str,
 ) -> Result<Office<Refusing>, OfficeError> {
     let alloc = trial.alloc();
-    let mut office = office_in(alloc, keeper, &[])?;
-    let mut world = world(alloc, 18_000, &[], &[])?;
-    let ended = ran(alloc, &mut office, &mut world);
-    trial.told(&"ended", &ended, &expected);
-    assert_told(trial, &world, told);
-    Ok(office)
+    let world = world(alloc, 18_000, &[], &[])?;
+    let left = keep_up_in(alloc, keeper, &[], world)?;
+    trial.told(&"ended", &left.ended, &expected);
+    assert_told(trial, &left.world, told);
+    Ok(left.office)
 }
 
 /// No change is taken for a while.
