@@ -14,6 +14,7 @@ use Rattle.sunspec.specs.declared.point_type.PointType.TheVariants.{Str}
 use Rattle.sunspec.specs.declared.word_order.WordOrder.TheVariants.{Big}
 use Rattle.point_list.specs.Name.{is_name}
 use Rattle.point_list.specs.Label.{is_label}
+use Rattle.point_list.specs.Columns.{same, holds_bits, is_bit, is_scaled, can_be_written, can_be_set, greatest_of}
 use Rattle.point_list.specs.declared.point.Point.{Point}
 use Rattle.point_list.specs.declared.point.Role.{Role}
 use Rattle.point_list.specs.declared.point.Role.TheVariants.{Gauge, Counter, Setting as Set}
@@ -25,7 +26,6 @@ use Rattle.poll_book.specs.declared.rows.OrderState.{OrderState}
 use Rattle.poll_book.specs.declared.rows.OrderState.TheVariants.{Waiting, Done, Refused}
 use Rattle.poll_book.specs.Tables.{Key}
 use Rattle.poll_book.specs.Changes.{as_row}
-use Rattle.poll_book.specs.Totals.{is_counter}
 use Rattle.poll_book.specs.Callers.{is_caller, is_key}
 use Rattle.poll_book.specs.Requests.{RequestKey}
 use Rattle.poll_book.specs.declared.requests.Request.{Request}
@@ -123,14 +123,32 @@ stored_point r = point_from (column r 0) 2 r
 abbrev pub shown_point : Row → Option PointRow
 shown_point r = point_from (column r 0) 1 r
 
--- what a list of points says of one beside the forms of its columns: its type has a size, the last of its registers an
--- address, and a counter alone has a roll
+-- a table of bits holds bits, and one of registers everything else
+abbrev pub holds : Table → PointType → Bool
+holds table kind = same (holds_bits table) (is_bit kind)
+
+-- a counter's type counts, and a setting's can be set, in a table that can be written
+abbrev pub can_be : Role → Table → PointType → Bool
+can_be Gauge table kind = true
+can_be Counter table kind = (row kind).counts
+can_be Set table kind = can_be_written table && can_be_set kind
+
+-- a counter's roll is 1 to the greatest number of its bits, and another point has none
+abbrev pub can_roll_at : Role → PointType → ℕ → Bool
+can_roll_at Counter kind roll = nat_le 1 roll && nat_le roll (greatest_of kind)
+can_roll_at role kind roll = roll == 0
+
+-- what a list of points says of one beside the forms of its columns: its type has a size and stands in its table, the
+-- last of its registers has an address, only what is scaled has a scale, and its type and table can have its role and
+-- its roll
 pub record CanBeListed (point : Point) : Type 0 where
   pub sized : IsSized point.kind
+  pub held : holds point.table point.kind ≡ true
   pub inside : point.address + (row point.kind).registers ≤ 65536
   pub scale : IsScale point.scale
-  pub counter : is_counter point.role ≡ true → 1 ≤ point.roll
-  pub other : is_counter point.role ≡ false → point.roll ≡ 0
+  pub scaled : is_scaled point.kind ≡ false → point.scale ≡ pos 0
+  pub role : can_be point.role point.table point.kind ≡ true
+  pub roll : can_roll_at point.role point.kind point.roll ≡ true
 
 -- ---- readings
 

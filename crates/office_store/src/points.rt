@@ -1,6 +1,6 @@
 //! The table of points.
 
-ghost use Rattle.std.specs.Prelude.{◌≡◌, ◌↔◌, false, IfErr, IfOk, IsTrue, OnOk, Some, map, option_and_then, option_map};
+ghost use Rattle.std.specs.Prelude.{◌≡◌, ◌↔◌, false, pos, IfErr, IfOk, IsTrue, OnOk, Some, map, option_and_then, option_map};
 ghost use Rattle.sqlite.specs.Held.{state};
 ghost use Rattle.sqlite.specs.State.{HasCleanDisk};
 ghost use Rattle.sqlite_value.specs.Value.{owned};
@@ -10,10 +10,11 @@ ghost use Rattle.point_list.specs.Label.{is_label};
 ghost use Rattle.poll_book.specs.Orders.{point_at};
 ghost use Rattle.poll_book.specs.Tables.{Tables};
 ghost use Rattle.office_store.specs.Kept.{Holds, Keeps};
-ghost use Rattle.poll_book.specs.Totals.{is_counter};
+ghost use Rattle.sunspec.specs.Text.{IsScale};
+ghost use Rattle.point_list.specs.Columns.{is_scaled};
 ghost use Rattle.office_store.specs.Swaps.{AreInOrder, plain};
 ghost use Rattle.office_store.specs.Faults.{IsOfForm};
-ghost use Rattle.office_store.specs.Rows.{CanBeListed, described, kind_of, number_below, role_coded, shown_point, table_coded, text_that};
+ghost use Rattle.office_store.specs.Rows.{CanBeListed, can_be, can_roll_at, described, holds, kind_of, number_below, role_coded, shown_point, table_coded, text_that};
 
 use crate::ask::ask;
 use crate::error::fault_of;
@@ -69,15 +70,6 @@ fn role_of(value: ValueRef<'_>) -> Option<Role>
     }
 }
 
-fn is_counter(role: Role) -> bool
-    ensures { result ≡ is_counter role }
-{
-    match role {
-        Role::Counter => true,
-        Role::Gauge | Role::Setting => false,
-    }
-}
-
 fn kind_of(kind: ValueRef<'_>, len: ValueRef<'_>) -> Option<PointType>
     ensures { result ≡ kind_of (owned kind.entry) (owned len.entry) }
 {
@@ -122,17 +114,52 @@ fn point_of(row: &Row) -> Option<PointRow>
     Some(PointRow { number, point })
 }
 
-/// Whether a list can say the point: its type has a size, its last register an address and its scale
-/// a place among -10 to 10, and a counter alone has a roll.
+/// Whether points of the type stand in the table: a bit among bits, and everything else among registers.
+fn holds(table: Table, kind: PointType) -> bool
+    ensures { result ≡ holds table kind }
+{
+    matches!(table, Table::Coil | Table::Discrete) == matches!(kind, PointType::Bit)
+}
+
+/// Whether a point of the type in the table can have the role.
+fn can_be(role: Role, table: Table, kind: PointType) -> bool
+    ensures { result ≡ can_be role table kind }
+{
+    match role {
+        Role::Gauge => true,
+        Role::Counter => kind.counts(),
+        Role::Setting => matches!(table, Table::Coil | Table::Holding) && kind.can_be_set(),
+    }
+}
+
+/// Whether a point of the role and type can have the roll.
+fn can_roll_at(role: Role, kind: PointType, roll: u64) -> bool
+    ensures { result ≡ can_roll_at role kind roll }
+{
+    match role {
+        Role::Counter => 1 <= roll && roll <= kind.greatest(),
+        Role::Gauge | Role::Setting => roll == 0,
+    }
+}
+
+/// Whether a point of the type can have the scale.
+fn can_be_scaled(kind: PointType, scale: i8) -> bool
+    ensures { IsTrue result ↔ (IsScale scale × (is_scaled kind ≡ false → scale ≡ pos 0)) }
+{
+    -10 <= scale && scale <= 10 && (scale == 0 || kind.is_scaled())
+}
+
+/// Whether a list can say the point.
 #[tactic(auto, unfolding(sunspec::specs::PointType::row))]
 fn can_be_listed(point: &Point) -> bool
     ensures { IsTrue result ↔ CanBeListed point.now }
 {
     point.kind.is_sized()
+        && holds(point.table, point.kind)
         && u32::from(point.address) + u32::from(point.kind.registers()) <= 65536
-        && -10 <= point.scale
-        && point.scale <= 10
-        && (point.roll != 0) == is_counter(point.role)
+        && can_be_scaled(point.kind, point.scale)
+        && can_be(point.role, point.table, point.kind)
+        && can_roll_at(point.role, point.kind, point.roll)
 }
 
 /// A point, if a list can say it. No office keeps another.

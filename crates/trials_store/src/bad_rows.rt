@@ -84,6 +84,41 @@ const CASES: &[(&str, &str, &[Comes])] = &[
         &[Opening],
     ),
     (
+        "UPDATE point SET roll = x'0000000000010000' WHERE number = 1",
+        "UPDATE point SET roll = x'000000000000FFFE' WHERE number = 1",
+        &[Opening],
+    ),
+    (
+        "UPDATE point SET role = 2, roll = x'0000000000000001' WHERE number = 3",
+        "UPDATE point SET role = 1, roll = x'0000000000000000' WHERE number = 3",
+        &[Opening],
+    ),
+    (
+        "UPDATE point SET role = 3 WHERE number = 3",
+        "UPDATE point SET role = 1 WHERE number = 3",
+        &[Opening],
+    ),
+    (
+        "UPDATE point SET role = 3, tab = 4 WHERE number = 2",
+        "UPDATE point SET role = 1, tab = 3 WHERE number = 2",
+        &[Opening],
+    ),
+    (
+        "UPDATE point SET kind = 17 WHERE number = 2",
+        "UPDATE point SET kind = 2 WHERE number = 2",
+        &[Opening],
+    ),
+    (
+        "UPDATE point SET tab = 1 WHERE number = 2",
+        "UPDATE point SET tab = 3 WHERE number = 2",
+        &[Opening],
+    ),
+    (
+        "UPDATE point SET scale = 1 WHERE number = 3",
+        "UPDATE point SET scale = 0 WHERE number = 3",
+        &[Opening],
+    ),
+    (
         "UPDATE reading SET counted = 1 WHERE point = 2",
         "UPDATE reading SET counted = 0 WHERE point = 2",
         &[Readings("b")],
