@@ -44,7 +44,9 @@ pub fn addresses_of(alloc: Global, site: &Site) -> Result<Vec<String>, AllocErro
 fn ahead<K: Keeper>(alloc: Global, office: &Office<K>, number: u32, slot: u32) -> Failure {
     let failure = Failure::new(
         Fault::Line,
-        Why::Words("it is counted there, a day from now or later: was the clock or --every another?"),
+        Why::Words(
+            "it is counted there, a day from now or later: was the clock or --every another?",
+        ),
     );
     let Some(row) = office.points().iter().find(|row| row.number == number) else {
         return failure;
