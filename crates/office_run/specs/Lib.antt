@@ -1,3 +1,5 @@
+pub mod Devices
+pub mod Dues
 pub mod Journals
 pub mod Links
 pub mod Noises

@@ -1,7 +1,8 @@
 //! Counters that are counted in slots to come: the clock was another one once, or slots had another length.
-ghost use Rattle.std.specs.Prelude.{◌≡◌, ◌==◌, if◌then◌else◌};
+ghost use Rattle.std.specs.Prelude.{◌≡◌, ◌==◌, ◌↔◌, IsTrue, if◌then◌else◌};
 ghost use Rattle.office_net.specs.Proceeding.{GoesAlong};
 ghost use Rattle.office_run.specs.Outlooks as outlooks;
+ghost use Rattle.office_run.specs.declared.ahead.Outlook.TheVariants as outlook;
 
 use crate::event::Event;
 use crate::journal::Journal;
@@ -143,7 +144,9 @@ pub(crate) struct Lookout {
 
 impl Lookout {
     /// Nothing was looked at.
-    pub fn new() -> Lookout {
+    pub fn new() -> Lookout
+        ensures { result.outlook ≡ outlook.Unknown }
+    {
         Lookout {
             outlook: Outlook::Unknown,
             voids: 0,
@@ -152,7 +155,9 @@ impl Lookout {
     }
 
     /// Whether the counters have to be looked at before a slot is begun.
-    pub fn is_unknown(&self) -> bool {
+    pub fn is_unknown(&self) -> bool
+        ensures { IsTrue result ↔ self.now.outlook ≡ outlook.Unknown }
+    {
         self.outlook == Outlook::Unknown
     }
 

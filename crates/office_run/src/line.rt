@@ -11,7 +11,7 @@ use crate::loss::{Loss, Stop};
 use crate::noise::Noise;
 use crate::round::Kind;
 use crate::station::Stations;
-use crate::times::Times;
+use crate::times::{Times, earlier};
 use crate::window::MOST_WAITING;
 use office_core::{Arrival, Office, OfficeError};
 use office_net::open_line;
@@ -97,14 +97,6 @@ fn is_kept(arrival: Arrival) -> bool {
     matches!(arrival, Arrival::Recorded(1..) | Arrival::Settled)
 }
 
-/// The first of two moments, where there are any.
-fn first(one: Option<Moment>, other: Option<Moment>) -> Option<Moment> {
-    match (one, other) {
-        (Some(one), Some(other)) => Some(one.min(other)),
-        (one, other) => one.or(other),
-    }
-}
-
 impl Line {
     /// A line without a connection, of a name, whose devices are given so many milliseconds.
     pub fn new(alloc: Global, place: u16, name: Text, timeout: u32) -> Line {
@@ -148,7 +140,7 @@ impl Line {
             _ => self.beat.due(),
         };
         match self.stuck {
-            Some(since) => first(due, Some(since.after(self.timeout))),
+            Some(since) => earlier(due, Some(since.after(self.timeout))),
             None => due,
         }
     }

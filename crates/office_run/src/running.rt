@@ -11,7 +11,7 @@ use crate::journal::Journal;
 use crate::line::{Line, Turned};
 use crate::pass::Pass;
 use crate::place::Place;
-use crate::times::Times;
+use crate::times::{Times, earlier};
 use office_core::{Office, OfficeError};
 use office_net::last_order;
 use point_list::Site;
@@ -116,10 +116,7 @@ impl<K: Keeper, S: Sockets> Running<'_, K, S> {
     fn expect(&mut self, due: Option<Moment>)
         ensures { self.new.office ≡ self.old.office }
     {
-        self.due = match (self.due, due) {
-            (Some(first), Some(due)) => Some(first.min(due)),
-            (first, due) => first.or(due),
-        };
+        self.due = earlier(self.due, due);
     }
 
     /// An order for a line was accepted.

@@ -1,4 +1,8 @@
 //! The devices of a line, and what each of them is asked.
+ghost use Rattle.std.specs.Prelude.{◌≡◌};
+ghost use Rattle.std.specs.List.{list_any, position};
+ghost use Rattle.office_run.specs.Devices.{devices_in, is_named, is_under};
+
 use crate::event::Event;
 use crate::journal::Journal;
 use office_net::reads_of;
@@ -82,26 +86,34 @@ impl Stations {
         Ok(())
     }
 
-    pub fn as_slice(&self) -> &[Station] {
+    pub fn as_slice(&self) -> &[Station]
+        ensures { result.now ≡ devices_in self.now }
+    {
         &self.all
     }
 
     /// The place of the device with a unit identifier.
-    pub fn place_of(&self, unit_id: u8) -> Option<usize> {
+    pub fn place_of(&self, unit_id: u8) -> Option<usize>
+        ensures { result ≡ position (is_under unit_id) (devices_in self.now) }
+    {
         self.all
             .iter()
             .position(|station| station.unit_id == unit_id)
     }
 
     /// Whether one of this name is among them.
-    pub fn have(&self, device: &str) -> bool {
+    pub fn have(&self, device: &str) -> bool
+        ensures { result ≡ list_any (is_named device.now) (devices_in self.now) }
+    {
         self.all
             .iter()
             .any(|station| station.name.as_str() == device)
     }
 
     /// The line's name.
-    pub fn line(&self) -> &str {
+    pub fn line(&self) -> &str
+        ensures { result.now ≡ self.now.line }
+    {
         self.line.as_str()
     }
 

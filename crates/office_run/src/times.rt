@@ -1,4 +1,7 @@
 //! What time it is in a turn.
+ghost use Rattle.std.specs.Prelude.{◌≡◌};
+ghost use Rattle.office_run.specs.Dues as dues;
+
 use run_beat::{ClockTime, Moment, Sight, Slots, SocketFault, Sockets, Watch};
 
 /// The seconds of a day.
@@ -16,6 +19,16 @@ pub(crate) struct Times {
     is_held: bool,
     /// Whether the clock jumped ahead since the turn before.
     pub has_jumped: bool,
+}
+
+/// The earlier of two moments, where there are any.
+pub(crate) fn earlier(one: Option<Moment>, other: Option<Moment>) -> Option<Moment>
+    ensures { result ≡ dues.earlier one other }
+{
+    match (one, other) {
+        (Some(one), Some(other)) => Some(one.min(other)),
+        (one, other) => one.or(other),
+    }
 }
 
 impl Times {
