@@ -27,3 +27,5 @@ pub mod Leading
 pub mod Stepped
 pub mod Readable
 pub mod Proceeding
+pub mod OneRound
+pub mod Oldest

@@ -1,5 +1,6 @@
--- How an office goes on by many calls, whoever makes them.
-use Rattle.std.specs.Prelude.{true, false, List, [], ◌∷◌}
+-- How an office goes on by many calls, whoever makes them, where each does what is of a kind: which events may be made
+-- of a history.
+use Rattle.std.specs.Prelude.{true, false, List, [], ◌∷◌, ⊤}
 use Rattle.poll_book.specs.declared.keeper.Neighbours.{Ghosts}
 use Rattle.poll_book.specs.Tables.{Tables, Within}
 use Rattle.office_core.specs.declared.office.Office.{Office}
@@ -27,16 +28,24 @@ LeftBySteps might now (Did event ∷ steps) =
 LeftBySteps might now (Missed event ∷ steps) =
     LeftAfter (LeftBySteps might now steps) (tables (stepped now steps)) (tables (event ∷ stepped now steps)) true
 
--- steps that lead on from a history to one that is stood for
-pub record Course (stands : History → Type 0) (might may : Tables → Type 0) (now : History) : Type 0 where
+-- each step's event is of the kind, at the history at which it happened or was refused
+abbrev pub AreOf : (History → Happening → Type 0) → History → List Step → Type 0
+AreOf kind now [] = ⊤
+AreOf kind now (Did event ∷ steps) = kind (stepped now steps) event × AreOf kind now steps
+AreOf kind now (Missed event ∷ steps) = kind (stepped now steps) event × AreOf kind now steps
+
+-- steps of a kind that lead on from a history to one that is stood for
+pub record Course (kind : History → Happening → Type 0) (stands : History → Type 0) (might may : Tables → Type 0) (now : History) : Type 0 where
   pub steps : List Step
+  pub are : AreOf kind now steps
   pub follows : stands (stepped now steps)
   pub leaves : Within may (LeftBySteps might now steps)
 
-abbrev pub Proceeds : (History → Type 0) → (History → Type 0) → (Tables → Type 0) → (Tables → Type 0) → Type 0
-Proceeds stood stands might may = (now : History) → stood now → Course stands might may now
+abbrev pub Proceeds : (History → Happening → Type 0) → (History → Type 0) → (History → Type 0) → (Tables → Type 0) → (Tables → Type 0) → Type 0
+Proceeds kind stood stands might may = (now : History) → stood now → Course kind stands might may now
 
--- whatever history the one followed, it goes on to one that the other follows, unless its keeper failed to undo a change
-abbrev pub GoesAlong : {K : Type 0} {g : Ghosts K} → Office K g → Office K g → Type 0
-GoesAlong {g = g} office office' =
-    g.is_clean (keeper_of office') → g.is_clean (keeper_of office) × Proceeds (Follows office) (Follows office') (MayLeave office) (MayLeave office')
+-- whatever history the one followed, it goes on by steps of a kind to one that the other follows, unless its keeper
+-- failed to undo a change
+abbrev pub GoesAlong : {K : Type 0} {g : Ghosts K} → (History → Happening → Type 0) → Office K g → Office K g → Type 0
+GoesAlong {g = g} kind office office' =
+    g.is_clean (keeper_of office') → g.is_clean (keeper_of office) × Proceeds kind (Follows office) (Follows office') (MayLeave office) (MayLeave office')

@@ -2,6 +2,7 @@
 ghost use Rattle.std.specs.Prelude.{◌≡◌, ◌<◌, ◌+◌, IfOk};
 ghost use Rattle.office_net.specs.Counting as counting;
 ghost use Rattle.office_net.specs.Counting.{IsLastCounted, Learnt};
+ghost use Rattle.office_net.specs.Kinds.{Nothing};
 ghost use Rattle.office_net.specs.Proceeding.{GoesAlong};
 
 use crate::calls::value_after;
@@ -15,7 +16,7 @@ fn is_counted_after<K: Keeper>(
     slot: u32,
 ) -> Result<bool, OfficeError>
     ensures value { IfOk result (λ is. Learnt office.old office.new (λ now. is ≡ counting.is_counted_after now point.now slot)) }
-    ensures along { GoesAlong office.old office.new }
+    ensures along { GoesAlong Nothing office.old office.new }
 {
     let value = value_after(office, point, slot)?;
     Ok(value.is_some())
@@ -38,7 +39,7 @@ pub fn last_counted<K: Keeper>(
     after: u32,
 ) -> Result<Option<u32>, OfficeError>
     ensures value { IfOk result (λ last. Learnt office.old office.new (λ now. IsLastCounted now point.now after last)) }
-    ensures along { GoesAlong office.old office.new }
+    ensures along { GoesAlong Nothing office.old office.new }
 {
     let is_ahead = is_counted_after(office, point, after)?;
     if !is_ahead || after == u32::MAX {

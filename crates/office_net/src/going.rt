@@ -3,7 +3,10 @@ ghost use Rattle.std.specs.Prelude.{◌≡◌, IfOk};
 ghost use Rattle.poll_book.specs.Orders as orders;
 ghost use Rattle.office_core.specs.History.{History, settings};
 ghost use Rattle.office_core.specs.Offices.{keeper_of};
+ghost use Rattle.office_http.specs.Heard.{meaning_of};
+ghost use Rattle.office_net.specs.Counting.{Learnt};
 ghost use Rattle.office_net.specs.Following.{Follows};
+ghost use Rattle.office_net.specs.Kinds.{Asks, Does, Hears, IsOldest, Nothing, Opens, SendsUpTo};
 ghost use Rattle.office_net.specs.Proceeding.{GoesAlong};
 
 use crate::answering::respond;
@@ -13,14 +16,14 @@ use mb_mbap::Frame;
 use office_core::laws::any_message;
 use office_core::{Arrival, Office, OfficeError};
 use office_http::Heard;
-use poll_book::{Keeper, SettingRow, StoreFault};
+use poll_book::{Keeper, StoreFault};
 use poll_match::Conn;
 use read_planner::Read;
 use std::alloc::Global;
 
 /// Opens a line by its name, and closes its former connection. It refuses as `Office::open_line` does.
 pub fn open_line<K: Keeper>(office: &mut Office<K>, line: &str) -> Result<Conn, OfficeError>
-    ensures { GoesAlong office.old office.new }
+    ensures { GoesAlong (Opens line.now) office.old office.new }
 {
     any_message();
     are_bytes(line.as_bytes());
@@ -34,7 +37,7 @@ pub fn take_late<K: Keeper>(
     conn: Conn,
     frame: &Frame,
 ) -> Result<Arrival, OfficeError>
-    ensures { GoesAlong office.old office.new }
+    ensures { GoesAlong (Hears conn frame.now) office.old office.new }
 {
     any_message();
     are_bytes(frame.unit.as_bytes());
@@ -47,7 +50,7 @@ pub fn respond_among<K: Keeper>(
     office: &mut Office<K>,
     asked: &Heard,
 ) -> Result<String, StoreFault>
-    ensures { GoesAlong office.old office.new }
+    ensures { GoesAlong (Does (meaning_of asked.now)) office.old office.new }
 {
     respond(alloc, office, asked)
 }
@@ -56,7 +59,7 @@ pub fn respond_among<K: Keeper>(
 pub fn last_order<K: Keeper>(office: &mut Office<K>) -> Result<u32, OfficeError>
     ensures value { K.is_clean (keeper_of office.new) → (now : History) → Follows office.old now
         → IfOk result (λ number. number ≡ orders.last_order (settings now)) }
-    ensures along { GoesAlong office.old office.new }
+    ensures along { GoesAlong Nothing office.old office.new }
 {
     orders(office)
 }
@@ -70,26 +73,21 @@ pub fn ask_among<K: Keeper>(
     device: &str,
     read: &Read,
 ) -> Result<Option<Frame>, OfficeError>
-    ensures { GoesAlong office.old office.new }
+    ensures { GoesAlong (Asks conn slot device.now read.now) office.old office.new }
 {
     ask_lacking(office, conn, slot, device, read)
 }
 
-/// The oldest order that waits on a device.
-fn oldest<K: Keeper>(
-    office: &mut Office<K>,
-    device: &str,
-) -> Result<Option<SettingRow>, OfficeError>
-    ensures { GoesAlong office.old office.new }
+/// The number of the oldest order that waits on a device.
+fn oldest<K: Keeper>(office: &mut Office<K>, device: &str) -> Result<Option<u32>, OfficeError>
+    ensures value { IfOk result (λ number. Learnt office.old office.new (λ now. IsOldest now device.now number)) }
+    ensures along { GoesAlong Nothing office.old office.new }
 {
-    waiting(office, device)
-}
-
-/// An order is sent.
-fn send<K: Keeper>(office: &mut Office<K>, conn: Conn, number: u32) -> Result<Frame, OfficeError>
-    ensures { GoesAlong office.old office.new }
-{
-    send_order(office, conn, number)
+    let found = waiting(office, device)?;
+    match found {
+        Some(order) => Ok(Some(order.number)),
+        None => Ok(None),
+    }
 }
 
 /// Sends the oldest order that waits on a device, if its number is at most `last`. It refuses as `Office::waiting` and
@@ -100,11 +98,12 @@ pub fn send_among<K: Keeper>(
     device: &str,
     last: u32,
 ) -> Result<Option<Frame>, OfficeError>
-    ensures { GoesAlong office.old office.new }
+    ensures { GoesAlong (SendsUpTo last conn device.now) office.old office.new }
 {
-    match oldest(office, device)? {
-        Some(order) if order.number <= last => {
-            let query = send(office, conn, order.number)?;
+    let number = oldest(office, device)?;
+    match number {
+        Some(number) if number <= last => {
+            let query = send_order(office, conn, number)?;
             Ok(Some(query))
         }
         _ => Ok(None),

@@ -44,7 +44,8 @@ pub struct Poll {
 }
 
 impl Poll {
-    ghost use Rattle.office_net.specs.Stages.{Asked, BreaksOff, GoesOn, HasTurn, IsDone, IsNew, IsWaiting, Passed, Took, as_list, counts_of, left_of, own, taken_of};
+    ghost use Rattle.office_net.specs.Kinds.{HearsIn, TurnIn};
+    ghost use Rattle.office_net.specs.Stages.{Asked, BreaksOff, GoesOn, HasTurn, IsDone, IsNew, IsSame, IsWaiting, Passed, Took, as_list, counts_of, left_of, own, taken_of};
 
     /// A round of these jobs, in this order, over a connection.
     pub fn new(conn: Conn, slot: u32, jobs: Vec<LineJob>) -> Poll
@@ -127,7 +128,8 @@ impl Poll {
         ensures goes { K.is_clean (keeper_of office.new) → MatchResult result
             (λ query. GoesOn office.old self.old office.new self.new [] (as_list query))
             (λ fault. BreaksOff office.old self.old office.new self.new [] [] [] fault) }
-        ensures along { GoesAlong office.old office.new }
+        ensures along { GoesAlong (TurnIn self.old) office.old office.new }
+        ensures same { IsSame self.old self.new }
         ensures cause { IfErr result (λ fault. IsCaused ⊥ (CauseFrom office.old office.new) fault) }
         ensures counted { K.refused (keeper_of office.old) ≤ K.refused (keeper_of office.new) }
         ensures clean { K.is_clean (keeper_of office.new) → K.is_clean (keeper_of office.old) }
@@ -152,7 +154,7 @@ impl Poll {
         ensures goes { K.is_clean (keeper_of office.new) → MatchResult result
             (λ query. GoesOn office.old self.old office.new self.new [] (as_list query))
             (λ fault. BreaksOff office.old self.old office.new self.new [] [] [] fault) }
-        ensures along { GoesAlong office.old office.new }
+        ensures along { GoesAlong (TurnIn self.old) office.old office.new }
         ensures cause { IfErr result (λ fault. IsCaused ⊥ (CauseFrom office.old office.new) fault) }
         ensures counted { K.refused (keeper_of office.old) ≤ K.refused (keeper_of office.new) }
         ensures clean { K.is_clean (keeper_of office.new) → K.is_clean (keeper_of office.old) }
@@ -217,7 +219,7 @@ impl Poll {
         ensures goes { K.is_clean (keeper_of office.new) → MatchResult result
             (λ _. GoesOn office.old self.old office.new self.new (frame.now ∷ []) [])
             (λ fault. BreaksOff office.old self.old office.new self.new [] (frame.now ∷ []) [] fault) }
-        ensures along { GoesAlong office.old office.new }
+        ensures along { GoesAlong (HearsIn self.old frame.now) office.old office.new }
         ensures cause { IfErr result (λ fault. IsCaused ⊥ (CauseFrom office.old office.new) fault) }
         ensures counted { K.refused (keeper_of office.old) ≤ K.refused (keeper_of office.new) }
         ensures clean { K.is_clean (keeper_of office.new) → K.is_clean (keeper_of office.old) }

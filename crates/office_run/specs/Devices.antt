@@ -1,5 +1,6 @@
 -- The devices of a line.
 use Rattle.std.specs.Prelude.{ℕ, Bool, ◌==◌, List}
+use Rattle.std.specs.Str.{bytes_eq}
 use Rattle.office_run.specs.declared.station.Station.{Station}
 use Rattle.office_run.specs.declared.station.Stations.{Stations}
 
@@ -13,4 +14,4 @@ is_under unit_id station = station.unit_id == unit_id
 
 -- it has this name
 abbrev pub is_named : List ℕ → Station → Bool
-is_named name station = station.name == name
+is_named name station = bytes_eq station.name name

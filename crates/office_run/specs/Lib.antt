@@ -1,4 +1,5 @@
 pub mod Devices
+pub mod Doings
 pub mod Dues
 pub mod Journals
 pub mod Links

@@ -1,5 +1,6 @@
 //! A caller's exchange.
 ghost use Rattle.office_net.specs.Proceeding.{GoesAlong};
+ghost use Rattle.office_run.specs.Doings.{Runs};
 
 use crate::moved::Moved;
 use office_core::{Office, OfficeError};
@@ -94,8 +95,8 @@ fn line_of<K: Keeper>(office: &Office<K>, point: &str) -> Option<u16> {
 }
 
 /// The number of the last order, where the store tells it.
-fn orders_of<K: Keeper>(office: &mut Office<K>) -> Result<u32, StoreFault>
-    ensures { GoesAlong office.old office.new }
+pub(crate) fn orders_of<K: Keeper>(office: &mut Office<K>) -> Result<u32, StoreFault>
+    ensures { GoesAlong Runs office.old office.new }
 {
     match last_order(office) {
         Ok(number) => Ok(number),
@@ -106,9 +107,20 @@ fn orders_of<K: Keeper>(office: &mut Office<K>) -> Result<u32, StoreFault>
 
 /// Whether there are other orders than up to this number; also where the store doesn't tell it.
 fn has_more<K: Keeper>(office: &mut Office<K>, before: u32) -> bool
-    ensures { GoesAlong office.old office.new }
+    ensures { GoesAlong Runs office.old office.new }
 {
     orders_of(office) != Ok(before)
+}
+
+/// Does what was asked for, and gives the bytes of the answer.
+fn done<K: Keeper>(
+    alloc: Global,
+    office: &mut Office<K>,
+    heard: &Heard,
+) -> Result<String, StoreFault>
+    ensures { GoesAlong Runs office.old office.new }
+{
+    respond_among(alloc, office, heard)
 }
 
 impl Caller {
@@ -171,10 +183,10 @@ impl Caller {
         heard: &Heard,
         point: &str,
     ) -> Result<String, StoreFault>
-        ensures { GoesAlong office.old office.new }
+        ensures { GoesAlong Runs office.old office.new }
     {
         let before = orders_of(office)?;
-        let text = respond_among(self.alloc, office, heard)?;
+        let text = done(self.alloc, office, heard)?;
         if has_more(office, before) {
             self.news.ordered = line_of(office, point);
         }
@@ -187,22 +199,22 @@ impl Caller {
         office: &mut Office<K>,
         heard: &Heard,
     ) -> Result<String, StoreFault>
-        ensures { GoesAlong office.old office.new }
+        ensures { GoesAlong Runs office.old office.new }
     {
         match heard {
             Heard::Order { point, .. } => self.order(office, heard, point.as_str()),
             Heard::Void { .. } => {
                 self.news.has_voided = true;
-                respond_among(self.alloc, office, heard)
+                done(self.alloc, office, heard)
             }
-            _ => respond_among(self.alloc, office, heard),
+            _ => done(self.alloc, office, heard),
         }
     }
 
     /// Does what was asked for, and puts the answer there to be written: where it is one, it is so only once what was
     /// asked for is done.
     fn answer<K: Keeper>(&mut self, office: &mut Office<K>, heard: &Heard) -> Result<(), AllocError>
-        ensures { GoesAlong office.old office.new }
+        ensures { GoesAlong Runs office.old office.new }
     {
         self.mood = Mood::Answering;
         match self.respond(office, heard) {
@@ -216,7 +228,7 @@ impl Caller {
 
     /// Takes bytes of the request.
     fn hear<K: Keeper>(&mut self, office: &mut Office<K>, piece: &[u8]) -> Result<(), AllocError>
-        ensures { GoesAlong office.old office.new }
+        ensures { GoesAlong Runs office.old office.new }
     {
         match self.exchange.take(piece) {
             Ok(None) => {
@@ -239,7 +251,7 @@ impl Caller {
         source: Source,
         now: Moment,
     ) -> Result<bool, Gone>
-        ensures { GoesAlong office.old office.new }
+        ensures { GoesAlong Runs office.old office.new }
     {
         let mut piece = [0u8; PIECE];
         match (sockets.read(source, &mut piece), self.mood) {
@@ -296,7 +308,7 @@ impl Caller {
         source: Source,
         now: Moment,
     ) -> Result<bool, Gone>
-        ensures { GoesAlong office.old office.new }
+        ensures { GoesAlong Runs office.old office.new }
     {
         if self.due() <= now {
             return Err(Gone);

@@ -1,6 +1,7 @@
 //! A line of the site: its connection, its rounds, and when something of it is due.
 ghost use Rattle.std.specs.Prelude.{◌≡◌};
 ghost use Rattle.office_net.specs.Proceeding.{GoesAlong};
+ghost use Rattle.office_run.specs.Doings.{Runs};
 ghost use Rattle.run_beat.specs.Beats.{Wants};
 
 use crate::ahead::{Ahead, Lookout};
@@ -225,7 +226,7 @@ impl Line {
         journal: &mut Journal,
         now: Moment,
     ) -> Result<(), Loss>
-        ensures { GoesAlong office.old office.new }
+        ensures { GoesAlong Runs office.old office.new }
     {
         let conn = match open_line(office, self.stations.line()) {
             Ok(conn) => conn,
@@ -249,7 +250,7 @@ impl Line {
         journal: &mut Journal,
         now: Moment,
     ) -> Result<bool, Stop>
-        ensures { GoesAlong office.old office.new }
+        ensures { GoesAlong Runs office.old office.new }
     {
         match sockets.connected(self.place()) {
             Connected::Yes => {
@@ -268,7 +269,7 @@ impl Line {
         journal: &mut Journal,
         now: Moment,
     ) -> Result<bool, Stop>
-        ensures { GoesAlong office.old office.new }
+        ensures { GoesAlong Runs office.old office.new }
     {
         let Some(link) = &mut self.link else {
             return Err(Stop::Lost(Loss::Ended));
@@ -296,7 +297,7 @@ impl Line {
         journal: &mut Journal,
         now: Moment,
     ) -> Result<(), Stop>
-        ensures { GoesAlong office.old office.new }
+        ensures { GoesAlong Runs office.old office.new }
     {
         for _ in 0..PIECE {
             let may_go_on = self.take_one(office, journal, now)?;
@@ -314,7 +315,7 @@ impl Line {
         journal: &mut Journal,
         now: Moment,
     ) -> Result<(), Stop>
-        ensures { GoesAlong office.old office.new }
+        ensures { GoesAlong Runs office.old office.new }
     {
         self.take_some(office, journal, now)?;
         if self.noise.is_too_much() {
@@ -354,7 +355,7 @@ impl Line {
         journal: &mut Journal,
         now: Moment,
     ) -> Result<bool, Stop>
-        ensures { GoesAlong office.old office.new }
+        ensures { GoesAlong Runs office.old office.new }
     {
         let has_come = self.read(sockets)?;
         if has_come {
@@ -382,7 +383,7 @@ impl Line {
 
     /// Tells the round that is under way that orders came, where they did.
     fn wake<K: Keeper>(&mut self, office: &mut Office<K>, orders: u64) -> Result<(), Stop>
-        ensures { GoesAlong office.old office.new }
+        ensures { GoesAlong Runs office.old office.new }
     {
         if self.woken == orders {
             return Ok(());
@@ -399,7 +400,7 @@ impl Line {
 
     /// Makes the queries that may be made, where a round is under way.
     fn ask<K: Keeper>(&mut self, office: &mut Office<K>, now: Moment) -> Result<(), Stop>
-        ensures { GoesAlong office.old office.new }
+        ensures { GoesAlong Runs office.old office.new }
     {
         match &mut self.link {
             Some(link) => link.ask(office, &self.stations, now),
@@ -414,7 +415,7 @@ impl Line {
         orders: u64,
         now: Moment,
     ) -> Result<(), Stop>
-        ensures { GoesAlong office.old office.new }
+        ensures { GoesAlong Runs office.old office.new }
     {
         self.wake(office, orders)?;
         self.ask(office, now)
@@ -427,7 +428,7 @@ impl Line {
         times: Times,
         orders: u64,
     ) -> Result<(), Stop>
-        ensures { GoesAlong office.old office.new }
+        ensures { GoesAlong Runs office.old office.new }
     {
         let now = times.now;
         let has_begun = self.start(office, times, orders)?;
@@ -531,7 +532,7 @@ impl Line {
         orders: u64,
     ) -> Result<(), Stop>
         requires { Wants self.old.beat slot }
-        ensures { GoesAlong office.old office.new }
+        ensures { GoesAlong Runs office.old office.new }
     {
         self.stations
             .plan(self.alloc, office.site(), office.points(), self.place)?;
@@ -549,7 +550,7 @@ impl Line {
 
     /// Looks whether its counters are counted in slots to come, where a slot is to be begun, and that isn't known.
     fn look<K: Keeper>(&mut self, office: &mut Office<K>, slot: u32) -> Result<(), Stop>
-        ensures { GoesAlong office.old office.new }
+        ensures { GoesAlong Runs office.old office.new }
     {
         if !self.lookout.is_unknown() || !self.beat.wants(slot) {
             return Ok(());
@@ -562,7 +563,7 @@ impl Line {
 
     /// The same, and stops where one is counted in a slot that is far.
     fn look_ahead<K: Keeper>(&mut self, office: &mut Office<K>, times: &Times) -> Result<(), Stop>
-        ensures { GoesAlong office.old office.new }
+        ensures { GoesAlong Runs office.old office.new }
     {
         let Some(slot) = times.slot() else {
             return Ok(());
@@ -583,7 +584,7 @@ impl Line {
         times: Times,
         orders: u64,
     ) -> Result<bool, Stop>
-        ensures { GoesAlong office.old office.new }
+        ensures { GoesAlong Runs office.old office.new }
     {
         let is_due = self.retry.is_some_and(|moment| moment <= times.now);
         if is_due {
@@ -650,7 +651,7 @@ impl Line {
         times: &Times,
         orders: u64,
     ) -> Result<(), Stop>
-        ensures { GoesAlong office.old office.new }
+        ensures { GoesAlong Runs office.old office.new }
     {
         let now = times.now;
         self.give_up(now);
@@ -666,7 +667,7 @@ impl Line {
         times: Times,
         orders: u64,
     ) -> Result<(), Stop>
-        ensures { GoesAlong office.old office.new }
+        ensures { GoesAlong Runs office.old office.new }
     {
         self.go_on_round(office, journal, &times, orders)?;
         self.look_ahead(office, &times)?;
@@ -682,7 +683,7 @@ impl Line {
         times: Times,
         orders: u64,
     ) -> Result<bool, Stop>
-        ensures { GoesAlong office.old office.new }
+        ensures { GoesAlong Runs office.old office.new }
     {
         let now = times.now;
         if let Some(slot) = times.slot() {
@@ -703,7 +704,7 @@ impl Line {
         times: Times,
         orders: u64,
     ) -> Result<bool, Stop>
-        ensures { GoesAlong office.old office.new }
+        ensures { GoesAlong Runs office.old office.new }
     {
         let now = times.now;
         match self.beat.stage() {
@@ -735,7 +736,7 @@ impl Line {
         times: Times,
         orders: u64,
     ) -> Turned
-        ensures { GoesAlong office.old office.new }
+        ensures { GoesAlong Runs office.old office.new }
     {
         let now = times.now;
         let slot = times.slot();

@@ -1,6 +1,7 @@
 //! A connection to a line that stands, and the round that is under way over it.
 ghost use Rattle.std.specs.Prelude.{◌≡◌, ◌≤◌, ◌<◌, drop, length};
 ghost use Rattle.office_net.specs.Proceeding.{GoesAlong};
+ghost use Rattle.office_run.specs.Doings.{Runs};
 ghost use Rattle.office_run.specs.Links.{asked_in, waiting_in};
 
 use crate::journal::Journal;
@@ -96,7 +97,7 @@ impl Link {
         kind: Kind,
         now: Moment,
     ) -> Result<(), OfficeError>
-        ensures { GoesAlong office.old office.new }
+        ensures { GoesAlong Runs office.old office.new }
     {
         self.round = Some(Round::begin(self.alloc, office, devices, slot, kind, now)?);
         Ok(())
@@ -122,7 +123,7 @@ impl Link {
         office: &mut Office<K>,
         stations: &Stations,
     ) -> Result<Option<Asked>, OfficeError>
-        ensures along { GoesAlong office.old office.new }
+        ensures along { GoesAlong Runs office.old office.new }
         ensures window { asked_in self.new ≡ asked_in self.old }
     {
         match &mut self.round {
@@ -138,7 +139,7 @@ impl Link {
         stations: &Stations,
         now: Moment,
     ) -> Result<bool, Stop>
-        ensures { GoesAlong office.old office.new }
+        ensures { GoesAlong Runs office.old office.new }
     {
         if self.window.len() >= MOST_WAITING {
             return Ok(false);
@@ -157,7 +158,7 @@ impl Link {
         stations: &Stations,
         now: Moment,
     ) -> Result<(), Stop>
-        ensures { GoesAlong office.old office.new }
+        ensures { GoesAlong Runs office.old office.new }
     {
         for _ in 0..MOST_WAITING {
             let has_asked = self.ask_one(office, stations, now)?;
@@ -216,7 +217,7 @@ impl Link {
         frame: &Frame,
         now: Moment,
     ) -> Taken
-        ensures { GoesAlong office.old office.new }
+        ensures { GoesAlong Runs office.old office.new }
     {
         match take_late(office, self.conn, frame) {
             Ok(arrival) => {
@@ -240,7 +241,7 @@ impl Link {
         journal: &mut Journal,
         now: Moment,
     ) -> Result<Option<Taken>, Loss>
-        ensures { GoesAlong office.old office.new }
+        ensures { GoesAlong Runs office.old office.new }
     {
         match (self.frames.pop_front(), self.fault) {
             (Some(frame), _) => {
@@ -278,7 +279,7 @@ impl Link {
         office: &mut Office<K>,
         stations: &Stations,
     ) -> Result<(), OfficeError>
-        ensures { GoesAlong office.old office.new }
+        ensures { GoesAlong Runs office.old office.new }
     {
         match &mut self.round {
             Some(round) => round.wake(office, stations),

@@ -1,5 +1,6 @@
 //! A caller's place.
 ghost use Rattle.office_net.specs.Proceeding.{GoesAlong};
+ghost use Rattle.office_run.specs.Doings.{Runs};
 
 use crate::caller::{Caller, Gone, Hold, News};
 use office_core::Office;
@@ -81,7 +82,7 @@ impl Place {
         sockets: &mut S,
         now: Moment,
     ) -> bool
-        ensures { GoesAlong office.old office.new }
+        ensures { GoesAlong Runs office.old office.new }
     {
         let Some(caller) = &mut self.caller else {
             let is_taken = sockets.accept(self.at);

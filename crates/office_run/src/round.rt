@@ -1,6 +1,7 @@
 //! A round of a line: of each of its devices the orders that waited as it began, and then its reads.
 ghost use Rattle.std.specs.Prelude.{◌≡◌};
 ghost use Rattle.office_net.specs.Proceeding.{GoesAlong};
+ghost use Rattle.office_run.specs.Doings.{Runs};
 
 use crate::share::Share;
 use crate::station::{Station, Stations};
@@ -56,7 +57,7 @@ impl Round {
         kind: Kind,
         now: Moment,
     ) -> Result<Round, OfficeError>
-        ensures { GoesAlong office.old office.new }
+        ensures { GoesAlong Runs office.old office.new }
     {
         let last = last_order(office)?;
         Ok(Round {
@@ -99,7 +100,7 @@ impl Round {
         at: usize,
         station: &Station,
     ) -> Result<Option<Frame>, OfficeError>
-        ensures { GoesAlong office.old office.new }
+        ensures { GoesAlong Runs office.old office.new }
     {
         let Some(share) = self.shares.get_mut(at) else {
             return Ok(None);
@@ -125,7 +126,7 @@ impl Round {
         station: &Station,
         window: &Window,
     ) -> Result<Option<Frame>, OfficeError>
-        ensures { GoesAlong office.old office.new }
+        ensures { GoesAlong Runs office.old office.new }
     {
         if station.is_silent && window.has(at) {
             return Ok(None);
@@ -154,7 +155,7 @@ impl Round {
         conn: Conn,
         stations: &[Station],
     ) -> Result<Option<Asked>, OfficeError>
-        ensures { GoesAlong office.old office.new }
+        ensures { GoesAlong Runs office.old office.new }
     {
         for (device, station) in stations.iter().enumerate() {
             if let Some(query) = self.order_of(office, conn, device, station)? {
@@ -176,7 +177,7 @@ impl Round {
         stations: &[Station],
         window: &Window,
     ) -> Result<Option<Asked>, OfficeError>
-        ensures { GoesAlong office.old office.new }
+        ensures { GoesAlong Runs office.old office.new }
     {
         for (device, station) in stations.iter().enumerate() {
             if let Some(query) = self.read_of(office, conn, device, station, window)? {
@@ -198,7 +199,7 @@ impl Round {
         stations: &[Station],
         window: &Window,
     ) -> Result<Option<Asked>, OfficeError>
-        ensures { GoesAlong office.old office.new }
+        ensures { GoesAlong Runs office.old office.new }
     {
         let order = self.next_order(office, conn, stations)?;
         if order.is_some() || self.kind == Kind::OrdersAlone {
@@ -215,7 +216,7 @@ impl Round {
         stations: &Stations,
         window: &Window,
     ) -> Result<Option<Asked>, OfficeError>
-        ensures { GoesAlong office.old office.new }
+        ensures { GoesAlong Runs office.old office.new }
     {
         let asked = self.next_asked(office, conn, stations.as_slice(), window)?;
         self.is_idle = asked.is_none();
@@ -262,7 +263,7 @@ impl Round {
         office: &mut Office<K>,
         stations: &Stations,
     ) -> Result<(), OfficeError>
-        ensures { GoesAlong office.old office.new }
+        ensures { GoesAlong Runs office.old office.new }
     {
         let last = last_order(office)?;
         for (place, station) in stations.as_slice().iter().enumerate() {

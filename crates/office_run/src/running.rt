@@ -2,18 +2,18 @@
 ghost use Rattle.std.specs.Prelude.{◌≡◌, ◌||◌, is_some, ⊤};
 ghost use Rattle.std.proofs.Common.{refl, ◌∙◌};
 ghost use Rattle.office_net.specs.Proceeding.{GoesAlong};
+ghost use Rattle.office_run.specs.Doings.{Runs};
 ghost use Rattle.office_net.proofs.Proceeding.{along_still, along_then};
 
 use crate::ahead::Ahead;
-use crate::caller::{Hold, News};
+use crate::caller::{Hold, News, orders_of};
 use crate::event::Event;
 use crate::journal::Journal;
 use crate::line::{Line, Turned};
 use crate::pass::Pass;
 use crate::place::Place;
 use crate::times::{Times, earlier};
-use office_core::{Office, OfficeError};
-use office_net::last_order;
+use office_core::Office;
 use point_list::Site;
 use poll_book::{Keeper, StoreFault};
 use run_beat::{
@@ -130,15 +130,15 @@ impl<K: Keeper, S: Sockets> Running<'_, K, S> {
 
     /// The store refused something: where a file failed it is asked once more, and is broken where it fails again.
     fn note_refusal(&mut self, fault: StoreFault)
-        ensures { (self.new.office.ghost_name ≡ self.old.office.ghost_name) × GoesAlong self.old.office.now self.new.office.now }
+        ensures { (self.new.office.ghost_name ≡ self.old.office.ghost_name) × GoesAlong Runs self.old.office.now self.new.office.now }
     {
         if self.refused != Some(fault) {
             self.refused = Some(fault);
             self.journal.tell(&Event::Refused(fault));
         }
         if fault == StoreFault::Disk {
-            let again = last_order(self.office);
-            if matches!(again, Err(OfficeError::Store(StoreFault::Disk))) {
+            let again = orders_of(self.office);
+            if again == Err(StoreFault::Disk) {
                 self.fault = Some(RunFault::Store(fault));
             }
         }
@@ -156,7 +156,7 @@ impl<K: Keeper, S: Sockets> Running<'_, K, S> {
 
     /// A line had its turn.
     fn note_line(&mut self, line: &Line, turned: Turned)
-        ensures { (self.new.office.ghost_name ≡ self.old.office.ghost_name) × GoesAlong self.old.office.now self.new.office.now }
+        ensures { (self.new.office.ghost_name ≡ self.old.office.ghost_name) × GoesAlong Runs self.old.office.now self.new.office.now }
     {
         self.note_turn(line, &turned);
         if let Some(fault) = turned.refused {
@@ -248,7 +248,7 @@ impl<K: Keeper, S: Sockets> Running<'_, K, S> {
 
     /// A place did something.
     fn note_place(&mut self, place: &mut Place)
-        ensures { (self.new.office.ghost_name ≡ self.old.office.ghost_name) × GoesAlong self.old.office.now self.new.office.now }
+        ensures { (self.new.office.ghost_name ≡ self.old.office.ghost_name) × GoesAlong Runs self.old.office.now self.new.office.now }
     {
         self.note(place);
         if let Some(news) = place.news() {
@@ -258,7 +258,7 @@ impl<K: Keeper, S: Sockets> Running<'_, K, S> {
 
     /// What became of what a caller asked for.
     fn note_news(&mut self, news: News)
-        ensures { (self.new.office.ghost_name ≡ self.old.office.ghost_name) × GoesAlong self.old.office.now self.new.office.now }
+        ensures { (self.new.office.ghost_name ≡ self.old.office.ghost_name) × GoesAlong Runs self.old.office.now self.new.office.now }
     {
         if let Some(line) = news.ordered {
             self.wake(line);
@@ -360,7 +360,7 @@ impl<K: Keeper, S: Sockets> Running<'_, K, S> {
 impl<K: Keeper, S: Sockets> World for Running<'_, K, S> {
     // The office is the same one, and whatever history it followed, it goes on to one that it follows then.
     ghost goes = { λ old new. (new.office.ghost_name ≡ old.office.ghost_name)
-        × GoesAlong old.office.now new.office.now };
+        × GoesAlong Runs old.office.now new.office.now };
 
     ghost stopped = { λ world. is_some world.fault || S.stopped world.sockets.now };
 
@@ -468,7 +468,7 @@ fn turns<K: Keeper, S: Sockets>(
     places: &mut Vec<Place>,
     outset: Outset,
 ) -> Result<(), RunFault>
-    ensures { GoesAlong office.old office.new }
+    ensures { GoesAlong Runs office.old office.new }
 {
     let mut world = Running {
         office,
@@ -508,7 +508,7 @@ pub fn run<K: Keeper, S: Sockets>(
     slots: Slots,
     timeout: u32,
 ) -> Result<(), RunFault>
-    ensures { GoesAlong office.old office.new }
+    ensures { GoesAlong Runs office.old office.new }
 {
     let mut lines = lines_of(alloc, office.site(), timeout)?;
     let mut places = places(alloc)?;

@@ -1,7 +1,6 @@
 use Rattle.std.proofs.Common.{ap, ◌∙◌}
 use Rattle.std.specs.Prelude.{is_some}
-use Rattle.office_net.specs.Following.{Follows, MayLeave}
-use Rattle.office_net.proofs.Proceeding.{still}
+use Rattle.office_net.proofs.Proceeding.{along_stays}
 use Rattle.office_net.proofs.counting.is_counted_after.Goals as goal
 
 pub returns-clause-value : goal.returns-clause-value
@@ -14,13 +13,7 @@ returns-clause-value g c = λ clean. (
 )
 
 pub returns-clause-along : goal.returns-clause-along
-returns-clause-along g c = λ clean.
-    let old = c.args.office.now in
-    let new = c.value_after.new.office in
-    (c.value_after.ensures.clean clean, still (Follows old) (Follows new) (MayLeave old) (MayLeave new) (c.value_after.ensures.stays clean))
+returns-clause-along g c = along_stays c.args.office.now c.value_after.new.office c.value_after.ensures.clean c.value_after.ensures.stays
 
 pub returns-in_err-value-clause-along : goal.returns-in_err-value-clause-along
-returns-in_err-value-clause-along g c = λ clean.
-    let old = c.args.office.now in
-    let new = c.value_after.new.office in
-    (c.value_after.ensures.clean clean, still (Follows old) (Follows new) (MayLeave old) (MayLeave new) (c.value_after.ensures.stays clean))
+returns-in_err-value-clause-along g c = along_stays c.args.office.now c.value_after.new.office c.value_after.ensures.clean c.value_after.ensures.stays

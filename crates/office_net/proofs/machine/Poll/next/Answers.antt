@@ -3,6 +3,7 @@ use Rattle.office_net.specs.Stages.{GoesOn, as_list}
 use Rattle.office_net.proofs.Called.{err_so}
 use Rattle.office_net.proofs.Joining.{then_on, then_breaks}
 use Rattle.office_net.proofs.Proceeding.{along_then}
+use Rattle.office_net.proofs.OneRound.{same_then, turns_same}
 use Rattle.office_net.proofs.machine.Poll.next.Goals as goal
 
 pub returns-in_err-query-clause-goes : goal.returns-in_err-query-clause-goes
@@ -23,7 +24,8 @@ loop-self-preserved g c = record {
       then_on c.args.office.now c.loop-self.office c.next_turn.new.office c.args.self.now c.loop-self.self c.next_turn.new.self [] [] [] []
       (c.loop-self.invariant.goes (c.next_turn.ensures.clean clean))
       (subst (λ o. GoesOn c.loop-self.office c.loop-self.self c.next_turn.new.office c.next_turn.new.self [] (as_list o)) c.in_default.is (c.in_ok-query.ensures.goes clean));
-  along = along_then c.args.office.now c.loop-self.office c.next_turn.new.office c.loop-self.invariant.along c.next_turn.ensures.along;
+  along = along_then c.args.office.now c.loop-self.office c.next_turn.new.office c.loop-self.invariant.along (turns_same c.args.self.now c.loop-self.self c.loop-self.office c.next_turn.new.office c.loop-self.invariant.same c.next_turn.ensures.along);
+  same = same_then c.args.self.now c.loop-self.self c.next_turn.new.self c.loop-self.invariant.same c.next_turn.ensures.same;
   counted = omega (arith, c.loop-self.invariant.counted, c.next_turn.ensures.counted);
   clean = λ clean. c.loop-self.invariant.clean (c.next_turn.ensures.clean clean);
   left = omega (arith, c.loop-self.invariant.left, c.in_ok-query.ensures.left);
@@ -31,7 +33,9 @@ loop-self-preserved g c = record {
 }
 
 pub returns-in_err-query-clause-along : goal.returns-in_err-query-clause-along
-returns-in_err-query-clause-along g c = along_then c.args.office.now c.loop-self.office c.next_turn.new.office c.loop-self.invariant.along c.next_turn.ensures.along
+returns-in_err-query-clause-along g c = along_then c.args.office.now c.loop-self.office c.next_turn.new.office c.loop-self.invariant.along
+    (turns_same c.args.self.now c.loop-self.self c.loop-self.office c.next_turn.new.office c.loop-self.invariant.same c.next_turn.ensures.along)
 
 pub returns-in-Some-clause-along : goal.returns-in-Some-clause-along
-returns-in-Some-clause-along g c = along_then c.args.office.now c.loop-self.office c.next_turn.new.office c.loop-self.invariant.along c.next_turn.ensures.along
+returns-in-Some-clause-along g c = along_then c.args.office.now c.loop-self.office c.next_turn.new.office c.loop-self.invariant.along
+    (turns_same c.args.self.now c.loop-self.self c.loop-self.office c.next_turn.new.office c.loop-self.invariant.same c.next_turn.ensures.along)

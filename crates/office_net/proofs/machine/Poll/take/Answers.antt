@@ -2,6 +2,7 @@ use Rattle.std.proofs.Common.{sym, ◌∙◌, refl}
 use Rattle.office_core.specs.declared.event.EventAnswer.TheVariants.{Arrived, Refused}
 use Rattle.office_core.specs.Messages.{arriving}
 use Rattle.office_net.specs.Following.{Follows, MayLeave}
+use Rattle.office_net.specs.Kinds.{HearsIn}
 use Rattle.office_net.proofs.Breaking.{frame_breaks}
 use Rattle.office_net.proofs.Moving.{came_on}
 use Rattle.office_net.proofs.Proceeding.{did, missed}
@@ -27,8 +28,8 @@ returns-in-Ok-clause-along g c = λ clean.
     let old = c.args.office.now in
     let new = c.arrive.new.office in (
       c.arrive.ensures.clean clean,
-      did (Follows old) (Follows new) (MayLeave old) (MayLeave new) (λ now. arriving now c.args.self.now.conn c.args.frame.now) (Arrived c.in-Ok.arrival)
-          (c.in-Ok.ensures.came clean refl),
+      did (HearsIn c.args.self.now c.args.frame.now) (Follows old) (Follows new) (MayLeave old) (MayLeave new) (λ now. arriving now c.args.self.now.conn c.args.frame.now) (Arrived c.in-Ok.arrival)
+          (λ now stood. refl) (c.in-Ok.ensures.came clean refl),
     )
 
 pub returns-else-is_store-clause-along : goal.returns-else-is_store-clause-along
@@ -36,8 +37,8 @@ returns-else-is_store-clause-along g c = λ clean.
     let old = c.args.office.now in
     let new = c.arrive.new.office in (
       c.arrive.ensures.clean clean,
-      did (Follows old) (Follows new) (MayLeave old) (MayLeave new) (λ now. arriving now c.args.self.now.conn c.args.frame.now) (Refused c.in-Err.error)
-          (c.in-Err.ensures.came clean (sym c.is_store.ensures ∙ c.if-is_store.false)),
+      did (HearsIn c.args.self.now c.args.frame.now) (Follows old) (Follows new) (MayLeave old) (MayLeave new) (λ now. arriving now c.args.self.now.conn c.args.frame.now) (Refused c.in-Err.error)
+          (λ now stood. refl) (c.in-Err.ensures.came clean (sym c.is_store.ensures ∙ c.if-is_store.false)),
     )
 
 pub returns-then-is_store-clause-along : goal.returns-then-is_store-clause-along
@@ -45,6 +46,6 @@ returns-then-is_store-clause-along g c = λ clean.
     let old = c.args.office.now in
     let new = c.arrive.new.office in (
       c.arrive.ensures.clean clean,
-      missed (Follows old) (Follows new) (MayLeave old) (MayLeave new) (λ now. arriving now c.args.self.now.conn c.args.frame.now) (Refused c.in-Err.error)
-          (c.in-Err.ensures.fails clean),
+      missed (HearsIn c.args.self.now c.args.frame.now) (Follows old) (Follows new) (MayLeave old) (MayLeave new) (λ now. arriving now c.args.self.now.conn c.args.frame.now) (Refused c.in-Err.error)
+          (λ now stood. refl) (c.in-Err.ensures.fails clean),
     )

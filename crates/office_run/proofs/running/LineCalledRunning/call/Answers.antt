@@ -1,5 +1,6 @@
 use Rattle.std.proofs.Common.{◌≡◌, ◌∙◌, ap, subst}
 use Rattle.office_net.specs.Proceeding.{GoesAlong}
+use Rattle.office_run.specs.Doings.{Runs}
 use Rattle.office_net.proofs.Proceeding.{along_then}
 use Rattle.office_run.proofs.running.LineCalledRunning.call.Goals as goal
 
@@ -8,5 +9,5 @@ returns-clause-went g c =
     let same = c.look_up.ensures ∙ c.admit_line.ensures in (
       c.note_line.ensures.0 ∙ ap (λ o. o.ghost_name) same,
       along_then c.args.world.now.office.now c.turn-turned.new.office c.note_line.new.self.office.now
-          (subst (λ o. GoesAlong o.now c.turn-turned.new.office) same c.turn-turned.ensures) c.note_line.ensures.1,
+          (subst (λ o. GoesAlong Runs o.now c.turn-turned.new.office) same c.turn-turned.ensures) c.note_line.ensures.1,
     )
