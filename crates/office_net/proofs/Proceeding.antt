@@ -1,5 +1,5 @@
 -- Calls one behind the other, whoever makes them.
-use Rattle.std.proofs.Common.{◌≡◌, inl, inr, Bool, true, false, ℕ, List, [], ◌∷◌, ◌++◌, Option, Some, None, Result, Ok, Err, refl, sym, ap, subst}
+use Rattle.std.proofs.Common.{◌≡◌, inl, inr, true, false, ℕ, List, [], ◌∷◌, ◌++◌, Option, Some, None, Result, Ok, Err, refl, sym, ap, subst}
 use Rattle.std.specs.Prelude.{MatchResult, OnErr, String, string_bytes}
 use Rattle.mb_mbap.specs.declared.frame.Frame.{Frame}
 use Rattle.std.specs.declared.alloc.Global.{Global}

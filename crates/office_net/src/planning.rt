@@ -38,10 +38,11 @@ fn points_of(alloc: Global, known: &[PointRow], device: &str) -> Result<Vec<Poin
         .collect(alloc)
 }
 
-/// The reads of a device: those that are planned for its known points. One that can't be read, which no list
-/// says, is left out.
+/// The reads of a device: those that are planned for its known points, where all of them can be read, as an office's
+/// can. One that can't be, which no list says, is left out alone.
 pub fn reads_of(alloc: Global, known: &[PointRow], device: &Device) -> Result<Vec<Read>, AllocError>
-    ensures { IfOk result (λ reads. ArePlanned (readable known.now) device.now reads.items) }
+    ensures all { All (λ row. CanBeRead row.point) known.now → IfOk result (λ reads. ArePlanned known.now device.now reads.items) }
+    ensures others { IfOk result (λ reads. ArePlanned (readable known.now) device.now reads.items) }
 {
     let points = points_of(alloc, known, device.name.as_str())?;
     let reads = plan(alloc, points.as_slice(), device.gap)?;

@@ -58,6 +58,8 @@ mod SetTotal
 mod FirstTotals
 mod ShownTotals
 mod NextVoid
+mod VoidSlots
+mod Marking
 mod VoidCount
 mod PutVoid
 mod Moving

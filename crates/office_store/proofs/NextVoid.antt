@@ -1,5 +1,5 @@
 -- What the query of a point's first voided slot from a slot on shows.
-use Rattle.std.proofs.Common.{◌≡◌, ◌≢◌, inl, inr, ◌<◌, ℕ, pos, List, [], ◌∷◌, map, take, Bool, true, false, cond, ◌&&◌, ◌==◌, ◌^◌, None, Some, Option, option_and_then, option_map, refl, sym, ap, ap₂, subst, ◌∙◌, filter, T, codes, arith}
+use Rattle.std.proofs.Common.{◌≡◌, ◌≢◌, inl, inr, ◌<◌, ℕ, pos, List, [], ◌∷◌, map, take, Bool, true, false, cond, ◌&&◌, ◌==◌, ◌^◌, None, Some, refl, sym, ap, ap₂, subst, ◌∙◌, filter, T, codes, arith}
 use Rattle.std.specs.Prelude.{⊤, is_some, nat_le}
 use Rattle.std.specs.List.{AllByRecursion, list_all}
 use Rattle.std.specs.List.Sorted.{IsPermutation}
@@ -27,7 +27,7 @@ use Rattle.sqlite.proofs.Callers.{IsPlain, command_of, reads_as}
 use Rattle.poll_book.specs.Tables.{Key, Tables, Voids, is_void, key_cmp}
 use Rattle.office_store.specs.Schema.{office_schema, void_tree}
 use Rattle.office_store.specs.Texts.{next_void_text}
-use Rattle.office_store.specs.Rows.{stored_void, number_of}
+use Rattle.office_store.specs.Rows.{stored_void, shown_void, number_of}
 use Rattle.office_store.specs.Kept.{IsHeld}
 use Rattle.office_store.specs.Ends.{ShowFrom, TellsFrom}
 use Rattle.office_store.specs.declared.voids.VoidsFrom.{VoidsFrom}
@@ -51,7 +51,7 @@ next_query = record {
   offset = lit (Int (pos 0));
 }
 
-abbrev names : List (List ℕ)
+abbrev pub names : List (List ℕ)
 names = codes "point" ∷ codes "slot" ∷ []
 
 next_is : (command_of (understood office_schema next_void_text) ≡ Select (record { lets = []; body = next_query }) names) × (reads_listing office_schema next_void_text ≡ false) × IsPlain (understood office_schema next_void_text)
@@ -59,18 +59,14 @@ unfolding understood everything
 next_is = (refl, refl, (refl, refl))
 
 -- the key of a void stands in its columns
-void_columns : (r : Row) (e : Key × ⊤) → stored_void r ≡ Some e → (column r 1 ≡ Int (pos e.0.0)) × (column r 2 ≡ Int (pos e.0.1))
+pub void_columns : (r : Row) (e : Key × ⊤) → stored_void r ≡ Some e → (column r 1 ≡ Int (pos e.0.0)) × (column r 2 ≡ Int (pos e.0.1))
 void_columns r e h =
     let p = and_then_some _ (number_of (column r 1)) _ h in
     let s = map_some _ (number_of (column r 2)) _ p.2 in
     (number_is (2 ^ 32) (column r 1) e.0.0 (p.1 ∙ ap (λ (x : Key × ⊤). Some x.0.0) s.2), number_is (2 ^ 32) (column r 2) e.0.1 (s.1 ∙ ap (λ (x : Key × ⊤). Some x.0.1) s.2))
 
--- the void that a row of the answer shows
-abbrev shown_void : Row → Option (Key × ⊤)
-shown_void r = option_and_then (λ p. option_map (λ s. ((p, s), tt)) (number_of (column r 1))) (number_of (column r 0))
-
 -- the slot of a void that is shown stands in its column
-slot_shown : (r : Row) (e : Key × ⊤) → shown_void r ≡ Some e → number_of (column r 1) ≡ Some e.0.1
+pub slot_shown : (r : Row) (e : Key × ⊤) → shown_void r ≡ Some e → number_of (column r 1) ≡ Some e.0.1
 slot_shown r e h =
     let p = and_then_some _ (number_of (column r 0)) _ h in
     let s = map_some _ (number_of (column r 1)) _ p.2 in

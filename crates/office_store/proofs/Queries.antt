@@ -9,7 +9,7 @@ use Rattle.sqlite_resolve.specs.Lowering.{and_then}
 use Rattle.sqlite_resolve.specs.Compile.{compiled, first, planned, meaning, returning, command, timed, with_command, small}
 use Rattle.sqlite_resolve.specs.declared.error.CompileError.TheVariants.{NoSuchTable}
 use Rattle.sqlite_tied.specs.Compute.{everything}
-use Rattle.office_store.specs.Texts.{names_text, version_text, readings_text, reading_key_text, value_before_text, value_after_text, last_reading_text, points_text, point_text, swaps_text, setting_text, connections_text, request_text, total_text, next_void_text, voids_text, last_text, waiting_text}
+use Rattle.office_store.specs.Texts.{names_text, version_text, readings_text, reading_key_text, value_before_text, value_after_text, last_reading_text, points_text, point_text, swaps_text, setting_text, connections_text, request_text, total_text, next_void_text, void_slots_text, voids_text, last_text, waiting_text}
 use Rattle.sqlite.specs.Listing.{understood, reads_listing, if_select, listing_schema, is_select}
 use Rattle.office_store.specs.Kept.{IsQuery}
 
@@ -103,6 +103,10 @@ connections_is_query = is_query connections_text (λ schema base. refl)
 pub total_is_query : IsQuery total_text
 unfolding everything
 total_is_query = is_query total_text (λ schema base. refl)
+
+pub void_slots_is_query : IsQuery void_slots_text
+unfolding everything
+void_slots_is_query = is_query void_slots_text (λ schema base. refl)
 
 pub next_void_is_query : IsQuery next_void_text
 unfolding everything

@@ -1,5 +1,5 @@
 -- Which readings a point may have, and the number of one that counts.
-use Rattle.std.specs.Prelude.{◌≡◌, ℕ, true, List, [], ◌∷◌, Option, Some, None, if◌then◌else◌}
+use Rattle.std.specs.Prelude.{◌≡◌, ℕ, Bool, ◌&&◌, not, List, [], ◌∷◌, Option, Some, None, if◌then◌else◌}
 use Rattle.sunspec.specs.Value.{AreRegistersOf}
 use Rattle.point_list.specs.declared.point.Point.{Point}
 use Rattle.sqlite_value.specs.Order.{Row}
@@ -9,10 +9,11 @@ use Rattle.poll_book.specs.Tables.{Key}
 use Rattle.poll_book.specs.Totals.{counted_number, is_counted, reading_number}
 use Rattle.office_store.specs.Rows.{shown_reading}
 
--- the registers are as the point's type has them, and they have a number from 0 to the roll where the reading is marked as counted
-pub record MayBeOf (point : Point) (reading : ReadingRow) : Type 0 where
+-- the registers are as the point's type has them, and the reading is marked as counted just where they have a number from 0 to the roll
+-- and its slot isn't voided
+pub record MayBeOf (point : Point) (is_void : ℕ → Bool) (reading : ReadingRow) : Type 0 where
   pub registers : AreRegistersOf point.kind reading.words
-  pub counts : reading.counted ≡ true → is_counted point reading.words ≡ true
+  pub counts : reading.counted ≡ (is_counted point reading.words && not (is_void reading.slot))
 
 abbrev pub number_in : Point → ReadingRow → Option ℕ
 number_in point row = if row.counted then counted_number point row.words else None

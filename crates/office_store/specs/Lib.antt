@@ -11,5 +11,6 @@ pub mod Writing
 pub mod States
 pub mod Waiting
 pub mod Ends
+pub mod Voids
 pub mod PointNumbers
 pub mod Keepers

@@ -172,6 +172,9 @@ pub record IsRowOf (row : ReadingRow) (values : Row) : Type 0 where
 abbrev pub stored_void : Row → Option (Key × ⊤)
 stored_void r = option_and_then (λ p. option_map (λ s. ((p, s), tt)) (number_of (column r 2))) (number_of (column r 1))
 
+abbrev pub shown_void : Row → Option (Key × ⊤)
+shown_void r = option_and_then (λ p. option_map (λ s. ((p, s), tt)) (number_of (column r 1))) (number_of (column r 0))
+
 -- ---- swapped points
 
 -- of a row of the table and of one that a query shows, whose first values are the same

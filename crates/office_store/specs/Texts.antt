@@ -43,6 +43,9 @@ total_text = codes "SELECT point, value FROM total WHERE point = ?1 ORDER BY poi
 abbrev pub next_void_text : List ℕ
 next_void_text = codes "SELECT point, slot FROM void WHERE point = ?1 AND slot >= ?2 ORDER BY slot LIMIT 1"
 
+abbrev pub void_slots_text : List ℕ
+void_slots_text = codes "SELECT point, slot FROM void WHERE point = ?1 AND slot >= ?2 AND slot <= ?3 ORDER BY slot"
+
 abbrev pub voids_text : List ℕ
 voids_text = codes "SELECT COUNT(*) FROM void"
 

@@ -1,20 +1,28 @@
 //! The table of voided slots.
 
-ghost use Rattle.std.specs.Prelude.{◌≡◌, ◌-◌, ◌^◌, false, IfErr, IfOk, length};
+ghost use Rattle.std.specs.Prelude.{◌≡◌, ◌-◌, ◌^◌, ℕ, true, false, IfErr, IfOk, length};
+ghost use Rattle.std.specs.List.{list_any};
+ghost use Rattle.std.specs.Ordering.{nat_cmp};
+ghost use Rattle.std.specs.BTreeSet.{contains};
 ghost use Rattle.sqlite.specs.Held.{state};
 ghost use Rattle.sqlite.specs.State.{HasCleanDisk};
 ghost use Rattle.poll_book.specs.Tables.{Tables};
 ghost use Rattle.office_store.specs.Kept.{Holds, Keeps};
 ghost use Rattle.office_store.specs.Ends.{FailsToTell, ShowFrom, TellsFrom};
 ghost use Rattle.office_store.specs.Rows.{number_below};
+ghost use Rattle.office_store.specs.Voids.{AreVoidsOf, shows_slot};
+ghost use Rattle.poll_book.specs.Totals.{is_counter};
 ghost use Rattle.sqlite_value.specs.Value.{owned};
 
 use crate::ask::ask;
 use crate::error::fault_of;
 use crate::values::{number_of, value_at};
-use poll_book::StoreFault;
+use point_list::Role;
+use poll_book::{PointRow, StoreFault};
 use sqlite::types::ValueRef;
 use sqlite::{Alter, Connection, Row, params};
+use std::alloc::Global;
+use std::collections::BTreeSet;
 
 /// What a point has of voided slots from one on.
 #[derive(Clone, Copy)]
@@ -60,6 +68,66 @@ pub(crate) fn voids_from<S: Alter>(
     ) {
         Ok(rows) => Ok(shown_from(&rows, slot)),
         Err(error) => Err(fault_of(error)),
+    }
+}
+
+/// The slots that the rows of an answer show.
+fn slots_shown(alloc: Global, rows: &[Row]) -> Result<BTreeSet<u32>, StoreFault>
+    ensures { IfOk result (λ slots. (slot : ℕ) → contains nat_cmp slots slot ≡ list_any (shows_slot slot) rows.now) }
+{
+    let mut slots = BTreeSet::new(alloc);
+    for row in rows {
+        let Some(slot) = number_of(value_at(row, 1)) else {
+            return Err(StoreFault::Other);
+        };
+        if slots.insert(slot).is_err() {
+            return Err(StoreFault::Memory);
+        }
+    }
+    Ok(slots)
+}
+
+/// The voided slots of a point from the one to the other.
+fn slots_between<S: Alter>(
+    alloc: Global,
+    connection: &mut Connection<S>,
+    point: u32,
+    from: u32,
+    to: u32,
+) -> Result<BTreeSet<u32>, StoreFault>
+    requires { connection.old.in_transaction ≡ false }
+    ensures value { HasCleanDisk (state S.Store connection.new) → (kept : Tables) → Holds (state S.Store connection.old) kept
+        → IfOk result (AreVoidsOf point from to kept.voids) }
+    ensures keeps { Keeps (state S.Store connection.old) (state S.Store connection.new) }
+    ensures idle { connection.new.in_transaction ≡ false }
+{
+    match ask(
+        connection,
+        "SELECT point, slot FROM void WHERE point = ?1 AND slot >= ?2 AND slot <= ?3 ORDER BY slot",
+        params![point, from, to],
+    ) {
+        Ok(rows) => slots_shown(alloc, &rows),
+        Err(error) => Err(fault_of(error)),
+    }
+}
+
+/// The voided slots of a counter from the one to the other. No reading of another point counts, so none is looked for.
+pub(crate) fn voids_of<S: Alter>(
+    alloc: Global,
+    connection: &mut Connection<S>,
+    point: &PointRow,
+    from: u32,
+    to: u32,
+) -> Result<BTreeSet<u32>, StoreFault>
+    requires { connection.old.in_transaction ≡ false }
+    ensures value { HasCleanDisk (state S.Store connection.new) → (kept : Tables) → Holds (state S.Store connection.old) kept
+        → IfOk result (λ slots. is_counter point.now.point.role ≡ true → AreVoidsOf point.now.number from to kept.voids slots) }
+    ensures keeps { Keeps (state S.Store connection.old) (state S.Store connection.new) }
+    ensures idle { connection.new.in_transaction ≡ false }
+{
+    match point.point.role {
+        Role::Counter => slots_between(alloc, connection, point.number, from, to),
+        Role::Gauge | Role::Setting => Ok(BTreeSet::new(alloc)),
     }
 }
 

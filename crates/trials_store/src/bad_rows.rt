@@ -2,7 +2,7 @@
 use crate::opening::run;
 use office_core::{EventAnswer, Office, OfficeError};
 use office_plays::builders::{MEMORY, TWO, begun, office_after, office_over, shown};
-use office_plays::steps::Happens::{self, Arrive, Ask, Load, Open};
+use office_plays::steps::Happens::{self, Arrive, Ask, Load, Open, Void};
 use office_plays::steps::{rows, take_happening, total};
 use office_store::SqlKeeper;
 use poll_book::{Keeper, StoreFault};
@@ -30,6 +30,9 @@ const NEXT: &[Happens] = &[
     Arrive(2, 0, 17, &[3, 2, 0, 9]),
 ];
 
+/// A void of the counter's slot.
+const VOIDED: &[Happens] = &[Void("v1", "e", 1)];
+
 /// Who comes upon a row.
 #[derive(Clone, Copy, Debug)]
 enum Comes {
@@ -41,9 +44,11 @@ enum Comes {
     Total,
     /// A reply, as a round gets it.
     Reply,
+    /// A void of the slot that has the counter's reading.
+    Voiding,
 }
 
-use Comes::{Opening, Readings, Reply, Total};
+use Comes::{Opening, Readings, Reply, Total, Voiding};
 
 /// What makes a row wrong, what makes it right again, and who comes upon it. The last rows tell of the second point,
 /// which has one register, of the string, and of a point that isn't there, that they are swapped.
@@ -124,6 +129,16 @@ const CASES: &[(&str, &str, &[Comes])] = &[
         &[Readings("b")],
     ),
     (
+        "UPDATE reading SET counted = 0 WHERE point = 1",
+        "UPDATE reading SET counted = 1 WHERE point = 1",
+        &[Readings("e"), Voiding],
+    ),
+    (
+        "INSERT INTO void(point, slot) VALUES (1, 1)",
+        "DELETE FROM void",
+        &[Readings("e")],
+    ),
+    (
         "UPDATE reading SET words = x'FFFF' WHERE point = 1",
         "UPDATE reading SET words = x'0007' WHERE point = 1",
         &[Readings("e"), Reply],
@@ -187,6 +202,7 @@ fn refusal_of<K: Keeper>(
         Readings(point) => Ok(rows(office, point, 0, u32::MAX).err()),
         Total => Ok(total(office, "e").err()),
         Reply => last_of(alloc, office, NEXT),
+        Voiding => last_of(alloc, office, VOIDED),
     }
 }
 
