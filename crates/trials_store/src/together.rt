@@ -66,13 +66,16 @@ fn put<K: Keeper>(
     Ok(keeper.apply(&change_of(alloc, points, counted)?)?)
 }
 
-/// Whether each point has a reading, and with a mark or without.
+/// Whether each point has a reading, and one that counts, as its mark has it.
 fn marks<K: Keeper>(alloc: Global, keeper: &mut K) -> Result<String, OfficeError> {
     let mut text = String::new(alloc);
     for point in &keeper.points(alloc)? {
-        text.push(match keeper.reading(point, 3)? {
-            Some(reading) => { if reading.counted { '+' } else { '-' } }
-            None => '.',
+        let has_reading = keeper.has_reading(point, 3)?;
+        let counts = keeper.before(point, 4)?.is_some();
+        text.push(match (has_reading, counts) {
+            (false, _) => '.',
+            (true, false) => '-',
+            (true, true) => '+',
         })?;
     }
     Ok(text)

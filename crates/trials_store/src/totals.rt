@@ -5,7 +5,9 @@ use office_core::OfficeError;
 use office_plays::builders::office_after;
 use office_plays::steps::Happens::{self, Load};
 use point_list::Items;
-use poll_book::{Change, Keeper, MemKeeper, PointRow, ReadingRow, StoreFault, TotalRow, record};
+use poll_book::{
+    Change, Keeper, MemKeeper, PointRow, ReadingRow, StoreFault, TotalRow, VoidRow, record,
+};
 use std::alloc::Global;
 use std::test::Fail;
 use store_plays::stored;
@@ -108,7 +110,8 @@ fn change_of(alloc: Global, reading: ReadingRow, total: TotalRow) -> Result<Chan
     })
 }
 
-/// Takes a reading of a counter out of its total: the same registers with another mark, and the total without it.
+/// Takes a reading of a counter out of its total: the slot is voided, and there are the same registers with another mark,
+/// and the total without it.
 fn take_out<K: Keeper>(
     alloc: Global,
     keeper: &mut K,
@@ -127,7 +130,14 @@ fn take_out<K: Keeper>(
         point: point.number,
         total,
     };
-    Ok(keeper.apply(&change_of(alloc, reading, total)?)?)
+    let change = Change {
+        void: Some(VoidRow {
+            point: point.number,
+            slot,
+        }),
+        ..change_of(alloc, reading, total)?
+    };
+    Ok(keeper.apply(&change)?)
 }
 
 /// What a keeper tells of the first counter once one of its readings was taken out: the values round that slot,
