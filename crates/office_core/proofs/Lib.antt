@@ -56,3 +56,5 @@ pub mod SameArrivals
 pub mod AskedAgain
 pub mod Looked
 pub mod Shown
+pub mod Following
+pub mod Proceeding

@@ -29,3 +29,5 @@ pub mod ByName
 pub mod Lacking
 pub mod Looking
 pub mod Arriving
+pub mod Following
+pub mod Proceeding

@@ -1,5 +1,5 @@
 -- What an office stands for.
-use Rattle.std.specs.Prelude.{◌≡◌, ℕ, ⊤, List, map, Option, Some, None, option_map, if◌then◌else◌, Result, Ok, Err, Vec}
+use Rattle.std.specs.Prelude.{◌≡◌, ℕ, ◌≤◌, IfErr, ⊤, List, map, Option, Some, None, option_map, if◌then◌else◌, Result, Ok, Err, Vec}
 use Rattle.std.specs.Global.{Global}
 use Rattle.mb_mbap.specs.declared.frame.Frame.{Frame}
 use Rattle.poll_match.specs.Window.{held}
@@ -59,6 +59,10 @@ IsAlike {g = g} old new =
 abbrev pub LeavesNoMore : {K : Type 0} {g : Ghosts K} → Office K g → Office K g → Type 0
 LeavesNoMore {g = g} old new = Within (g.may_leave new.keeper) (g.may_leave old.keeper)
 
+-- an office that was only asked
+abbrev pub OnlyAsked : {K : Type 0} {g : Ghosts K} → Office K g → Office K g → Type 0
+OnlyAsked {g = g} old new = IsAlike old new × (g.is_clean new.keeper → LeavesNoMore old new)
+
 -- after what the office saw as this event
 abbrev pub LeavesSo : {K : Type 0} {g : Ghosts K} → Office K g → Office K g → Event → EventAnswer → Type 0
 LeavesSo {g = g} old new seen told = Leaves (Stands old) (g.may_leave old.keeper) (g.may_leave new.keeper) seen told
@@ -96,6 +100,19 @@ CauseFrom {g = g} old new = HasCause g.may_refuse (g.refused old.keeper) (g.refu
 -- the keeper may answer this fault, and counted a refusal between the one and the other
 abbrev pub CountedFrom : {K : Type 0} {g : Ghosts K} → Office K g → Office K g → StoreFault → Type 0
 CountedFrom {g = g} old new = IsCounted g.may_refuse (g.refused old.keeper) (g.refused new.keeper)
+
+-- no refusal of the keeper is forgotten, and one that failed to undo a change isn't clean again
+abbrev pub Counts : {K : Type 0} {g : Ghosts K} → Office K g → Office K g → Type 0
+Counts {g = g} old new = (g.refused old.keeper ≤ g.refused new.keeper) × (g.is_clean new.keeper → g.is_clean old.keeper)
+
+-- the same, and a call's error has its cause between the one and the other
+abbrev pub AccountsFor : {K X E : Type 0} {g : Ghosts K} → ((StoreFault → Type 0) → E → Type 0) → Office K g → Office K g → Result X E → Type 0
+AccountsFor {g = g} has_cause old new result =
+    IfErr result (has_cause (CauseFrom old new)) × (g.refused old.keeper ≤ g.refused new.keeper) × (g.is_clean new.keeper → g.is_clean old.keeper)
+
+-- the error is the store's fault itself
+abbrev pub AsItIs : (StoreFault → Type 0) → StoreFault → Type 0
+AsItIs cause = cause
 
 -- a refusal by the store has its cause
 abbrev pub AnswerCaused : (StoreFault → Type 0) → EventAnswer → Type 0

@@ -13,6 +13,7 @@ mod cover;
 mod error;
 mod event;
 mod growing;
+mod happening;
 mod lacking;
 pub mod laws;
 mod loads;

@@ -140,7 +140,7 @@ impl<K: Keeper> Office<K> {
     ghost use Rattle.office_core.specs.Arriving.{IsAnswered};
     ghost use Rattle.office_core.specs.Looking.{covered_of};
     ghost use Rattle.office_core.specs.Queries.{Answers};
-    ghost use Rattle.office_core.specs.Offices.{AnswerCaused, CauseFrom, CountedFrom, IsAlike, LeavesNoMore, LeavesRun, LeavesSo, LeavesUnused, Shows, Stands, StandsUnused, arrived, asked_so, keeper_of, opened, order_state_of, points_of, readings_of, site_of, told_so, total_of, value_after_of};
+    ghost use Rattle.office_core.specs.Offices.{AccountsFor, AnswerCaused, CauseFrom, CountedFrom, Counts, IsAlike, LeavesRun, LeavesSo, LeavesUnused, OnlyAsked, Shows, Stands, StandsUnused, arrived, asked_so, keeper_of, opened, order_state_of, points_of, readings_of, site_of, told_so, total_of, value_after_of};
 
     /// An office over what a keeper holds, with no connection open. A keeper that can't be read is
     /// given back with `Store`, and one with a point whose device isn't in the site with
@@ -185,12 +185,8 @@ impl<K: Keeper> Office<K> {
         self.keeper
     }
 
-    /// Makes the points of a list known, all or none, and keeps what became of it under the caller's
-    /// key. A list is refused for its own first fault, then at the first row whose name is known with
-    /// another definition, then where more than 10,000 points would be known; a point that is known
-    /// already changes nothing. The same list under the key again is told what became of the first,
-    /// and another request gets `KeyReused`. The error is `Store` alone: then nothing is kept.
-    pub fn load(
+    // What `load` says of its event, whatever history the office stood for.
+    pub(crate) fn step_load(
         &mut self,
         caller: &Caller,
         key: &Key,
@@ -198,10 +194,8 @@ impl<K: Keeper> Office<K> {
     ) -> Result<RequestAnswer, OfficeError>
         ensures goes { K.is_clean (keeper_of self.new) → Goes (Stands self.old) (Stands self.new) (Event.Load caller.now key.now list.now) (told_so result) }
         ensures leaves { K.is_clean (keeper_of self.new) → LeavesSo self.old self.new (Event.Load caller.now key.now list.now) (told_so result) }
-        ensures cause { IfErr result (λ e. IsOfStore (CauseFrom self.old self.new) e) }
-        ensures counted { K.refused (keeper_of self.old) ≤ K.refused (keeper_of self.new) }
+        ensures accounts { AccountsFor IsOfStore self.old self.new result }
         ensures same { is_refusal (told_so result) ≡ true → IsAlike self.old self.new }
-        ensures clean { K.is_clean (keeper_of self.new) → K.is_clean (keeper_of self.old) }
     {
         if let Some(first) = former(self.alloc, &mut self.keeper, caller, key)? {
             return Ok(list_again(&first, list));
@@ -218,10 +212,8 @@ impl<K: Keeper> Office<K> {
     ) -> Result<RequestAnswer, OfficeError>
         ensures goes { K.is_clean (keeper_of self.new) → Goes (StandsUnused self.old (caller.now, key.now)) (Stands self.new) (Event.Load caller.now key.now list.now) (told_so result) }
         ensures leaves { K.is_clean (keeper_of self.new) → LeavesUnused (caller.now, key.now) self.old self.new (Event.Load caller.now key.now list.now) (told_so result) }
-        ensures cause { IfErr result (λ e. IsOfStore (CauseFrom self.old self.new) e) }
-        ensures counted { K.refused (keeper_of self.old) ≤ K.refused (keeper_of self.new) }
+        ensures accounts { AccountsFor IsOfStore self.old self.new result }
         ensures same { is_refusal (told_so result) ≡ true → IsAlike self.old self.new }
-        ensures clean { K.is_clean (keeper_of self.new) → K.is_clean (keeper_of self.old) }
     {
         let Judged {
             outcome,
@@ -245,12 +237,8 @@ impl<K: Keeper> Office<K> {
         })
     }
 
-    /// Orders that the point of a name is set to a value, which isn't scaled, and keeps what became
-    /// of it under the caller's key. Refusals, in this order: no point of this name is known; its role
-    /// isn't setting; no registers of its type have the value; 1,000,000 orders exist. The same order
-    /// under the key again is told what became of the first, and another request gets `KeyReused`.
-    /// The error is `Store` alone: then nothing is kept.
-    pub fn order(
+    // What `order` says of its event, whatever history the office stood for.
+    pub(crate) fn step_order(
         &mut self,
         caller: &Caller,
         key: &Key,
@@ -259,10 +247,8 @@ impl<K: Keeper> Office<K> {
     ) -> Result<RequestAnswer, OfficeError>
         ensures goes { K.is_clean (keeper_of self.new) → Goes (Stands self.old) (Stands self.new) (Event.Order caller.now key.now point.now value) (told_so result) }
         ensures leaves { K.is_clean (keeper_of self.new) → LeavesSo self.old self.new (Event.Order caller.now key.now point.now value) (told_so result) }
-        ensures cause { IfErr result (λ e. IsOfStore (CauseFrom self.old self.new) e) }
-        ensures counted { K.refused (keeper_of self.old) ≤ K.refused (keeper_of self.new) }
+        ensures accounts { AccountsFor IsOfStore self.old self.new result }
         ensures same { is_refusal (told_so result) ≡ true → IsAlike self.old self.new }
-        ensures clean { K.is_clean (keeper_of self.new) → K.is_clean (keeper_of self.old) }
     {
         if let Some(first) = former(self.alloc, &mut self.keeper, caller, key)? {
             return Ok(order_again(&first, point, value));
@@ -280,10 +266,8 @@ impl<K: Keeper> Office<K> {
     ) -> Result<RequestAnswer, OfficeError>
         ensures goes { K.is_clean (keeper_of self.new) → Goes (StandsUnused self.old (caller.now, key.now)) (Stands self.new) (Event.Order caller.now key.now point.now value) (told_so result) }
         ensures leaves { K.is_clean (keeper_of self.new) → LeavesUnused (caller.now, key.now) self.old self.new (Event.Order caller.now key.now point.now value) (told_so result) }
-        ensures cause { IfErr result (λ e. IsOfStore (CauseFrom self.old self.new) e) }
-        ensures counted { K.refused (keeper_of self.old) ≤ K.refused (keeper_of self.new) }
+        ensures accounts { AccountsFor IsOfStore self.old self.new result }
         ensures same { is_refusal (told_so result) ≡ true → IsAlike self.old self.new }
-        ensures clean { K.is_clean (keeper_of self.new) → K.is_clean (keeper_of self.old) }
     {
         let (outcome, setting) = judge_order(
             self.alloc,
@@ -303,13 +287,8 @@ impl<K: Keeper> Office<K> {
         })
     }
 
-    /// Takes a slot of the counter of a name out of its total for good, whether its reading came before or
-    /// comes after, and keeps what became of that under the caller's key. The reading stays. Refusals, in this
-    /// order: no point of this name is known; its role isn't counter; 1,000,000 slots are voided and this isn't
-    /// one of them. A slot that was voided before is accepted again without effect. The same void under the key
-    /// again is told what became of the first, and another request gets `KeyReused`. The error is `Store` alone:
-    /// then nothing is kept.
-    pub fn void(
+    // What `void` says of its event, whatever history the office stood for.
+    pub(crate) fn step_void(
         &mut self,
         caller: &Caller,
         key: &Key,
@@ -318,11 +297,9 @@ impl<K: Keeper> Office<K> {
     ) -> Result<RequestAnswer, OfficeError>
         ensures goes { K.is_clean (keeper_of self.new) → Goes (Stands self.old) (Stands self.new) (Event.Void caller.now key.now point.now slot) (told_so result) }
         ensures leaves { K.is_clean (keeper_of self.new) → LeavesSo self.old self.new (Event.Void caller.now key.now point.now slot) (told_so result) }
-        ensures cause { IfErr result (λ e. IsOfStore (CauseFrom self.old self.new) e) }
-        ensures counted { K.refused (keeper_of self.old) ≤ K.refused (keeper_of self.new) }
+        ensures accounts { AccountsFor IsOfStore self.old self.new result }
         ensures looks { IsRaisedAtMost 6 (K.looked (keeper_of self.old)) (K.looked (keeper_of self.new)) }
         ensures same { is_refusal (told_so result) ≡ true → IsAlike self.old self.new }
-        ensures clean { K.is_clean (keeper_of self.new) → K.is_clean (keeper_of self.old) }
     {
         if let Some(first) = former(self.alloc, &mut self.keeper, caller, key)? {
             return Ok(void_again(&first, point, slot));
@@ -340,11 +317,9 @@ impl<K: Keeper> Office<K> {
     ) -> Result<RequestAnswer, OfficeError>
         ensures goes { K.is_clean (keeper_of self.new) → Goes (StandsUnused self.old (caller.now, key.now)) (Stands self.new) (Event.Void caller.now key.now point.now slot) (told_so result) }
         ensures leaves { K.is_clean (keeper_of self.new) → LeavesUnused (caller.now, key.now) self.old self.new (Event.Void caller.now key.now point.now slot) (told_so result) }
-        ensures cause { IfErr result (λ e. IsOfStore (CauseFrom self.old self.new) e) }
-        ensures counted { K.refused (keeper_of self.old) ≤ K.refused (keeper_of self.new) }
+        ensures accounts { AccountsFor IsOfStore self.old self.new result }
         ensures looks { IsRaisedAtMost 6 (K.looked (keeper_of self.old)) (K.looked (keeper_of self.new)) }
         ensures same { is_refusal (told_so result) ≡ true → IsAlike self.old self.new }
-        ensures clean { K.is_clean (keeper_of self.new) → K.is_clean (keeper_of self.old) }
     {
         let (outcome, change) = judge_void(
             self.alloc,
@@ -363,16 +338,12 @@ impl<K: Keeper> Office<K> {
         })
     }
 
-    /// Opens a line, and closes its former connection. The new one takes the number after the
-    /// keeper's last. `WrongLine` for a line that isn't in the site, `Exhausted` where no number is
-    /// left, and `Store`: then the former connection stays open, and the number isn't used.
-    pub fn open_line(&mut self, line: &str) -> Result<Conn, OfficeError>
+    // What `open_line` says of its event, whatever history the office stood for.
+    pub(crate) fn step_open(&mut self, line: &str) -> Result<Conn, OfficeError>
         ensures goes { K.is_clean (keeper_of self.new) → Goes (Stands self.old) (Stands self.new) (Event.Open line.now) (opened result) }
         ensures leaves { K.is_clean (keeper_of self.new) → LeavesSo self.old self.new (Event.Open line.now) (opened result) }
-        ensures cause { IfErr result (λ e. IsCaused (CauseFrom self.old self.new) e) }
-        ensures counted { K.refused (keeper_of self.old) ≤ K.refused (keeper_of self.new) }
+        ensures accounts { AccountsFor IsCaused self.old self.new result }
         ensures same { OnErr result (IsAlike self.old self.new) }
-        ensures clean { K.is_clean (keeper_of self.new) → K.is_clean (keeper_of self.old) }
     {
         let Some(line) = line_place(&self.site, line) else {
             return Err(OfficeError::WrongLine);
@@ -393,11 +364,8 @@ impl<K: Keeper> Office<K> {
         Ok(conn)
     }
 
-    /// Asks a device of a connection's line for the values of a slot, and gives the frame to send.
-    /// Refusals, in this order: `NoConnection`; `WrongLine` for a device that isn't one of the
-    /// connection's line; `NoRead` for a read that isn't valid, passes address 65,535 or holds no
-    /// known point whole; `Exhausted`. It makes no store call and takes no memory.
-    pub fn ask(
+    // What `ask` says of its event, whatever history the office stood for.
+    pub(crate) fn step_ask(
         &mut self,
         conn: Conn,
         device: &str,
@@ -429,18 +397,13 @@ impl<K: Keeper> Office<K> {
         Ok(self.matcher.next_query(conn, asked)?)
     }
 
-    /// Sends a waiting order to its device over a connection, and gives the frame to send; an order may
-    /// be sent again while it waits. Refusals, in this order: `NoConnection`; `NoOrder`; `WrongLine`
-    /// where the device of its point isn't one of the connection's line; `Settled`; `NotNext` where an
-    /// older order waits on that device; `Exhausted`; and `Store`, by a fault that the keeper answered,
-    /// since what is sent takes no memory.
-    pub fn send_order(&mut self, conn: Conn, number: u32) -> Result<Frame, OfficeError>
+    // What `send_order` says of its event, whatever history the office stood for.
+    pub(crate) fn step_send(&mut self, conn: Conn, number: u32) -> Result<Frame, OfficeError>
         ensures goes { K.is_clean (keeper_of self.new) → Goes (Stands self.old) (Stands self.new) (Event.Send conn number) (asked_so result) }
         ensures leaves { K.is_clean (keeper_of self.new) → LeavesSo self.old self.new (Event.Send conn number) (asked_so result) }
         ensures cause { IfErr result (λ e. IsCaused (CountedFrom self.old self.new) e) }
-        ensures counted { K.refused (keeper_of self.old) ≤ K.refused (keeper_of self.new) }
+        ensures counts { Counts self.old self.new }
         ensures same { OnErr result (IsAlike self.old self.new) }
-        ensures clean { K.is_clean (keeper_of self.new) → K.is_clean (keeper_of self.old) }
     {
         let line = self.matcher.line_of(conn);
         let asked = judge_send(
@@ -454,19 +417,13 @@ impl<K: Keeper> Office<K> {
         Ok(self.matcher.next_query(conn, asked)?)
     }
 
-    /// A frame came over a connection. A normal reply to a read gives a reading of the query's slot
-    /// to each point that the read covers and that was known when it was asked; a point that has
-    /// one in the slot keeps it. A reply to an order settles it, where it waits: a normal one as done, an
-    /// exception as refused, but for codes 5 and 6. `NoConnection`, `NoQuery`, `WrongUnit`, `Repeat` and `WrongReply`
-    /// are the refusals, in this order, then `Store`: the query stays open then.
-    pub fn arrive(&mut self, conn: Conn, frame: &Frame) -> Result<Arrival, OfficeError>
+    // What `arrive` says of its event, whatever history the office stood for.
+    pub(crate) fn step_arrive(&mut self, conn: Conn, frame: &Frame) -> Result<Arrival, OfficeError>
         ensures goes { K.is_clean (keeper_of self.new) → Goes (Stands self.old) (Stands self.new) (Event.Arrive conn frame.now) (arrived result) }
         ensures leaves { K.is_clean (keeper_of self.new) → LeavesSo self.old self.new (Event.Arrive conn frame.now) (arrived result) }
-        ensures cause { IfErr result (λ e. IsCaused (CauseFrom self.old self.new) e) }
-        ensures counted { K.refused (keeper_of self.old) ≤ K.refused (keeper_of self.new) }
+        ensures accounts { AccountsFor IsCaused self.old self.new result }
         ensures looks { IsRaisedAtMost (5 * length (covered_of self.old conn frame.now)) (K.looked (keeper_of self.old)) (K.looked (keeper_of self.new)) }
         ensures same { OnErr result (IsAlike self.old self.new) }
-        ensures clean { K.is_clean (keeper_of self.new) → K.is_clean (keeper_of self.old) }
     {
         let Some(found) = self.matcher.find_brief(conn, frame)? else {
             return self.arrive_bits(conn, frame);
@@ -480,11 +437,9 @@ impl<K: Keeper> Office<K> {
     fn arrive_bits(&mut self, conn: Conn, frame: &Frame) -> Result<Arrival, OfficeError>
         ensures goes { K.is_clean (keeper_of self.new) → Goes (Stands self.old) (Stands self.new) (Event.Arrive conn frame.now) (arrived result) }
         ensures leaves { K.is_clean (keeper_of self.new) → LeavesSo self.old self.new (Event.Arrive conn frame.now) (arrived result) }
-        ensures cause { IfErr result (λ e. IsCaused (CauseFrom self.old self.new) e) }
-        ensures counted { K.refused (keeper_of self.old) ≤ K.refused (keeper_of self.new) }
+        ensures accounts { AccountsFor IsCaused self.old self.new result }
         ensures looks { IsRaisedAtMost (5 * length (covered_of self.old conn frame.now)) (K.looked (keeper_of self.old)) (K.looked (keeper_of self.new)) }
         ensures same { OnErr result (IsAlike self.old self.new) }
-        ensures clean { K.is_clean (keeper_of self.new) → K.is_clean (keeper_of self.old) }
     {
         let found = self.matcher.find(conn, frame)?;
         self.take_reply(conn, found.number, &found.asked, &found.reply)
@@ -504,12 +459,10 @@ impl<K: Keeper> Office<K> {
             → Goes (Stands self.old) (Stands self.new) (Event.Arrive conn frame) (arrived result) }
         ensures leaves { (frame : AFrame) → IsAnswered self.old.matcher conn frame number asked.now reply.now → K.is_clean (keeper_of self.new)
             → LeavesSo self.old self.new (Event.Arrive conn frame) (arrived result) }
-        ensures cause { IfErr result (λ e. IsCaused (CauseFrom self.old self.new) e) }
-        ensures counted { K.refused (keeper_of self.old) ≤ K.refused (keeper_of self.new) }
+        ensures accounts { AccountsFor IsCaused self.old self.new result }
         ensures looks { (frame : AFrame) → IsAnswered self.old.matcher conn frame number asked.now reply.now
             → IsRaisedAtMost (5 * length (covered_of self.old conn frame)) (K.looked (keeper_of self.old)) (K.looked (keeper_of self.new)) }
         ensures same { OnErr result (IsAlike self.old self.new) }
-        ensures clean { K.is_clean (keeper_of self.new) → K.is_clean (keeper_of self.old) }
     {
         let arrival = bring(
             self.alloc,
@@ -539,26 +492,25 @@ impl<K: Keeper> Office<K> {
         ensures goes { K.is_clean (keeper_of self.new) → Goes (Stands self.old) (Stands self.new) event.now result }
         ensures leaves { K.is_clean (keeper_of self.new) → LeavesSo self.old self.new event.now result }
         ensures cause { AnswerCaused (CauseFrom self.old self.new) result }
-        ensures counted { K.refused (keeper_of self.old) ≤ K.refused (keeper_of self.new) }
+        ensures counts { Counts self.old self.new }
         ensures same { is_refusal result ≡ true → IsAlike self.old self.new }
-        ensures clean { K.is_clean (keeper_of self.new) → K.is_clean (keeper_of self.old) }
     {
         match event {
             Event::Load(caller, key, list) => {
-                EventAnswer::from(self.load(caller, key, list.as_slice()))
+                EventAnswer::from(self.step_load(caller, key, list.as_slice()))
             }
             Event::Order(caller, key, point, value) => {
-                EventAnswer::from(self.order(caller, key, point.as_str(), *value))
+                EventAnswer::from(self.step_order(caller, key, point.as_str(), *value))
             }
             Event::Void(caller, key, point, slot) => {
-                EventAnswer::from(self.void(caller, key, point.as_str(), *slot))
+                EventAnswer::from(self.step_void(caller, key, point.as_str(), *slot))
             }
-            Event::Open(line) => EventAnswer::from(self.open_line(line.as_str())),
+            Event::Open(line) => EventAnswer::from(self.step_open(line.as_str())),
             Event::Ask(conn, device, slot, read) => {
-                EventAnswer::from(self.ask(*conn, device.as_str(), *slot, *read))
+                EventAnswer::from(self.step_ask(*conn, device.as_str(), *slot, *read))
             }
-            Event::Send(conn, number) => EventAnswer::from(self.send_order(*conn, *number)),
-            Event::Arrive(conn, frame) => EventAnswer::from(self.arrive(*conn, frame)),
+            Event::Send(conn, number) => EventAnswer::from(self.step_send(*conn, *number)),
+            Event::Arrive(conn, frame) => EventAnswer::from(self.step_arrive(*conn, frame)),
             Event::Restart => {
                 self.restart();
                 EventAnswer::Restarted
@@ -572,8 +524,7 @@ impl<K: Keeper> Office<K> {
         ensures runs { K.is_clean (keeper_of self.new) → IfOk result (λ told. Runs (Stands self.old) (Stands self.new) events.now told.items) }
         ensures leaves { K.is_clean (keeper_of self.new) → IfOk result (λ told. LeavesRun self.old self.new events.now told.items) }
         ensures cause { IfOk result (λ told. All (AnswerCaused (CauseFrom self.old self.new)) told.items) }
-        ensures counted { K.refused (keeper_of self.old) ≤ K.refused (keeper_of self.new) }
-        ensures clean { K.is_clean (keeper_of self.new) → K.is_clean (keeper_of self.old) }
+        ensures counts { Counts self.old self.new }
         ensures memory { OnErr result (self.new ≡ self.old) }
     {
         let mut told = Vec::with_capacity(self.alloc, events.len())?;
@@ -594,11 +545,8 @@ impl<K: Keeper> Office<K> {
     ) -> Result<Option<Vec<ShownReading>>, OfficeError>
         ensures value { K.is_clean (keeper_of self.new) → (before : History) → Stands self.old before
             → IfOk result (λ rows. Shows (readings_of before point.now from to) rows) }
-        ensures cause { IfErr result (λ e. IsOfStore (CauseFrom self.old self.new) e) }
-        ensures counted { K.refused (keeper_of self.old) ≤ K.refused (keeper_of self.new) }
-        ensures same { IsAlike self.old self.new }
-        ensures leaves { K.is_clean (keeper_of self.new) → LeavesNoMore self.old self.new }
-        ensures clean { K.is_clean (keeper_of self.new) → K.is_clean (keeper_of self.old) }
+        ensures accounts { AccountsFor IsOfStore self.old self.new result }
+        ensures asked { OnlyAsked self.old self.new }
     {
         let Some(row) = self.by_name.find(&self.points, point.as_bytes()) else {
             return Ok(None);
@@ -611,11 +559,8 @@ impl<K: Keeper> Office<K> {
     pub fn lacks(&mut self, device: &str, slot: u32, read: &Read) -> Result<bool, OfficeError>
         ensures value { K.is_clean (keeper_of self.new) → (before : History) → Stands self.old before
             → IfOk result (λ some. some ≡ lacks before device.now slot read.now) }
-        ensures cause { IfErr result (λ e. IsOfStore (CauseFrom self.old self.new) e) }
-        ensures counted { K.refused (keeper_of self.old) ≤ K.refused (keeper_of self.new) }
-        ensures same { IsAlike self.old self.new }
-        ensures leaves { K.is_clean (keeper_of self.new) → LeavesNoMore self.old self.new }
-        ensures clean { K.is_clean (keeper_of self.new) → K.is_clean (keeper_of self.old) }
+        ensures accounts { AccountsFor IsOfStore self.old self.new result }
+        ensures asked { OnlyAsked self.old self.new }
     {
         Ok(some_lacks(
             &mut self.keeper,
@@ -632,11 +577,8 @@ impl<K: Keeper> Office<K> {
     pub fn total(&mut self, point: &str) -> Result<Option<u128>, OfficeError>
         ensures value { K.is_clean (keeper_of self.new) → (before : History) → Stands self.old before
             → IfOk result (λ sum. sum ≡ total_of before point.now) }
-        ensures cause { IfErr result (λ e. IsOfStore (CauseFrom self.old self.new) e) }
-        ensures counted { K.refused (keeper_of self.old) ≤ K.refused (keeper_of self.new) }
-        ensures same { IsAlike self.old self.new }
-        ensures leaves { K.is_clean (keeper_of self.new) → LeavesNoMore self.old self.new }
-        ensures clean { K.is_clean (keeper_of self.new) → K.is_clean (keeper_of self.old) }
+        ensures accounts { AccountsFor IsOfStore self.old self.new result }
+        ensures asked { OnlyAsked self.old self.new }
     {
         let Some(row) = self.by_name.find(&self.points, point.as_bytes()) else {
             return Ok(None);
@@ -652,11 +594,8 @@ impl<K: Keeper> Office<K> {
     pub fn value_after(&mut self, point: &str, slot: u32) -> Result<Option<u64>, OfficeError>
         ensures value { K.is_clean (keeper_of self.new) → (before : History) → Stands self.old before
             → IfOk result (λ value. value ≡ value_after_of before point.now slot) }
-        ensures cause { IfErr result (λ e. IsOfStore (CauseFrom self.old self.new) e) }
-        ensures counted { K.refused (keeper_of self.old) ≤ K.refused (keeper_of self.new) }
-        ensures same { IsAlike self.old self.new }
-        ensures leaves { K.is_clean (keeper_of self.new) → LeavesNoMore self.old self.new }
-        ensures clean { K.is_clean (keeper_of self.new) → K.is_clean (keeper_of self.old) }
+        ensures accounts { AccountsFor IsOfStore self.old self.new result }
+        ensures asked { OnlyAsked self.old self.new }
     {
         let Some(row) = self.by_name.find(&self.points, point.as_bytes()) else {
             return Ok(None);
@@ -672,11 +611,8 @@ impl<K: Keeper> Office<K> {
     pub fn request_of(&mut self, caller: &Caller, key: &Key) -> Result<Option<Request>, OfficeError>
         ensures value { K.is_clean (keeper_of self.new) → (before : History) → Stands self.old before
             → IfOk result (λ found. found ≡ request_at (requests before) (caller.now, key.now)) }
-        ensures cause { IfErr result (λ e. IsOfStore (CauseFrom self.old self.new) e) }
-        ensures counted { K.refused (keeper_of self.old) ≤ K.refused (keeper_of self.new) }
-        ensures same { IsAlike self.old self.new }
-        ensures leaves { K.is_clean (keeper_of self.new) → LeavesNoMore self.old self.new }
-        ensures clean { K.is_clean (keeper_of self.new) → K.is_clean (keeper_of self.old) }
+        ensures accounts { AccountsFor IsOfStore self.old self.new result }
+        ensures asked { OnlyAsked self.old self.new }
     {
         Ok(former(self.alloc, &mut self.keeper, caller, key)?)
     }
@@ -685,11 +621,8 @@ impl<K: Keeper> Office<K> {
     pub fn order_state(&mut self, number: u32) -> Result<Option<OrderState>, OfficeError>
         ensures value { K.is_clean (keeper_of self.new) → (before : History) → Stands self.old before
             → IfOk result (λ state. state ≡ order_state_of before number) }
-        ensures cause { IfErr result (λ e. IsOfStore (CauseFrom self.old self.new) e) }
-        ensures counted { K.refused (keeper_of self.old) ≤ K.refused (keeper_of self.new) }
-        ensures same { IsAlike self.old self.new }
-        ensures leaves { K.is_clean (keeper_of self.new) → LeavesNoMore self.old self.new }
-        ensures clean { K.is_clean (keeper_of self.new) → K.is_clean (keeper_of self.old) }
+        ensures accounts { AccountsFor IsOfStore self.old self.new result }
+        ensures asked { OnlyAsked self.old self.new }
     {
         match self.keeper.setting(number)? {
             Some(setting) => Ok(Some(setting.state)),
@@ -701,11 +634,8 @@ impl<K: Keeper> Office<K> {
     pub fn waiting(&mut self, device: &str) -> Result<Option<SettingRow>, OfficeError>
         ensures value { K.is_clean (keeper_of self.new) → (before : History) → Stands self.old before
             → IfOk result (λ found. option_map as_setting found ≡ oldest_waiting (points before) device.now (settings before)) }
-        ensures cause { IfErr result (λ e. IsOfStore (CauseFrom self.old self.new) e) }
-        ensures counted { K.refused (keeper_of self.old) ≤ K.refused (keeper_of self.new) }
-        ensures same { IsAlike self.old self.new }
-        ensures leaves { K.is_clean (keeper_of self.new) → LeavesNoMore self.old self.new }
-        ensures clean { K.is_clean (keeper_of self.new) → K.is_clean (keeper_of self.old) }
+        ensures accounts { AccountsFor IsOfStore self.old self.new result }
+        ensures asked { OnlyAsked self.old self.new }
     {
         Ok(self.keeper.oldest_waiting(device)?)
     }
@@ -714,11 +644,8 @@ impl<K: Keeper> Office<K> {
     pub fn orders(&mut self) -> Result<u32, OfficeError>
         ensures value { K.is_clean (keeper_of self.new) → (before : History) → Stands self.old before
             → IfOk result (λ orders. orders ≡ last_order (settings before)) }
-        ensures cause { IfErr result (λ e. IsOfStore (CauseFrom self.old self.new) e) }
-        ensures counted { K.refused (keeper_of self.old) ≤ K.refused (keeper_of self.new) }
-        ensures same { IsAlike self.old self.new }
-        ensures leaves { K.is_clean (keeper_of self.new) → LeavesNoMore self.old self.new }
-        ensures clean { K.is_clean (keeper_of self.new) → K.is_clean (keeper_of self.old) }
+        ensures accounts { AccountsFor IsOfStore self.old self.new result }
+        ensures asked { OnlyAsked self.old self.new }
     {
         Ok(self.keeper.orders()?)
     }

@@ -20,12 +20,13 @@ use Rattle.office_net.specs.declared.fault.PollFault.{PollFault}
 use Rattle.office_net.specs.declared.job.LineJob.{LineJob}
 use Rattle.office_net.specs.declared.machine.Poll.{Poll}
 use Rattle.office_net.specs.Faults.{ClosedBy, IsClosed, fault_by}
-use Rattle.office_net.specs.Following.{Fails, Stays, TurnFails, Follows, MayLeave}
+use Rattle.office_core.specs.Following.{Fails, Stays, Follows, MayLeave}
+use Rattle.office_net.specs.Turning.{TurnFails}
 use Rattle.office_net.specs.Jobs.{CanBeDone}
 use Rattle.office_net.specs.Moves.{Start, Move, Asks, Comes, told, jobs_in, frames_in, queries_in, turn_of, is_due}
 use Rattle.office_net.specs.Stages.{IsAfter, BreaksOff, Leads}
 use Rattle.office_net.proofs.Closing.{closed}
-use Rattle.office_net.proofs.Crashing.{left_refused}
+use Rattle.office_core.proofs.Following.{left_refused}
 use Rattle.office_net.proofs.Moving.{IsNextJob}
 
 -- ---- closed connections

@@ -8,7 +8,7 @@ use Rattle.poll_book.specs.Tables.{Tables}
 use Rattle.office_core.specs.History.{History}
 use Rattle.office_http.specs.declared.heard.Heard.{Heard}
 use Rattle.office_http.specs.Heard.{meaning_of}
-use Rattle.office_net.specs.Following.{Stays}
+use Rattle.office_core.specs.Following.{Stays}
 use Rattle.office_net.specs.Serving.{Answers, Breaks, Hears, Serves, Unanswered, written_for}
 
 module _ (stood stands : History → Type 0) (might may : Tables → Type 0) (ended : Type 0) (unread left : Option (List ℕ)) where

@@ -4,21 +4,9 @@ use Rattle.std.proofs.lemmas.List.{append-nil}
 use Rattle.poll_book.specs.Tables.{Tables, Within}
 use Rattle.office_core.specs.History.{tables}
 use Rattle.office_core.specs.Leavings.{LeftAfter}
+use Rattle.office_core.proofs.Following.{left_more}
 use Rattle.office_net.specs.Moves.{Start, Move, Asks, Passes, Comes, told, LeftIn, LeftTrying}
 use Rattle.office_net.specs.Stages.{LeftSince}
-
--- what an event adds to less, it adds to more
-pub left_more : (might may : Tables → Type 0) (old new : Tables) (b : Bool) → Within might may → Within (LeftAfter might old new b) (LeftAfter may old new b)
-left_more might may old new true within left (inl was) = inl (within left was)
-left_more might may old new true within left (inr made) = inr made
-left_more might may old new false within left (inl made) = inl made
-left_more might may old new false within left (inr same) = inr (same.0, within left same.1)
-
--- an event that changed no table adds no more than one that the store refused
-pub left_refused : (may : Tables → Type 0) (old new : Tables) (b : Bool) → Within (LeftAfter may old new b) (LeftAfter may old new true)
-left_refused may old new true left l = l
-left_refused may old new false left (inl made) = inr made
-left_refused may old new false left (inr same) = inl same.1
 
 -- from less, more moves leave less
 pub since_more : (might may : Tables → Type 0) (start : Start) (more moves : List Move) → Within might may → Within (LeftSince might start more moves) (LeftSince may start more moves)

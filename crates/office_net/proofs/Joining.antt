@@ -9,7 +9,7 @@ use Rattle.office_core.specs.History.{History}
 use Rattle.office_net.specs.declared.fault.PollFault.{PollFault}
 use Rattle.office_net.specs.declared.machine.Poll.{Poll}
 use Rattle.office_net.specs.Faults.{ClosedBy}
-use Rattle.office_net.specs.Following.{Follows, MayLeave}
+use Rattle.office_core.specs.Following.{Follows, MayLeave}
 use Rattle.office_net.specs.Moves.{Start, Move, Asks, Passes, Comes, told, frames_in, queries_in, LeftTrying}
 use Rattle.office_net.specs.Stages.{IsAfter, GoesOn, BreaksOff, Ends, IsNext, Leads, LeftSince}
 use Rattle.office_net.proofs.Crashing.{since_more, since_then, trying_more}

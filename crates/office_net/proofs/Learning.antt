@@ -9,10 +9,10 @@ use Rattle.office_core.specs.declared.error.OfficeError.{OfficeError}
 use Rattle.office_core.specs.declared.event.EventAnswer.TheVariants.{Query, Refused}
 use Rattle.office_core.specs.History.{Happening, History}
 use Rattle.office_core.specs.Offices.{keeper_of}
-use Rattle.office_net.specs.Following.{Fails, Follows, Happens, MayLeave, Stays}
-use Rattle.office_net.specs.Proceeding.{GoesAlong, Proceeds}
+use Rattle.office_core.specs.Following.{Fails, Follows, Happens, MayLeave, Stays}
+use Rattle.office_core.specs.Proceeding.{GoesAlong, Proceeds}
 use Rattle.office_net.specs.Counting.{Learns, Learnt}
-use Rattle.office_net.proofs.Proceeding.{and_then, did, missed, still}
+use Rattle.office_core.proofs.Proceeding.{and_then, did, missed, still}
 
 pub stays_then : (one two three : History → Type 0) (might may may' : Tables → Type 0)
     → Stays one two might may → Stays two three may may' → Stays one three might may'

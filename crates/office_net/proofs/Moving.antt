@@ -21,7 +21,7 @@ use Rattle.office_net.specs.declared.round.Round.{Round}
 use Rattle.office_net.specs.declared.job.LineJob.{LineJob}
 use Rattle.office_net.specs.declared.job.LineJob.TheVariants.{Order, Read}
 use Rattle.office_net.specs.declared.machine.Poll.{Poll}
-use Rattle.office_net.specs.Following.{Happens, Stays, Follows, MayLeave}
+use Rattle.office_core.specs.Following.{Happens, Stays, Follows, MayLeave}
 use Rattle.office_net.specs.Moves.{Start, Move, Asks, Passes, Comes, told, asks_in, jobs_in, frames_in, queries_in, query_in, is_query, unanswered, turn_of, turn_answer, is_due, next_order, number_of, HasToWait, recorded_by, excepted_by, refused_by}
 use Rattle.office_net.specs.Stages.{IsAfter, GoesOn, IsWaiting, Took, Asked, Passed, waiting_after}
 use Rattle.office_net.proofs.Sorted.{none_asked}

@@ -5,9 +5,9 @@ use Rattle.office_core.specs.declared.office.Office.{Office}
 use Rattle.office_core.specs.History.{Happening, History}
 use Rattle.office_net.specs.declared.machine.Poll.{Poll}
 use Rattle.office_net.specs.Kinds.{Turn, TurnIn}
-use Rattle.office_net.specs.Proceeding.{GoesAlong}
+use Rattle.office_core.specs.Proceeding.{GoesAlong}
 use Rattle.office_net.specs.Stages.{IsSame}
-use Rattle.office_net.proofs.Proceeding.{along_wider}
+use Rattle.office_core.proofs.Proceeding.{along_wider}
 
 pub same_then : (one two three : Poll) → IsSame one two → IsSame two three → IsSame one three
 same_then one two three first second = record { conn = second.conn ∙ first.conn; slot = second.slot ∙ first.slot; jobs = second.jobs ∙ first.jobs }

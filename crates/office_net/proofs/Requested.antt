@@ -1,9 +1,6 @@
 -- A request of a caller, from what the office's call came to.
-use mir.Val.{SFits}
-use Rattle.office_core.specs.Legal.{IsNumber}
-use Rattle.std.specs.Int.{w128}
-use Rattle.std.proofs.Common.{ℤ, pos, negsuc, ◌≡◌, ℕ, Bool, true, false, inr, List, [], ◌∷◌, Some, None, Result, Ok, Err, refl, sym, ap, ◌∙◌, subst, arith, suc, cond, find, IfOk}
-use Rattle.std.specs.Prelude.{All, MatchResult, OnErr, String, string_bytes}
+use Rattle.std.proofs.Common.{◌≡◌, ℕ, Bool, true, false, inr, List, [], ◌∷◌, Some, None, Result, Ok, Err, refl, sym, ap, ◌∙◌, subst, arith, suc, cond, find, IfOk}
+use Rattle.std.specs.Prelude.{All, MatchResult, String, string_bytes}
 use Rattle.std.specs.declared.alloc.Global.{Global}
 use Rattle.poll_book.specs.declared.fault.StoreFault.{StoreFault}
 use Rattle.poll_book.specs.declared.keeper.Neighbours.{Ghosts}
@@ -19,22 +16,13 @@ use Rattle.office_core.specs.declared.office.Office.{Office}
 use Rattle.office_core.specs.Answers.{answer_of}
 use Rattle.office_core.specs.History.{Happening, History, tables}
 use Rattle.office_core.specs.Leavings.{LeftAfter}
-use Rattle.office_core.specs.Offices.{IsAlike, told_so}
-use Rattle.office_core.specs.Standing.{is_refusal, is_store}
+use Rattle.office_core.specs.Offices.{OnlyAsked, keeper_of}
+use Rattle.office_core.specs.Standing.{is_store}
 use Rattle.office_http.specs.Meanings.{Meaning}
-use Rattle.office_net.specs.Following.{Fails, Happens, Stays}
+use Rattle.office_core.specs.Following.{Fails, Follows, Happens, MayLeave, Stays}
+use Rattle.office_core.proofs.Following.{stays_so}
 use Rattle.office_net.specs.Replies.{event_of, event_reply, reply_text, request_reply, with_event}
 use Rattle.office_net.specs.Serving.{Acts, Answers, LeftSo, Misses, Unanswered}
-
--- a number of 128 bits
-pub is_number : (z : ℤ) → SFits w128 z → IsNumber z
-is_number (pos n) fits = omega (arith, fits.sfits)
-is_number (negsuc n) fits = omega (arith, fits.sfits)
-
--- a request that the store refused changed nothing
-pub alike_on_err : {K : Type 0} {g : Ghosts K} (old new : Office K g) (told : Result RequestAnswer OfficeError) → (is_refusal (told_so told) ≡ true → IsAlike old new) → OnErr told (IsAlike old new)
-alike_on_err old new (Ok answer) same = tt
-alike_on_err old new (Err e) same = same refl
 
 -- the cause of a refusal by the store
 pub cause_of : (cause : StoreFault → Type 0) (e : OfficeError) (f : StoreFault) → IsOfStore cause e → (is_of_store e ≡ true → e ≡ error.Store f) → cause f
@@ -112,6 +100,12 @@ module _ (stood stands : History → Type 0) (might may : Tables → Type 0) (me
   -- the answer to what needs no office
   pub at_once : (text : List ℕ) → Stays stood stands might may → ((now : History) → text ≡ reply_text now meaning) → Answers stood stands might may meaning text
   at_once text it value = record { acts = query_acts it; answered = λ now s. value now }
+
+-- a query of an office, by what it came to
+pub asked_so : {K : Type 0} {g : Ghosts K} (old new : Office K g) (meaning : Meaning) → event_of meaning ≡ None → (result : Result (String Global) StoreFault) → OnlyAsked old new → g.is_clean (keeper_of new)
+    → ((now : History) → Follows old now → IfOk result (λ text. string_bytes text ≡ reply_text now meaning))
+    → MatchResult result (λ text. Answers (Follows old) (Follows new) (MayLeave old) (MayLeave new) meaning (string_bytes text)) (λ _. Unanswered (Follows old) (Follows new) (MayLeave old) (MayLeave new) meaning)
+asked_so old new meaning is result asked clean = queried (Follows old) (Follows new) (MayLeave old) (MayLeave new) meaning is result (stays_so old new asked clean)
 
 -- what holds of all holds of the one that is found
 pub found_holds : {X : Type 0} (P : X → Type 0) (test : X → Bool) (xs : List X) (x : X) → find test xs ≡ Some x → All P xs → P x

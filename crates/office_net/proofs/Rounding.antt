@@ -17,7 +17,7 @@ use Rattle.office_net.specs.declared.fault.PollFault.{PollFault}
 use Rattle.office_net.specs.declared.job.LineJob.{LineJob}
 use Rattle.office_net.specs.declared.machine.Poll.{Poll}
 use Rattle.office_net.specs.Faults.{ClosedBy, IsOfStream}
-use Rattle.office_net.specs.Following.{Follows, MayLeave}
+use Rattle.office_core.specs.Following.{Follows, MayLeave}
 use Rattle.office_net.specs.Jobs.{AreJobs, CanBeDone}
 use Rattle.office_net.specs.Moves.{Start, Move, told, frames_in, queries_in, LeftIn, LeftTrying}
 use Rattle.office_net.specs.Stages.{Ends, IsAfter, IsDone, IsNew, IsNext, Leads, LeftSince, counts_of}

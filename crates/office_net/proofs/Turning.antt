@@ -10,9 +10,9 @@ use Rattle.office_core.specs.History.{Happening, History, tables}
 use Rattle.office_core.specs.Answers.{answer_of}
 use Rattle.office_core.specs.Leavings.{LeftAfter}
 use Rattle.office_core.specs.Standing.{is_store}
-use Rattle.office_net.specs.Following.{Fails, Happens, Stays}
+use Rattle.office_core.specs.Following.{Fails, Happens, Stays}
 use Rattle.office_net.specs.Moves.{number_of}
-use Rattle.office_net.proofs.Crashing.{left_more}
+use Rattle.office_core.proofs.Following.{left_more}
 
 module _ (stood mid stands : History → Type 0) (might may may' : Tables → Type 0) (first : Stays stood mid might may) (event : History → Happening) (happening : Happening) (told : EventAnswer)
     (is : (now : History) → stood now → happening ≡ event now) where

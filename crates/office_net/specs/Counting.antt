@@ -5,7 +5,7 @@ use Rattle.poll_book.specs.Tables.{Tables}
 use Rattle.office_core.specs.declared.office.Office.{Office}
 use Rattle.office_core.specs.History.{History}
 use Rattle.office_core.specs.Offices.{keeper_of, value_after_of}
-use Rattle.office_net.specs.Following.{Follows, MayLeave, Stays}
+use Rattle.office_core.specs.Following.{Follows, MayLeave, Stays}
 
 -- nothing happened, and this holds of each history that was followed
 pub record Learns (stood stands : History → Type 0) (might may : Tables → Type 0) (holds : History → Type 0) : Type 0 where

@@ -13,10 +13,6 @@ use Rattle.office_net.specs.declared.machine.Poll.{Poll}
 use Rattle.office_net.specs.Moves.{next_order, number_of}
 use Rattle.office_net.specs.Replies.{event_of}
 
--- nothing
-abbrev pub Nothing : History → Happening → Type 0
-Nothing now event = ⊥
-
 -- a line is opened
 abbrev pub Opens : List ℕ → History → Happening → Type 0
 Opens line now event = event ≡ Open line

@@ -1,6 +1,6 @@
 pub mod Jobs
 pub mod Moves
-pub mod Following
+pub mod Turning
 pub mod Stages
 pub mod Faults
 pub mod Rounds
@@ -8,6 +8,5 @@ pub mod Turned
 pub mod Replies
 pub mod Serving
 pub mod Drills
-pub mod Proceeding
 pub mod Counting
 pub mod Kinds

@@ -13,7 +13,7 @@ use Rattle.office_http.specs.Deciding.{Decides, Means}
 use Rattle.office_http.specs.Meanings.{Meaning}
 use Rattle.office_net.specs.declared.serving.ServeFault.{ServeFault}
 use Rattle.office_net.specs.declared.serving.ServeFault.TheVariants as fault
-use Rattle.office_net.specs.Following.{Stays}
+use Rattle.office_core.specs.Following.{Stays}
 use Rattle.office_net.specs.Replies.{after_request, event_of, reply_text}
 
 -- what a crash may leave after what happens, which the store may have refused

@@ -15,7 +15,7 @@ use Rattle.office_net.specs.declared.machine.Poll.{Poll}
 use Rattle.office_net.specs.Jobs.{CanBeDone}
 use Rattle.office_net.specs.Moves.{Start, Move, Asks, Passes, Comes, told, jobs_in, frames_in, asks_in, queries_in, waiting_in, IsRun, LeftTrying, sum_in, recorded_by, excepted_by, refused_by}
 use Rattle.office_net.specs.Faults.{ClosedBy}
-use Rattle.office_net.specs.Following.{Follows, MayLeave}
+use Rattle.office_core.specs.Following.{Follows, MayLeave}
 
 -- ---- what contracts see of a round under way
 

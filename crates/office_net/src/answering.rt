@@ -1,17 +1,17 @@
 //! What an office answers to a request.
-ghost use Rattle.std.specs.Prelude.{◌≡◌, ◌≤◌, IfErr, IfOk, MatchResult, string_bytes};
+ghost use Rattle.std.specs.Prelude.{◌≡◌, IfOk, MatchResult, string_bytes};
 ghost use Rattle.poll_book.specs.Requests.{request_at};
 ghost use Rattle.office_core.specs.History.{History, points, requests};
 ghost use Rattle.office_core.specs.Loads.{known_named};
-ghost use Rattle.office_core.specs.Offices.{CauseFrom, keeper_of, order_state_of};
+ghost use Rattle.office_core.specs.Offices.{AccountsFor, AsItIs, OnlyAsked, keeper_of, order_state_of};
 ghost use Rattle.office_http.specs.Heard.{meaning_of};
 ghost use Rattle.office_http.specs.Meanings as meanings;
-ghost use Rattle.office_net.specs.Following.{Follows, MayLeave, Stays};
+ghost use Rattle.office_core.specs.Following.{Follows, MayLeave};
 ghost use Rattle.office_net.specs.Replies.{order_reply, readings_reply, state_reply, total_reply, under_reply};
 ghost use Rattle.office_net.specs.Serving.{Answers, Unanswered};
 
+use crate::fault::fault_of;
 use crate::replies::{list_reply, not_found, order_refused, point_reply, readings_reply};
-use crate::requests::{fault_of, load, order, order_state, readings, request_of, total, void};
 use office_core::Office;
 use office_core::laws::fitting_tables;
 use office_http::{Heard, answer};
@@ -29,11 +29,9 @@ fn put_list<K: Keeper>(
     ensures goes { K.is_clean (keeper_of office.new) → MatchResult result
         (λ text. Answers (Follows office.old) (Follows office.new) (MayLeave office.old) (MayLeave office.new) (meanings.load caller.now key.now list.now) (string_bytes text))
         (λ _. Unanswered (Follows office.old) (Follows office.new) (MayLeave office.old) (MayLeave office.new) (meanings.load caller.now key.now list.now)) }
-    ensures cause { IfErr result (CauseFrom office.old office.new) }
-    ensures counted { K.refused (keeper_of office.old) ≤ K.refused (keeper_of office.new) }
-    ensures clean { K.is_clean (keeper_of office.new) → K.is_clean (keeper_of office.old) }
+    ensures accounts { AccountsFor AsItIs office.old office.new result }
 {
-    let told = match load(office, caller, key, list) {
+    let told = match office.load(caller, key, list) {
         Ok(told) => told,
         Err(error) => return Err(fault_of(error)),
     };
@@ -52,11 +50,9 @@ fn put_order<K: Keeper>(
     ensures goes { K.is_clean (keeper_of office.new) → MatchResult result
         (λ text. Answers (Follows office.old) (Follows office.new) (MayLeave office.old) (MayLeave office.new) (meanings.order caller.now key.now point.now value) (string_bytes text))
         (λ _. Unanswered (Follows office.old) (Follows office.new) (MayLeave office.old) (MayLeave office.new) (meanings.order caller.now key.now point.now value)) }
-    ensures cause { IfErr result (CauseFrom office.old office.new) }
-    ensures counted { K.refused (keeper_of office.old) ≤ K.refused (keeper_of office.new) }
-    ensures clean { K.is_clean (keeper_of office.new) → K.is_clean (keeper_of office.old) }
+    ensures accounts { AccountsFor AsItIs office.old office.new result }
 {
-    let told = match order(office, caller, key, point, value) {
+    let told = match office.order(caller, key, point, value) {
         Ok(told) => told,
         Err(error) => return Err(fault_of(error)),
     };
@@ -75,11 +71,9 @@ fn put_void<K: Keeper>(
     ensures goes { K.is_clean (keeper_of office.new) → MatchResult result
         (λ text. Answers (Follows office.old) (Follows office.new) (MayLeave office.old) (MayLeave office.new) (meanings.void caller.now key.now point.now slot) (string_bytes text))
         (λ _. Unanswered (Follows office.old) (Follows office.new) (MayLeave office.old) (MayLeave office.new) (meanings.void caller.now key.now point.now slot)) }
-    ensures cause { IfErr result (CauseFrom office.old office.new) }
-    ensures counted { K.refused (keeper_of office.old) ≤ K.refused (keeper_of office.new) }
-    ensures clean { K.is_clean (keeper_of office.new) → K.is_clean (keeper_of office.old) }
+    ensures accounts { AccountsFor AsItIs office.old office.new result }
 {
-    let told = match void(office, caller, key, point, slot) {
+    let told = match office.void(caller, key, point, slot) {
         Ok(told) => told,
         Err(error) => return Err(fault_of(error)),
     };
@@ -95,13 +89,10 @@ fn get_state<K: Keeper>(
 ) -> Result<String, StoreFault>
     ensures value { K.is_clean (keeper_of office.new) → (now : History) → Follows office.old now
         → IfOk result (λ text. string_bytes text ≡ state_reply number (order_state_of now number)) }
-    ensures stays { K.is_clean (keeper_of office.new)
-        → Stays (Follows office.old) (Follows office.new) (MayLeave office.old) (MayLeave office.new) }
-    ensures cause { IfErr result (CauseFrom office.old office.new) }
-    ensures counted { K.refused (keeper_of office.old) ≤ K.refused (keeper_of office.new) }
-    ensures clean { K.is_clean (keeper_of office.new) → K.is_clean (keeper_of office.old) }
+    ensures asked { OnlyAsked office.old office.new }
+    ensures accounts { AccountsFor AsItIs office.old office.new result }
 {
-    let found = match order_state(office, number) {
+    let found = match office.order_state(number) {
         Ok(found) => found,
         Err(error) => return Err(fault_of(error)),
     };
@@ -120,11 +111,8 @@ fn get_outcome<K: Keeper>(
 ) -> Result<String, StoreFault>
     ensures value { K.is_clean (keeper_of office.new) → (now : History) → Follows office.old now
         → IfOk result (λ text. string_bytes text ≡ order_reply now outcome.now) }
-    ensures stays { K.is_clean (keeper_of office.new)
-        → Stays (Follows office.old) (Follows office.new) (MayLeave office.old) (MayLeave office.new) }
-    ensures cause { IfErr result (CauseFrom office.old office.new) }
-    ensures counted { K.refused (keeper_of office.old) ≤ K.refused (keeper_of office.new) }
-    ensures clean { K.is_clean (keeper_of office.new) → K.is_clean (keeper_of office.old) }
+    ensures asked { OnlyAsked office.old office.new }
+    ensures accounts { AccountsFor AsItIs office.old office.new result }
 {
     match outcome {
         Outcome::Loaded(_) | Outcome::Voided(_) => Ok(not_found(alloc)?),
@@ -141,13 +129,10 @@ fn get_order<K: Keeper>(
 ) -> Result<String, StoreFault>
     ensures value { K.is_clean (keeper_of office.new) → (now : History) → Follows office.old now
         → IfOk result (λ text. string_bytes text ≡ under_reply now (request_at (requests now) (caller.now, key.now))) }
-    ensures stays { K.is_clean (keeper_of office.new)
-        → Stays (Follows office.old) (Follows office.new) (MayLeave office.old) (MayLeave office.new) }
-    ensures cause { IfErr result (CauseFrom office.old office.new) }
-    ensures counted { K.refused (keeper_of office.old) ≤ K.refused (keeper_of office.new) }
-    ensures clean { K.is_clean (keeper_of office.new) → K.is_clean (keeper_of office.old) }
+    ensures asked { OnlyAsked office.old office.new }
+    ensures accounts { AccountsFor AsItIs office.old office.new result }
 {
-    let found = match request_of(office, caller, key) {
+    let found = match office.request_of(caller, key) {
         Ok(found) => found,
         Err(error) => return Err(fault_of(error)),
     };
@@ -169,17 +154,14 @@ fn get_readings<K: Keeper>(
 ) -> Result<String, StoreFault>
     ensures value { K.is_clean (keeper_of office.new) → (now : History) → Follows office.old now
         → IfOk result (λ text. string_bytes text ≡ readings_reply now point.now from to (known_named (points now) point.now)) }
-    ensures stays { K.is_clean (keeper_of office.new)
-        → Stays (Follows office.old) (Follows office.new) (MayLeave office.old) (MayLeave office.new) }
-    ensures cause { IfErr result (CauseFrom office.old office.new) }
-    ensures counted { K.refused (keeper_of office.old) ≤ K.refused (keeper_of office.new) }
-    ensures clean { K.is_clean (keeper_of office.new) → K.is_clean (keeper_of office.old) }
+    ensures asked { OnlyAsked office.old office.new }
+    ensures accounts { AccountsFor AsItIs office.old office.new result }
 {
     fitting_tables();
     let Some(known) = office.point(point) else {
         return Ok(not_found(alloc)?);
     };
-    let found = match readings(office, point, from, to) {
+    let found = match office.readings(point, from, to) {
         Ok(found) => found,
         Err(error) => return Err(fault_of(error)),
     };
@@ -197,16 +179,13 @@ fn get_total<K: Keeper>(
 ) -> Result<String, StoreFault>
     ensures value { K.is_clean (keeper_of office.new) → (now : History) → Follows office.old now
         → IfOk result (λ text. string_bytes text ≡ total_reply now point.now (known_named (points now) point.now)) }
-    ensures stays { K.is_clean (keeper_of office.new)
-        → Stays (Follows office.old) (Follows office.new) (MayLeave office.old) (MayLeave office.new) }
-    ensures cause { IfErr result (CauseFrom office.old office.new) }
-    ensures counted { K.refused (keeper_of office.old) ≤ K.refused (keeper_of office.new) }
-    ensures clean { K.is_clean (keeper_of office.new) → K.is_clean (keeper_of office.old) }
+    ensures asked { OnlyAsked office.old office.new }
+    ensures accounts { AccountsFor AsItIs office.old office.new result }
 {
     let Some(known) = office.point(point) else {
         return Ok(not_found(alloc)?);
     };
-    let found = match total(office, point) {
+    let found = match office.total(point) {
         Ok(found) => found,
         Err(error) => return Err(fault_of(error)),
     };
@@ -230,9 +209,7 @@ pub fn respond<K: Keeper>(
     ensures goes { K.is_clean (keeper_of office.new) → MatchResult result
         (λ text. Answers (Follows office.old) (Follows office.new) (MayLeave office.old) (MayLeave office.new) (meaning_of asked.now) (string_bytes text))
         (λ _. Unanswered (Follows office.old) (Follows office.new) (MayLeave office.old) (MayLeave office.new) (meaning_of asked.now)) }
-    ensures cause { IfErr result (CauseFrom office.old office.new) }
-    ensures counted { K.refused (keeper_of office.old) ≤ K.refused (keeper_of office.new) }
-    ensures clean { K.is_clean (keeper_of office.new) → K.is_clean (keeper_of office.old) }
+    ensures accounts { AccountsFor AsItIs office.old office.new result }
 {
     match asked {
         Heard::Nothing => Ok(String::new(alloc)),

@@ -2,10 +2,8 @@
 ghost use Rattle.std.specs.Prelude.{◌≡◌, ◌<◌, ◌+◌, IfOk};
 ghost use Rattle.office_net.specs.Counting as counting;
 ghost use Rattle.office_net.specs.Counting.{IsLastCounted, Learnt};
-ghost use Rattle.office_net.specs.Kinds.{Nothing};
-ghost use Rattle.office_net.specs.Proceeding.{GoesAlong};
+ghost use Rattle.office_core.specs.Proceeding.{GoesAlong, Nothing};
 
-use crate::calls::value_after;
 use office_core::{Office, OfficeError};
 use poll_book::Keeper;
 
@@ -18,7 +16,7 @@ fn is_counted_after<K: Keeper>(
     ensures value { IfOk result (λ is. Learnt office.old office.new (λ now. is ≡ counting.is_counted_after now point.now slot)) }
     ensures along { GoesAlong Nothing office.old office.new }
 {
-    let value = value_after(office, point, slot)?;
+    let value = office.value_after(point, slot)?;
     Ok(value.is_some())
 }
 

@@ -1,12 +1,12 @@
 //! A drill: an office asks simulated devices, in one process and without a line.
-ghost use Rattle.std.specs.Prelude.{◌≡◌, ◌⊎◌, ◌≤◌, List, [], ◌∷◌, ◌++◌, IfOk, MatchResult, OnErr, OnOk, Vec, option_map, reverse};
+ghost use Rattle.std.specs.Prelude.{◌≡◌, ◌⊎◌, List, [], ◌∷◌, ◌++◌, IfOk, MatchResult, OnErr, OnOk, Vec, option_map, reverse};
 ghost use Rattle.mb_map.specs.Schedule.{Continues};
 ghost use Rattle.mb_map.specs.Schedule.Call.{Rest};
 ghost use Rattle.std.specs.Global.{Global};
 ghost use Rattle.mb_mbap.specs.declared.frame.Frame.{Frame};
 ghost use Rattle.office_core.specs.declared.event.Event.{Event};
 ghost use Rattle.office_core.specs.declared.event.EventAnswer.{EventAnswer};
-ghost use Rattle.office_core.specs.Offices.{keeper_of};
+ghost use Rattle.office_core.specs.Offices.{Counts, keeper_of};
 ghost use Rattle.office_net.specs.Drills.{Begins, BreaksOff, BringsHeld, DoAll, Does, Drills, IsGiven, Leads, Makes, arrivals, conn_of, last_over, query_in};
 
 use mb_map::{MapError, Sim};
@@ -69,8 +69,7 @@ fn bring<K: Keeper>(
     ensures ok { K.is_clean (keeper_of office.new) → OnOk result ((more : List EventAnswer) × (told.new.items ≡ told.old.items ++ more)
         × Leads office.old office.new (arrivals conn frames.items) more) }
     ensures err { OnErr result ((office.new ≡ office.old) × (told.new.items ≡ told.old.items)) }
-    ensures counted { K.refused (keeper_of office.old) ≤ K.refused (keeper_of office.new) }
-    ensures clean { K.is_clean (keeper_of office.new) → K.is_clean (keeper_of office.old) }
+    ensures counts { Counts office.old office.new }
 {
     told.reserve(frames.len())?;
     for frame in frames {
@@ -102,8 +101,7 @@ fn make<K: Keeper>(
         × Makes sim.old conn event.now asked events more sim.new × Leads office.old office.new events more) }
     ensures err { K.is_clean (keeper_of office.new) → OnErr result ((events : List Event) × (more : List EventAnswer)
         × ((events ≡ []) ⊎ (events ≡ event.now ∷ [])) × Leads office.old office.new events more) }
-    ensures counted { K.refused (keeper_of office.old) ≤ K.refused (keeper_of office.new) }
-    ensures clean { K.is_clean (keeper_of office.new) → K.is_clean (keeper_of office.old) }
+    ensures counts { Counts office.old office.new }
 {
     told.reserve(1)?;
     let answer = office.step(event);
@@ -129,8 +127,7 @@ fn go<K: Keeper>(
         × Does sim.old step.now over events more sim.new × Leads office.old office.new events more) }
     ensures err { K.is_clean (keeper_of office.new) → OnErr result ((events : List Event) × (more : List EventAnswer)
         × Begins step.now events × Leads office.old office.new events more) }
-    ensures counted { K.refused (keeper_of office.old) ≤ K.refused (keeper_of office.new) }
-    ensures clean { K.is_clean (keeper_of office.new) → K.is_clean (keeper_of office.old) }
+    ensures counts { Counts office.old office.new }
 {
     match step {
         DrillStep::Set(unit_id, table, address, number) => {
@@ -169,8 +166,7 @@ fn go_through<K: Keeper>(
         × DoAll sim.old (reverse steps.now) events told.new.items sim.new last × Leads office.old office.new events told.new.items) }
     ensures err { K.is_clean (keeper_of office.new) → OnErr result ((events : List Event) × (told : List EventAnswer)
         × BreaksOff sim.old steps.now events told × Leads office.old office.new events told) }
-    ensures counted { K.refused (keeper_of office.old) ≤ K.refused (keeper_of office.new) }
-    ensures clean { K.is_clean (keeper_of office.new) → K.is_clean (keeper_of office.old) }
+    ensures counts { Counts office.old office.new }
 {
     let mut last = None;
     for step in steps {
@@ -190,8 +186,7 @@ fn finish<K: Keeper>(
     ensures ok { K.is_clean (keeper_of office.new) → OnOk result ((held : List Frame) × (more : List EventAnswer) × (told.new.items ≡ told.old.items ++ more)
         × Continues sim.old Rest held sim.new × Leads office.old office.new (BringsHeld last held) more) }
     ensures err { OnErr result (office.new ≡ office.old) }
-    ensures counted { K.refused (keeper_of office.old) ≤ K.refused (keeper_of office.new) }
-    ensures clean { K.is_clean (keeper_of office.new) → K.is_clean (keeper_of office.old) }
+    ensures counts { Counts office.old office.new }
 {
     let held = sim.rest()?;
     match last {
@@ -218,8 +213,7 @@ pub fn drill<K: Keeper>(
         × Leads office.old office.new events told.items)
         (λ _. (events : List Event) × (told : List EventAnswer) × BreaksOff sim.old steps.now events told
         × Leads office.old office.new events told) }
-    ensures counted { K.refused (keeper_of office.old) ≤ K.refused (keeper_of office.new) }
-    ensures clean { K.is_clean (keeper_of office.new) → K.is_clean (keeper_of office.old) }
+    ensures counts { Counts office.old office.new }
 {
     let mut told = Vec::new(alloc);
     let last = go_through(office, sim, steps, &mut told)?;

@@ -1,4 +1,7 @@
-ghost use Rattle.std.specs.Prelude.{◌≡◌};
+ghost use Rattle.std.specs.Prelude.{◌≡◌, true};
+ghost use Rattle.office_core.specs.Errors.{is_of_store};
+ghost use Rattle.office_core.specs.Standing as standing;
+ghost use Rattle.office_core.specs.declared.event.EventAnswer.TheVariants.{Refused};
 
 use mb_mbap::FrameFault;
 use office_core::OfficeError;
@@ -49,5 +52,25 @@ impl From<OfficeError> for PollFault {
             OfficeError::Store(fault) => PollFault::Store(fault),
             _ => PollFault::Closed,
         }
+    }
+}
+
+/// Whether the store refused.
+pub(crate) fn is_store(error: &OfficeError) -> bool
+    ensures { result ≡ standing.is_store (Refused error.now) }
+{
+    match error {
+        OfficeError::Store(_) => true,
+        _ => false,
+    }
+}
+
+/// Why the store refused.
+pub(crate) fn fault_of(error: OfficeError) -> StoreFault
+    ensures { is_of_store error ≡ true → error ≡ OfficeError.Store result }
+{
+    match error {
+        OfficeError::Store(fault) => fault,
+        _ => StoreFault::Other,
     }
 }

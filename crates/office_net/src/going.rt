@@ -5,15 +5,13 @@ ghost use Rattle.office_core.specs.History.{History, settings};
 ghost use Rattle.office_core.specs.Offices.{keeper_of};
 ghost use Rattle.office_http.specs.Heard.{meaning_of};
 ghost use Rattle.office_net.specs.Counting.{Learnt};
-ghost use Rattle.office_net.specs.Following.{Follows};
-ghost use Rattle.office_net.specs.Kinds.{Asks, Does, Hears, IsOldest, Nothing, Opens, SendsUpTo};
-ghost use Rattle.office_net.specs.Proceeding.{GoesAlong};
+ghost use Rattle.office_core.specs.Following.{Follows};
+ghost use Rattle.office_core.specs.Proceeding.{GoesAlong, Nothing};
+ghost use Rattle.office_net.specs.Kinds.{Asks, Does, Hears, IsOldest, Opens, SendsUpTo};
 
 use crate::answering::respond;
-use crate::calls::{are_bytes, orders, send_order, waiting};
 use crate::turns::ask_lacking;
 use mb_mbap::Frame;
-use office_core::laws::any_message;
 use office_core::{Arrival, Office, OfficeError};
 use office_http::Heard;
 use poll_book::{Keeper, StoreFault};
@@ -25,8 +23,6 @@ use std::alloc::Global;
 pub fn open_line<K: Keeper>(office: &mut Office<K>, line: &str) -> Result<Conn, OfficeError>
     ensures { GoesAlong (Opens line.now) office.old office.new }
 {
-    any_message();
-    are_bytes(line.as_bytes());
     office.open_line(line)
 }
 
@@ -39,8 +35,6 @@ pub fn take_late<K: Keeper>(
 ) -> Result<Arrival, OfficeError>
     ensures { GoesAlong (Hears conn frame.now) office.old office.new }
 {
-    any_message();
-    are_bytes(frame.unit.as_bytes());
     office.arrive(conn, frame)
 }
 
@@ -61,7 +55,7 @@ pub fn last_order<K: Keeper>(office: &mut Office<K>) -> Result<u32, OfficeError>
         → IfOk result (λ number. number ≡ orders.last_order (settings now)) }
     ensures along { GoesAlong Nothing office.old office.new }
 {
-    orders(office)
+    office.orders()
 }
 
 /// Asks a read of a device, if some point that it covers has no reading in the slot. It refuses as `Office::lacks` and
@@ -83,7 +77,7 @@ fn oldest<K: Keeper>(office: &mut Office<K>, device: &str) -> Result<Option<u32>
     ensures value { IfOk result (λ number. Learnt office.old office.new (λ now. IsOldest now device.now number)) }
     ensures along { GoesAlong Nothing office.old office.new }
 {
-    let found = waiting(office, device)?;
+    let found = office.waiting(device)?;
     match found {
         Some(order) => Ok(Some(order.number)),
         None => Ok(None),
@@ -103,7 +97,7 @@ pub fn send_among<K: Keeper>(
     let number = oldest(office, device)?;
     match number {
         Some(number) if number <= last => {
-            let query = send_order(office, conn, number)?;
+            let query = office.send_order(conn, number)?;
             Ok(Some(query))
         }
         _ => Ok(None),

@@ -5,7 +5,6 @@
 #![tactic(auto)]
 
 mod answering;
-mod calls;
 mod counting;
 mod drilling;
 mod fault;
@@ -16,7 +15,6 @@ mod machine;
 mod planning;
 mod polling;
 mod replies;
-mod requests;
 mod round;
 mod serving;
 mod turns;

@@ -1,13 +1,12 @@
 //! A round as a machine that reads and writes nothing.
-ghost use Rattle.std.specs.Prelude.{◌≡◌, ◌<◌, ◌≤◌, ◌+◌, ◌*◌, ◌^◌, ◌∷◌, ◌↔◌, [], ℕ, IfErr, IfOk, IsNone, IsSome, IsTrue, MatchResult, length};
+ghost use Rattle.std.specs.Prelude.{◌≡◌, ◌<◌, ◌≤◌, ◌+◌, ◌*◌, ◌^◌, ◌∷◌, ◌↔◌, [], ℕ, IfOk, IsNone, IsSome, IsTrue, MatchResult, length};
 ghost use Rattle.office_core.specs.declared.error.OfficeError.{OfficeError};
 ghost use Rattle.office_core.specs.declared.event.EventAnswer.TheVariants.{Arrived, Refused};
-ghost use Rattle.office_core.specs.Offices.{CauseFrom, keeper_of};
+ghost use Rattle.office_core.specs.Offices.{AccountsFor, keeper_of};
 ghost use Rattle.office_net.specs.Faults.{IsCaused};
-ghost use Rattle.office_net.specs.Proceeding.{GoesAlong};
+ghost use Rattle.office_core.specs.Proceeding.{GoesAlong};
 
-use crate::calls::{arrive, is_store};
-use crate::fault::PollFault;
+use crate::fault::{PollFault, is_store};
 use crate::job::LineJob;
 use crate::round::Round;
 use crate::turns::turn;
@@ -130,9 +129,7 @@ impl Poll {
             (λ fault. BreaksOff office.old self.old office.new self.new [] [] [] fault) }
         ensures along { GoesAlong (TurnIn self.old) office.old office.new }
         ensures same { IsSame self.old self.new }
-        ensures cause { IfErr result (λ fault. IsCaused ⊥ (CauseFrom office.old office.new) fault) }
-        ensures counted { K.refused (keeper_of office.old) ≤ K.refused (keeper_of office.new) }
-        ensures clean { K.is_clean (keeper_of office.new) → K.is_clean (keeper_of office.old) }
+        ensures accounts { AccountsFor (IsCaused ⊥) office.old office.new result }
         ensures left { IfOk result (λ _. left_of self.new + 1 ≡ left_of self.old) }
         ensures taken { taken_of self.new ≡ taken_of self.old }
     {
@@ -155,9 +152,7 @@ impl Poll {
             (λ query. GoesOn office.old self.old office.new self.new [] (as_list query))
             (λ fault. BreaksOff office.old self.old office.new self.new [] [] [] fault) }
         ensures along { GoesAlong (TurnIn self.old) office.old office.new }
-        ensures cause { IfErr result (λ fault. IsCaused ⊥ (CauseFrom office.old office.new) fault) }
-        ensures counted { K.refused (keeper_of office.old) ≤ K.refused (keeper_of office.new) }
-        ensures clean { K.is_clean (keeper_of office.new) → K.is_clean (keeper_of office.old) }
+        ensures accounts { AccountsFor (IsCaused ⊥) office.old office.new result }
         ensures waits { IfOk result (λ query. IsNone query → IsWaiting self.new) }
         ensures left { IfOk result (λ query. IsSome query → left_of self.new < left_of self.old) }
         ensures taken { taken_of self.new ≡ taken_of self.old }
@@ -220,13 +215,11 @@ impl Poll {
             (λ _. GoesOn office.old self.old office.new self.new (frame.now ∷ []) [])
             (λ fault. BreaksOff office.old self.old office.new self.new [] (frame.now ∷ []) [] fault) }
         ensures along { GoesAlong (HearsIn self.old frame.now) office.old office.new }
-        ensures cause { IfErr result (λ fault. IsCaused ⊥ (CauseFrom office.old office.new) fault) }
-        ensures counted { K.refused (keeper_of office.old) ≤ K.refused (keeper_of office.new) }
-        ensures clean { K.is_clean (keeper_of office.new) → K.is_clean (keeper_of office.old) }
+        ensures accounts { AccountsFor (IsCaused ⊥) office.old office.new result }
         ensures left { left_of self.new ≡ left_of self.old }
         ensures taken { IfOk result (λ _. taken_of self.new ≡ taken_of self.old + 1) }
     {
-        match arrive(office, self.conn, frame) {
+        match office.arrive(self.conn, frame) {
             Ok(arrival) => {
                 self.note_arrival(arrival, frame.transaction);
                 Ok(())

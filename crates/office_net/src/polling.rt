@@ -1,14 +1,12 @@
 //! A round over a reader and a writer.
-ghost use Rattle.std.specs.Prelude.{◌≡◌, ◌⊎◌, ◌≤◌, ◌<◌, ◌+◌, [], ℕ, All, List, IfErr, IfOk, IsSome, MatchResult, None, Some, OnOk, length, take};
-ghost use Rattle.std.specs.Io.KnownBytes.{Appends, Consumes};
+ghost use Rattle.std.specs.Prelude.{◌≡◌, ◌≤◌, ◌<◌, ◌+◌, [], ℕ, All, List, IfErr, IfOk, IsSome, MatchResult, None, Some, OnOk, length};
 ghost use Rattle.mb_mbap.specs.Counted.{HasRisen, ends_of, failures_of, inner_of};
-ghost use Rattle.mb_mbap.specs.Stream.{spelled};
 ghost use Rattle.mb_mbap.specs.declared.fault.FrameFault.{FrameFault};
 ghost use Rattle.mb_mbap.specs.declared.frame.Frame.{Frame};
 ghost use Rattle.office_core.specs.History.{History};
-ghost use Rattle.office_core.specs.Offices.{CauseFrom, keeper_of};
+ghost use Rattle.office_core.specs.Offices.{AccountsFor, keeper_of};
 ghost use Rattle.office_net.specs.Faults.{HasCause, IsCaused, LineFailed, NoneFailed};
-ghost use Rattle.office_net.specs.Following.{Follows, MayLeave};
+ghost use Rattle.office_core.specs.Following.{Follows, MayLeave};
 ghost use Rattle.office_net.specs.Jobs.{AreJobs, CanBeDone};
 ghost use Rattle.office_net.specs.Rounds.{Breaks, BreaksIn, Cuts, Fed, Handles, IsCut, IsWhole, Polls, Stops, Takes, start_of};
 ghost use Rattle.office_net.specs.Stages.{IsDone, IsWaiting, taken_of};
@@ -42,9 +40,7 @@ fn send<K: Keeper, W: Write>(
     ensures goes { K.is_clean (keeper_of office.new) → MatchResult result
         (λ _. Handles office.old poll.old office.new poll.new [] (W.contents (inner_of writer.old)) (W.contents (inner_of writer.new)))
         (λ fault. Breaks office.old poll.old office.new poll.new [] [] (NoneFailed writer.old writer.new) (W.contents (inner_of writer.old)) (W.contents (inner_of writer.new)) fault) }
-    ensures cause { IfErr result (λ fault. IsCaused (HasRisen (failures_of writer.old) (failures_of writer.new)) (CauseFrom office.old office.new) fault) }
-    ensures counted { K.refused (keeper_of office.old) ≤ K.refused (keeper_of office.new) }
-    ensures clean { K.is_clean (keeper_of office.new) → K.is_clean (keeper_of office.old) }
+    ensures accounts { AccountsFor (IsCaused (HasRisen (failures_of writer.old) (failures_of writer.new))) office.old office.new result }
     ensures waits { OnOk result (IsWaiting poll.new) }
     ensures calm { OnOk result (failures_of writer.new ≡ failures_of writer.old) }
     ensures taken { taken_of poll.new ≡ taken_of poll.old }
@@ -68,9 +64,7 @@ fn bring<K: Keeper, W: Write>(
         (λ _. Handles office.old poll.old office.new poll.new frames.now (W.contents (inner_of writer.old)) (W.contents (inner_of writer.new)))
         (λ fault. BreaksIn (λ came coming. Breaks office.old poll.old office.new poll.new came coming (NoneFailed writer.old writer.new)
         (W.contents (inner_of writer.old)) (W.contents (inner_of writer.new)) fault) frames.now) }
-    ensures cause { IfErr result (λ fault. IsCaused (HasRisen (failures_of writer.old) (failures_of writer.new)) (CauseFrom office.old office.new) fault) }
-    ensures counted { K.refused (keeper_of office.old) ≤ K.refused (keeper_of office.new) }
-    ensures clean { K.is_clean (keeper_of office.new) → K.is_clean (keeper_of office.old) }
+    ensures accounts { AccountsFor (IsCaused (HasRisen (failures_of writer.old) (failures_of writer.new))) office.old office.new result }
     ensures waits { OnOk result (IsWaiting poll.new) }
     ensures calm { OnOk result (failures_of writer.new ≡ failures_of writer.old) }
     ensures taken { OnOk result (taken_of poll.new ≡ taken_of poll.old + length frames.now) }
@@ -113,9 +107,7 @@ fn read_on<K: Keeper, R: Read, W: Write>(
         → IfErr result (λ fault. Cuts (λ came coming. Breaks office.old poll.old office.new poll.new came coming (NoneFailed writer.old writer.new)
         (W.contents (inner_of writer.old)) (W.contents (inner_of writer.new)) fault)
         bytes frames (R.remaining (inner_of reader.old)) (R.remaining (inner_of reader.new)) fault) }
-    ensures cause { IfErr result (λ fault. HasCause (LineFailed reader.old reader.new writer.old writer.new) (CauseFrom office.old office.new) fault) }
-    ensures counted { K.refused (keeper_of office.old) ≤ K.refused (keeper_of office.new) }
-    ensures clean { K.is_clean (keeper_of office.new) → K.is_clean (keeper_of office.old) }
+    ensures accounts { AccountsFor (HasCause (LineFailed reader.old reader.new writer.old writer.new)) office.old office.new result }
     ensures more { IfOk result (λ now. (read < now) × (now ≤ MOST_READ)) }
     ensures sound { OnOk result (stream.new ≡ None → IsDone poll.new) }
     ensures waits { OnOk result (IsWaiting poll.new) }
@@ -151,9 +143,7 @@ fn poll_jobs<K: Keeper, R: Read, W: Write>(
         (λ fault. IsCut (Follows office.new) (MayLeave office.old) (MayLeave office.new) (start_of conn slot jobs.items before)
         (R.remaining (inner_of reader.old)) (R.remaining (inner_of reader.new)) (NoneFailed writer.old writer.new)
         (W.contents (inner_of writer.old)) (W.contents (inner_of writer.new)) fault) }
-    ensures cause { IfErr result (λ fault. HasCause (LineFailed reader.old reader.new writer.old writer.new) (CauseFrom office.old office.new) fault) }
-    ensures counted { K.refused (keeper_of office.old) ≤ K.refused (keeper_of office.new) }
-    ensures clean { K.is_clean (keeper_of office.new) → K.is_clean (keeper_of office.old) }
+    ensures accounts { AccountsFor (HasCause (LineFailed reader.old reader.new writer.old writer.new)) office.old office.new result }
 {
     let mut poll = Poll::new(conn, slot, jobs);
     let mut stream = FrameReader::new(alloc);
@@ -185,9 +175,7 @@ pub fn poll_round<K: Keeper, R: Read, W: Write>(
         (λ fault. Stops (Follows office.new) (MayLeave office.old) (MayLeave office.new) conn slot before
         (R.remaining (inner_of reader.old)) (R.remaining (inner_of reader.new)) (NoneFailed writer.old writer.new)
         (W.contents (inner_of writer.old)) (W.contents (inner_of writer.new)) fault) }
-    ensures cause { IfErr result (λ fault. HasCause (LineFailed reader.old reader.new writer.old writer.new) (CauseFrom office.old office.new) fault) }
-    ensures counted { K.refused (keeper_of office.old) ≤ K.refused (keeper_of office.new) }
-    ensures clean { K.is_clean (keeper_of office.new) → K.is_clean (keeper_of office.old) }
+    ensures accounts { AccountsFor (HasCause (LineFailed reader.old reader.new writer.old writer.new)) office.old office.new result }
 {
     readable_points();
     let Some(line) = office.line_of(conn) else {

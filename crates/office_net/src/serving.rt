@@ -1,11 +1,11 @@
 //! One request over a reader, and its answer over a writer.
-ghost use Rattle.std.specs.Prelude.{◌≡◌, ◌≤◌, ◌<◌, [], IfErr, IfOk, IsErr, MatchResult, None, OnOk, Some, length, string_bytes, take};
-ghost use Rattle.std.specs.Io.KnownBytes.{Appends, Consumes};
+ghost use Rattle.std.specs.Prelude.{◌≡◌, ◌<◌, IfErr, IfOk, IsErr, MatchResult, None, OnOk, Some, string_bytes};
+ghost use Rattle.std.specs.Io.KnownBytes.{Appends};
 ghost use Rattle.mb_mbap.specs.Counted.{HasRisen, ends_of, failures_of, inner_of};
-ghost use Rattle.office_core.specs.Offices.{CauseFrom, keeper_of};
+ghost use Rattle.office_core.specs.Offices.{AccountsFor, AsItIs, Counts, keeper_of};
 ghost use Rattle.office_http.specs.declared.heard.Heard.{Heard};
 ghost use Rattle.office_http.specs.Heard.{meaning_of};
-ghost use Rattle.office_net.specs.Following.{Follows, MayLeave, Stays};
+ghost use Rattle.office_core.specs.Following.{Follows, MayLeave, Stays};
 ghost use Rattle.office_net.specs.Serving.{Answers, Breaks, Hears, IsCausedBy, Serves, Unanswered, written_for};
 
 use crate::answering::respond;
@@ -65,10 +65,8 @@ fn reply<K: Keeper>(
     ensures known { K.is_clean (keeper_of office.new) → (asked : Heard) → heard.now ≡ Some asked → MatchResult result
         (λ text. Answers (Follows office.old) (Follows office.new) (MayLeave office.old) (MayLeave office.new) (meaning_of asked) (string_bytes text))
         (λ _. Unanswered (Follows office.old) (Follows office.new) (MayLeave office.old) (MayLeave office.new) (meaning_of asked)) }
-    ensures cause { IfErr result (CauseFrom office.old office.new) }
+    ensures accounts { AccountsFor AsItIs office.old office.new result }
     ensures unknown { K.is_clean (keeper_of office.new) → heard.now ≡ None → IsErr result × Stays (Follows office.old) (Follows office.new) (MayLeave office.old) (MayLeave office.new) }
-    ensures counted { K.refused (keeper_of office.old) ≤ K.refused (keeper_of office.new) }
-    ensures clean { K.is_clean (keeper_of office.new) → K.is_clean (keeper_of office.old) }
 {
     match heard {
         Some(asked) => respond(alloc, office, asked),
@@ -106,8 +104,7 @@ pub fn serve_one<K: Keeper, R: Read, W: Write>(
         (HasRisen (ends_of reader.old) (ends_of reader.new)) (R.remaining (inner_of reader.old)) (R.remaining (inner_of reader.new))) }
     ensures unread { IfErr result (λ fault. fault ≡ ServeFault.Read → (office.new ≡ office.old) × (writer.new ≡ writer.old)) }
     ensures cause { IfErr result (IsCausedBy (HasRisen (failures_of reader.old) (failures_of reader.new)) (HasRisen (failures_of writer.old) (failures_of writer.new))) }
-    ensures counted { K.refused (keeper_of office.old) ≤ K.refused (keeper_of office.new) }
-    ensures clean { K.is_clean (keeper_of office.new) → K.is_clean (keeper_of office.old) }
+    ensures counts { Counts office.old office.new }
 {
     let heard = hear(alloc, reader)?;
     let reply = reply(alloc, office, &heard);

@@ -1,11 +1,11 @@
 //! Jobs at their turn.
-ghost use Rattle.std.specs.Prelude.{◌≤◌, ℕ, IfErr, MatchResult};
+ghost use Rattle.std.specs.Prelude.{ℕ, MatchResult};
 ghost use Rattle.office_core.specs.Errors.{IsCaused};
-ghost use Rattle.office_core.specs.Offices.{CauseFrom, keeper_of};
-ghost use Rattle.office_net.specs.Following.{Follows, MayLeave, TurnFails, Turns};
+ghost use Rattle.office_core.specs.Offices.{AccountsFor, keeper_of};
+ghost use Rattle.office_core.specs.Following.{Follows, MayLeave};
+ghost use Rattle.office_net.specs.Turning.{TurnFails, Turns};
 ghost use Rattle.office_net.specs.declared.job.LineJob.TheVariants as jobs;
 
-use crate::calls::{ask, lacks, send_order, waiting};
 use crate::job::LineJob;
 use mb_mbap::Frame;
 use office_core::{Office, OfficeError};
@@ -22,14 +22,12 @@ fn send_next<K: Keeper>(
     ensures turned { K.is_clean (keeper_of office.new) → (slot : ℕ) → MatchResult result
         (λ query. Turns (Follows office.old) (Follows office.new) (MayLeave office.old) (MayLeave office.new) conn slot (jobs.Order device.now) query)
         (λ e. TurnFails (Follows office.old) (Follows office.new) (MayLeave office.old) (MayLeave office.new) conn slot (jobs.Order device.now) e) }
-    ensures cause { IfErr result (λ e. IsCaused (CauseFrom office.old office.new) e) }
-    ensures counted { K.refused (keeper_of office.old) ≤ K.refused (keeper_of office.new) }
-    ensures clean { K.is_clean (keeper_of office.new) → K.is_clean (keeper_of office.old) }
+    ensures accounts { AccountsFor IsCaused office.old office.new result }
 {
-    let Some(order) = waiting(office, device)? else {
+    let Some(order) = office.waiting(device)? else {
         return Ok(None);
     };
-    Ok(Some(send_order(office, conn, order.number)?))
+    Ok(Some(office.send_order(conn, order.number)?))
 }
 
 /// Asks a read, if some point that it covers has no reading in the slot.
@@ -43,14 +41,12 @@ pub(crate) fn ask_lacking<K: Keeper>(
     ensures turned { K.is_clean (keeper_of office.new) → MatchResult result
         (λ query. Turns (Follows office.old) (Follows office.new) (MayLeave office.old) (MayLeave office.new) conn slot (jobs.Read device.now read.now) query)
         (λ e. TurnFails (Follows office.old) (Follows office.new) (MayLeave office.old) (MayLeave office.new) conn slot (jobs.Read device.now read.now) e) }
-    ensures cause { IfErr result (λ e. IsCaused (CauseFrom office.old office.new) e) }
-    ensures counted { K.refused (keeper_of office.old) ≤ K.refused (keeper_of office.new) }
-    ensures clean { K.is_clean (keeper_of office.new) → K.is_clean (keeper_of office.old) }
+    ensures accounts { AccountsFor IsCaused office.old office.new result }
 {
-    if !lacks(office, device, slot, read)? {
+    if !office.lacks(device, slot, read)? {
         return Ok(None);
     }
-    Ok(Some(ask(office, conn, device, slot, *read)?))
+    Ok(Some(office.ask(conn, device, slot, *read)?))
 }
 
 /// The turn of a job: its query, or none where it has nothing to do.
@@ -63,9 +59,7 @@ pub(crate) fn turn<K: Keeper>(
     ensures turned { K.is_clean (keeper_of office.new) → MatchResult result
         (λ query. Turns (Follows office.old) (Follows office.new) (MayLeave office.old) (MayLeave office.new) conn slot job.now query)
         (λ e. TurnFails (Follows office.old) (Follows office.new) (MayLeave office.old) (MayLeave office.new) conn slot job.now e) }
-    ensures cause { IfErr result (λ e. IsCaused (CauseFrom office.old office.new) e) }
-    ensures counted { K.refused (keeper_of office.old) ≤ K.refused (keeper_of office.new) }
-    ensures clean { K.is_clean (keeper_of office.new) → K.is_clean (keeper_of office.old) }
+    ensures accounts { AccountsFor IsCaused office.old office.new result }
 {
     match job {
         LineJob::Order { device } => send_next(office, conn, device.as_str()),

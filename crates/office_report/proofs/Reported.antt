@@ -14,15 +14,6 @@ use Rattle.office_core.specs.Offices.{IsAlike, Shows, Stands, readings_at, readi
 use Rattle.office_core.specs.Showing.{Shown, as_shown, with_mark, with_marks}
 use Rattle.office_report.specs.Reports.{report_at, report_lines, report_text, rows_of}
 
--- an office that changed no more than its room stands for what it stood for
-pub still_stands : {K : Type 0} {g : Ghosts K} (old new : Office K g) (before : History) → IsAlike old new → Stands old before → Stands new before
-still_stands old new before alike stands = record {
-  tables = alike.0 (tables before) stands.tables;
-  site = alike.1 ∙ stands.site;
-  points = alike.2 ∙ stands.points;
-  connections = λ conn. alike.3 conn ∙ stands.connections conn;
-}
-
 -- what holds of all holds of the one that is found
 found_holds : {X : Type 0} (P : X → Type 0) (p : X → Bool) (xs : List X) (x : X) → Some x ≡ find p xs → All P xs → P x
 found_holds P p [] x is all = absurd (cc)

@@ -1,9 +1,9 @@
 //! Reports of an office's points.
-ghost use Rattle.std.specs.Prelude.{◌≡◌, ◌≤◌, IfErr, IfOk, OnOk, false, option_map, string_bytes};
+ghost use Rattle.std.specs.Prelude.{◌≡◌, ◌≤◌, IfOk, OnOk, false, option_map, string_bytes};
 ghost use Rattle.mb_mbap.specs.Counted.{HasRisen, failures_of, inner_of};
 ghost use Rattle.office_core.specs.History.{History};
 ghost use Rattle.office_core.specs.Legal.{Legal};
-ghost use Rattle.office_core.specs.Offices.{CauseFrom, IsAlike, LeavesNoMore, Stands, keeper_of};
+ghost use Rattle.office_core.specs.Offices.{AccountsFor, OnlyAsked, Stands, keeper_of};
 ghost use Rattle.office_report.specs.Faults.{IsCaused, may_have_written};
 ghost use Rattle.office_report.specs.Reports as reports;
 ghost use Rattle.office_report.specs.Reports.{Tells};
@@ -27,11 +27,8 @@ fn report_of<K: Keeper>(
 ) -> Result<Option<String>, ReportFault>
     ensures text { K.is_clean (keeper_of office.new) → (before : History) → Stands office.old before → Legal before
         → IfOk result (λ text. option_map string_bytes text ≡ reports.report_text before point.now from to) }
-    ensures cause { IfErr result (λ fault. IsCaused ⊥ (CauseFrom office.old office.new) fault) }
-    ensures counted { K.refused (keeper_of office.old) ≤ K.refused (keeper_of office.new) }
-    ensures same { IsAlike office.old office.new }
-    ensures leaves { K.is_clean (keeper_of office.new) → LeavesNoMore office.old office.new }
-    ensures clean { K.is_clean (keeper_of office.new) → K.is_clean (keeper_of office.old) }
+    ensures accounts { AccountsFor (IsCaused ⊥) office.old office.new result }
+    ensures asked { OnlyAsked office.old office.new }
 {
     fitting_tables();
     let Some(known) = office.point(point) else {
@@ -62,11 +59,8 @@ pub fn write_report<K: Keeper, W: Write>(
         → IfOk result (λ told. Tells (reports.report_text before point.now from to) told (W.contents (inner_of writer.old)) (W.contents (inner_of writer.new))) }
     ensures unwritten { may_have_written result ≡ false → writer.new ≡ writer.old }
     ensures calm { OnOk result (failures_of writer.new ≡ failures_of writer.old) }
-    ensures cause { IfErr result (λ fault. IsCaused (HasRisen (failures_of writer.old) (failures_of writer.new)) (CauseFrom office.old office.new) fault) }
-    ensures counted { K.refused (keeper_of office.old) ≤ K.refused (keeper_of office.new) }
-    ensures same { IsAlike office.old office.new }
-    ensures leaves { K.is_clean (keeper_of office.new) → LeavesNoMore office.old office.new }
-    ensures clean { K.is_clean (keeper_of office.new) → K.is_clean (keeper_of office.old) }
+    ensures accounts { AccountsFor (IsCaused (HasRisen (failures_of writer.old) (failures_of writer.new))) office.old office.new result }
+    ensures asked { OnlyAsked office.old office.new }
 {
     let Some(report) = report_of(alloc, office, point, from, to)? else {
         return Ok(false);

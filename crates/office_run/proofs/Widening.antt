@@ -6,9 +6,9 @@ use Rattle.read_planner.specs.declared.Read.{Read}
 use Rattle.office_core.specs.declared.office.Office.{Office}
 use Rattle.office_core.specs.History.{Happening, History}
 use Rattle.office_http.specs.Meanings.{Meaning}
-use Rattle.office_net.specs.Kinds.{Asks, Does, Hears, Nothing, Opens, SendsUpTo}
-use Rattle.office_net.specs.Proceeding.{GoesAlong}
-use Rattle.office_net.proofs.Proceeding.{along_of_none, along_wider}
+use Rattle.office_core.specs.Proceeding.{GoesAlong, Nothing}
+use Rattle.office_net.specs.Kinds.{Asks, Does, Hears, Opens, SendsUpTo}
+use Rattle.office_core.proofs.Proceeding.{along_of_none, along_wider}
 use Rattle.office_run.specs.Doings.{Runs, OpensOne, AsksOne, SendsOne, HearsOne, DoesOne}
 
 module _ {K : Type 0} {g : Ghosts K} (old new : Office K g) where

@@ -1,6 +1,6 @@
 //! Counters that are counted in slots to come: the clock was another one once, or slots had another length.
 ghost use Rattle.std.specs.Prelude.{◌≡◌, ◌==◌, ◌↔◌, IsTrue, if◌then◌else◌};
-ghost use Rattle.office_net.specs.Proceeding.{GoesAlong};
+ghost use Rattle.office_core.specs.Proceeding.{GoesAlong};
 ghost use Rattle.office_run.specs.Doings.{Runs};
 ghost use Rattle.office_run.specs.Outlooks as outlooks;
 ghost use Rattle.office_run.specs.declared.ahead.Outlook.TheVariants as outlook;

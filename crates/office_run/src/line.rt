@@ -1,6 +1,6 @@
 //! A line of the site: its connection, its rounds, and when something of it is due.
 ghost use Rattle.std.specs.Prelude.{◌≡◌};
-ghost use Rattle.office_net.specs.Proceeding.{GoesAlong};
+ghost use Rattle.office_core.specs.Proceeding.{GoesAlong};
 ghost use Rattle.office_run.specs.Doings.{Runs};
 ghost use Rattle.run_beat.specs.Beats.{Wants};
 

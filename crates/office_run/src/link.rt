@@ -1,6 +1,6 @@
 //! A connection to a line that stands, and the round that is under way over it.
 ghost use Rattle.std.specs.Prelude.{◌≡◌, ◌≤◌, ◌<◌, drop, length};
-ghost use Rattle.office_net.specs.Proceeding.{GoesAlong};
+ghost use Rattle.office_core.specs.Proceeding.{GoesAlong};
 ghost use Rattle.office_run.specs.Doings.{Runs};
 ghost use Rattle.office_run.specs.Links.{asked_in, waiting_in};
 

@@ -1,5 +1,5 @@
 //! A caller's place.
-ghost use Rattle.office_net.specs.Proceeding.{GoesAlong};
+ghost use Rattle.office_core.specs.Proceeding.{GoesAlong};
 ghost use Rattle.office_run.specs.Doings.{Runs};
 
 use crate::caller::{Caller, Gone, Hold, News};

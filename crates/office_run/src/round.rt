@@ -1,6 +1,6 @@
 //! A round of a line: of each of its devices the orders that waited as it began, and then its reads.
 ghost use Rattle.std.specs.Prelude.{◌≡◌};
-ghost use Rattle.office_net.specs.Proceeding.{GoesAlong};
+ghost use Rattle.office_core.specs.Proceeding.{GoesAlong};
 ghost use Rattle.office_run.specs.Doings.{Runs};
 
 use crate::share::Share;

@@ -1,9 +1,9 @@
 //! The turns of an office that stays up.
 ghost use Rattle.std.specs.Prelude.{◌≡◌, ◌||◌, is_some, ⊤};
 ghost use Rattle.std.proofs.Common.{refl, ◌∙◌};
-ghost use Rattle.office_net.specs.Proceeding.{GoesAlong};
+ghost use Rattle.office_core.specs.Proceeding.{GoesAlong};
 ghost use Rattle.office_run.specs.Doings.{Runs};
-ghost use Rattle.office_net.proofs.Proceeding.{along_still, along_then};
+ghost use Rattle.office_core.proofs.Proceeding.{along_still, along_then};
 
 use crate::ahead::Ahead;
 use crate::caller::{Hold, News, orders_of};

@@ -1,7 +1,7 @@
 use Rattle.std.proofs.Common.{◌≡◌, ◌∙◌, ◌<◌, rules, inl, inr, ℕ, ◌-◌, refl, sym, subst}
 use Rattle.office_net.specs.Counting.{IsCountedBetween}
 use Rattle.office_net.proofs.Learning.{learnt_along, learnt_so, learnt_then}
-use Rattle.office_net.proofs.Proceeding.{along_then}
+use Rattle.office_core.proofs.Proceeding.{along_then}
 use Rattle.office_net.proofs.counting.last_counted.Goals as goal
 use Rattle.office_net.proofs.counting.last_counted.Goals.{then-not-is_ahead-via-then-not-is_ahead, then-not-is_ahead-via-else-not-is_ahead+then-after-eq4294967295}
 

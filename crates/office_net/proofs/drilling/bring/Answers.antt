@@ -36,7 +36,7 @@ loop-frame-preserved g c =
       all = c.loop-frame.invariant.all ∙ ap (λ l. yielded ++ l) rest ∙ sym (append_assoc yielded (frame ∷ []) c.next.new.self.rest.items);
       room = omega (arith, c.loop-frame.invariant.room, c.push.ensures.len, c.push.ensures.capacity, ap (length {A = Frame}) rest);
       goes = λ clean.
-          let before = c.loop-frame.invariant.goes (c.step-answer.ensures.clean clean) in
+          let before = c.loop-frame.invariant.goes (c.step-answer.ensures.counts.1 clean) in
           let more = before.0 in (
             more ++ answer ∷ [],
             items ∙ ap (λ l. l ++ answer ∷ []) before.1 ∙ append_assoc c.args.told.now.items more (answer ∷ []),
@@ -44,8 +44,8 @@ loop-frame-preserved g c =
                 (led_on (Stands old) (Stands mid) (Stands new) (may (keeper_of old)) (may (keeper_of mid)) (may (keeper_of new)) (arrivals c.args.conn yielded) more _ answer
                 before.2 (c.step-answer.ensures.goes clean) (c.step-answer.ensures.leaves clean)),
           );
-      counted = omega (arith, c.loop-frame.invariant.counted, c.step-answer.ensures.counted);
-      clean = λ clean. c.loop-frame.invariant.clean (c.step-answer.ensures.clean clean);
+      counted = omega (arith, c.loop-frame.invariant.counted, c.step-answer.ensures.counts.0);
+      clean = λ clean. c.loop-frame.invariant.clean (c.step-answer.ensures.counts.1 clean);
     }
 
 pub returns-clause-ok : goal.returns-clause-ok

@@ -18,7 +18,7 @@ returns-in_err-finish-clause-runs g c = λ clean.
     let may = g.K.Neighbours.may_leave in
     let old = c.args.office.now in
     let mid = c.go_through.new.office in
-    let went = c.in_ok-last.ensures.ok (c.finish.ensures.clean clean) in
+    let went = c.in_ok-last.ensures.ok (c.finish.ensures.counts.1 clean) in
     let same = sym c.in_err-finish.ensures.err in
     let led = subst (λ (o : Office g.row.K.Denot g.K.Neighbours). IsLed (Stands old) (Stands o) (may (keeper_of old)) (may (keeper_of o)) went.0 c.go_through.new.told.items) same went.2 in
     on_refusal _ c.from_residual-in_err-finish.result c.from_residual-in_err-finish.ensures.0
@@ -30,7 +30,7 @@ returns-clause-runs g c = λ clean.
     let old = c.args.office.now in
     let mid = c.go_through.new.office in
     let new = c.finish.new.office in
-    let went = c.in_ok-last.ensures.ok (c.finish.ensures.clean clean) in
+    let went = c.in_ok-last.ensures.ok (c.finish.ensures.counts.1 clean) in
     let told = c.go_through.new.told.items in
     let ended = c.in_ok-finish.ensures.ok clean in
     let brought = BringsHeld c.in_ok-last.last ended.0 in

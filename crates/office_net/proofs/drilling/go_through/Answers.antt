@@ -32,7 +32,7 @@ loop-step-preserved g c =
     let more : take (i + 1) steps ≡ take i steps ++ one ∷ [] = take_more steps i one c.loop-step-test.true ∙ ap (λ e. take i steps ++ e ∷ []) (sym c.step-item.is) in
     record {
       goes = λ clean.
-          let before = c.loop-step.invariant.goes (c.go.ensures.clean clean) in
+          let before = c.loop-step.invariant.goes (c.go.ensures.counts.1 clean) in
           let did = c.in_ok-over.ensures.ok clean in
           let events = before.0 ++ did.0 in
           let told = c.loop-step.told.items ++ did.1 in
@@ -42,8 +42,8 @@ loop-step-preserved g c =
             subst (λ (x : List DrillStep × List EventAnswer × Option ℕ). DoAll c.args.sim.now (reverse x.0) events x.1 c.go.new.sim x.2) (λ k. (sym more k, sym did.2 k, sym c.last_over-last.ensures k)) all,
             subst (IsLed (Stands old) (Stands new) (may (keeper_of old)) (may (keeper_of new)) events) (sym did.2) led,
           );
-      counted = omega (arith, c.loop-step.invariant.counted, c.go.ensures.counted);
-      clean = λ clean. c.loop-step.invariant.clean (c.go.ensures.clean clean);
+      counted = omega (arith, c.loop-step.invariant.counted, c.go.ensures.counts.0);
+      clean = λ clean. c.loop-step.invariant.clean (c.go.ensures.counts.1 clean);
     }
 
 pub returns-in_err-over-clause-err : goal.returns-in_err-over-clause-err
@@ -58,7 +58,7 @@ returns-in_err-over-clause-err g c = λ clean.
     let more : take (i + 1) steps ≡ take i steps ++ one ∷ [] = take_more steps i one c.loop-step-test.true ∙ ap (λ e. take i steps ++ e ∷ []) (sym c.step-item.is) in
     let whole : steps ≡ take i steps ++ one ∷ drop (i + 1) steps =
     sym (take-append-drop (i + 1) steps) ∙ ap (λ l. l ++ drop (i + 1) steps) more ∙ append_assoc (take i steps) (one ∷ []) (drop (i + 1) steps) in
-    let before = c.loop-step.invariant.goes (c.go.ensures.clean clean) in
+    let before = c.loop-step.invariant.goes (c.go.ensures.counts.1 clean) in
     let begun = c.in_err-over.ensures.err clean in
     on_err c.from_residual.result (
       before.0 ++ begun.0,

@@ -33,7 +33,7 @@ returns-in_err-bring-in-Some-clause-err g c = λ clean.
     let mid = c.step-answer.new.self in
     let event = c.args.event.now in
     let answer = c.step-answer.result in
-    let middle = c.bring.ensures.clean clean in
+    let middle = c.bring.ensures.counts.1 clean in
     let led = led_one (Stands old) (Stands mid) (may (keeper_of old)) (may (keeper_of mid)) event answer (c.step-answer.ensures.goes middle) (c.step-answer.ensures.leaves middle) in
     let same = sym c.in_err-bring-in-Some.ensures.err.0 in
     on_err c.from_residual-in_err-bring-in-Some.result (
@@ -55,7 +55,7 @@ returns-in_ok-bring-in-Some-clause-ok g c = λ clean.
     let given = c.in-Some.given.items in
     let brought = c.in_ok-bring-in-Some.ensures.ok clean in
     let more = brought.0 in
-    let middle = c.bring.ensures.clean clean in
+    let middle = c.bring.ensures.counts.1 clean in
     let ok : is_ok c.push.result ≡ true = c.push.ensures.succeeds (omega (arith, c.in_ok-reserve.ensures.ok, c.in_ok-reserve.ensures.len)) in
     let items = c.push.ensures.items ∙ ap (λ b. cond b (c.reserve.new.self.items ++ answer ∷ []) c.reserve.new.self.items) ok
     ∙ ap (λ l. l ++ answer ∷ []) c.in_ok-reserve.ensures.items in (

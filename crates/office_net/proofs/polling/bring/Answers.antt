@@ -39,7 +39,7 @@ returns-in_err-take-clause-goes g c = λ clean.
       frame ∷ later,
       ap (λ l. l ++ frame ∷ later) (append-nil (take i frames)) ∙ joined (take i frames) frame later (take (i + 1) frames) more ∙ take-append-drop (i + 1) frames,
       breaks_after first now next poll here there (take i frames) [] (frame ∷ later) calm calm start wrote wrote e
-          (c.loop-frame.invariant.goes (c.take.ensures.clean clean)) (λ quiet. quiet)
+          (c.loop-frame.invariant.goes (c.take.ensures.accounts.2 clean)) (λ quiet. quiet)
           (breaks_with now next here there [] (frame ∷ []) later calm wrote wrote e
           (breaks_refused now next here there [] (frame ∷ []) calm wrote e (c.in_err-take.ensures.goes clean))),
     )
@@ -71,8 +71,8 @@ returns-in_err-send-clause-goes g c = λ clean.
       ap (λ l. l ++ later) (append-nil (take i frames ++ frame ∷ []) ∙ sym more) ∙ take-append-drop (i + 1) frames,
       breaks_after first next last poll there done (take i frames ++ frame ∷ []) [] later calm calm' start wrote writes e
           (handles_then first now next poll here there (take i frames) (frame ∷ []) start wrote wrote
-          (c.loop-frame.invariant.goes (c.take.ensures.clean (c.send.ensures.clean clean)))
-          (handles_frame now next here there frame wrote (c.in_ok-take.ensures.goes (c.send.ensures.clean clean))))
+          (c.loop-frame.invariant.goes (c.take.ensures.accounts.2 (c.send.ensures.accounts.2 clean)))
+          (handles_frame now next here there frame wrote (c.in_ok-take.ensures.goes (c.send.ensures.accounts.2 clean))))
           (calm_later c.args.writer.now c.loop-frame.writer c.send.new.writer c.loop-frame.invariant.calm)
           (breaks_with next last there done [] [] later calm' wrote writes e (c.in_err-send.ensures.goes clean)),
     )
@@ -98,11 +98,11 @@ loop-frame-preserved g c =
       goes = λ clean. subst (λ l. Handles first poll last done l start writes) (append-nil (take i frames ++ frame ∷ []) ∙ sym more)
           (handles_then first next last poll there done (take i frames ++ frame ∷ []) [] start wrote writes
           (handles_then first now next poll here there (take i frames) (frame ∷ []) start wrote wrote
-          (c.loop-frame.invariant.goes (c.take.ensures.clean (c.send.ensures.clean clean)))
-          (handles_frame now next here there frame wrote (c.in_ok-take.ensures.goes (c.send.ensures.clean clean))))
+          (c.loop-frame.invariant.goes (c.take.ensures.accounts.2 (c.send.ensures.accounts.2 clean)))
+          (handles_frame now next here there frame wrote (c.in_ok-take.ensures.goes (c.send.ensures.accounts.2 clean))))
           (c.in_ok-send.ensures.goes clean));
-      counted = omega (arith, c.loop-frame.invariant.counted, c.take.ensures.counted, c.send.ensures.counted);
-      clean = λ clean. c.loop-frame.invariant.clean (c.take.ensures.clean (c.send.ensures.clean clean));
+      counted = omega (arith, c.loop-frame.invariant.counted, c.take.ensures.accounts.1, c.send.ensures.accounts.1);
+      clean = λ clean. c.loop-frame.invariant.clean (c.take.ensures.accounts.2 (c.send.ensures.accounts.2 clean));
       waits = c.in_ok-send.ensures.waits;
       calm = c.in_ok-send.ensures.calm ∙ c.loop-frame.invariant.calm;
       taken = omega (arith, c.send.ensures.taken, c.in_ok-take.ensures.taken, c.loop-frame.invariant.taken);

@@ -3,7 +3,7 @@ use Rattle.std.proofs.KnownBytes.{Consumes-nil}
 use Rattle.mb_mbap.specs.Counted.{HasRisen, failures_of, inner_of}
 use Rattle.office_core.specs.Offices.{CauseFrom, keeper_of}
 use Rattle.office_net.specs.Faults.{NoneFailed}
-use Rattle.office_net.specs.Following.{Follows, MayLeave}
+use Rattle.office_core.specs.Following.{Follows, MayLeave}
 use Rattle.office_net.specs.Rounds.{IsWhole, start_of}
 use Rattle.office_net.proofs.Called.{err_so}
 use Rattle.office_net.proofs.Cutting.{not_of_stream}
@@ -26,8 +26,8 @@ pieces-init g c = record {
     consumed = Consumes-nil (g.R.Read.remaining (inner_of c.args.reader.now));
     handled = λ clean. c.in_ok-send.ensures.goes clean;
   };
-  counted = c.send.ensures.counted;
-  clean = c.send.ensures.clean;
+  counted = c.send.ensures.accounts.1;
+  clean = c.send.ensures.accounts.2;
   limit = omega arith;
   sound = λ none. absurd (no_end c.new-stream.result c.new-stream.ensures none);
   waits = c.in_ok-send.ensures.waits;
@@ -43,7 +43,7 @@ returns-in_err-send-clause-goes g c = λ clean before follows are can.
     err_so c.from_residual.result _ _ e c.from_residual.ensures.1
     (broke_first c.args.office.now c.send.new.office c.args.conn c.args.slot c.args.jobs.items c.new-poll.result c.send.new.poll (g.R.Read.remaining (inner_of c.args.reader.now)) wrote writes
     (NoneFailed c.args.writer.now c.send.new.writer) e before c.new-poll.ensures (c.in_err-send.ensures.goes clean)
-    (not_of_stream (HasRisen (failures_of c.args.writer.now) (failures_of c.send.new.writer)) (CauseFrom c.args.office.now c.send.new.office) [] [] e c.in_err-send.ensures.cause)
+    (not_of_stream (HasRisen (failures_of c.args.writer.now) (failures_of c.send.new.writer)) (CauseFrom c.args.office.now c.send.new.office) [] [] e c.in_err-send.ensures.accounts.0)
     follows are can)
 
 pub returns-in_err-read-clause-goes : goal.returns-in_err-read-clause-goes
@@ -59,7 +59,7 @@ returns-in_err-read-clause-goes g c = λ clean before follows are can.
     err_so c.from_residual-in_err-read.result _ _ e c.from_residual-in_err-read.ensures.1
     (broke_off c.args.office.now c.pieces.office c.read_on.new.office c.args.conn c.args.slot c.args.jobs.items c.pieces.poll c.read_on.new.poll c.pieces.stream c.pieces.read
     unread left left' wrote writes writes' (g.K.Neighbours.is_clean (keeper_of c.pieces.office)) (g.K.Neighbours.is_clean (keeper_of c.read_on.new.office))
-    (NoneFailed c.args.writer.now c.read_on.new.writer) (NoneFailed c.pieces.writer c.read_on.new.writer) e before way (c.read_on.ensures.clean clean)
+    (NoneFailed c.args.writer.now c.read_on.new.writer) (NoneFailed c.pieces.writer c.read_on.new.writer) e before way (c.read_on.ensures.accounts.2 clean)
     (calm_later c.args.writer.now c.pieces.writer c.read_on.new.writer c.pieces.invariant.calm)
     (c.in_err-read.ensures.cuts clean way.bytes way.frames way.fed) follows are can)
 
@@ -71,9 +71,9 @@ pieces-preserved g c =
           (g.R.Read.remaining (inner_of c.args.reader.now)) (g.R.Read.remaining (inner_of c.pieces.reader)) (g.R.Read.remaining (inner_of c.read_on.new.reader))
           (g.W.Write.contents (inner_of c.args.writer.now)) (g.W.Write.contents (inner_of c.pieces.writer)) (g.W.Write.contents (inner_of c.read_on.new.writer))
           (g.K.Neighbours.is_clean (keeper_of c.pieces.office)) (g.K.Neighbours.is_clean (keeper_of c.read_on.new.office))
-          c.read_on.new.stream c.in_ok-read.read way c.read_on.ensures.clean (c.in_ok-read.ensures.takes way.bytes way.frames way.fed);
-      counted = omega (arith, c.pieces.invariant.counted, c.read_on.ensures.counted);
-      clean = λ clean. c.pieces.invariant.clean (c.read_on.ensures.clean clean);
+          c.read_on.new.stream c.in_ok-read.read way c.read_on.ensures.accounts.2 (c.in_ok-read.ensures.takes way.bytes way.frames way.fed);
+      counted = omega (arith, c.pieces.invariant.counted, c.read_on.ensures.accounts.1);
+      clean = λ clean. c.pieces.invariant.clean (c.read_on.ensures.accounts.2 clean);
       limit = omega (arith, c.in_ok-read.ensures.more);
       sound = c.in_ok-read.ensures.sound;
       waits = c.in_ok-read.ensures.waits;

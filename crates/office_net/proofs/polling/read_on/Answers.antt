@@ -59,7 +59,7 @@ returns-in_err-bring-clause-cuts g c = λ clean bytes frames fed.
     caused_so c.from_residual-in_err-bring.result _ e c.from_residual-in_err-bring.ensures.1
     (cut_in c.args.poll.now c.args.stream.now c.feed.new.self c.args.read 0 bytes frames (g.R.Read.remaining (inner_of c.args.reader.now)) (g.R.Read.remaining (inner_of c.read_some.new.reader))
     (take c.in_ok-count.count c.read_some.new.piece) c.in_ok-fed.fed.frames.items c.in_ok-fed.fed.fault fed (c.in_ok-fed.ensures.stream bytes frames fed.frames_are) c.in_ok-count.ensures.bytes
-    _ e (HasRisen (failures_of c.args.writer.now) (failures_of c.bring.new.writer)) (CauseFrom c.args.office.now c.bring.new.office) c.in_err-bring.ensures.cause
+    _ e (HasRisen (failures_of c.args.writer.now) (failures_of c.bring.new.writer)) (CauseFrom c.args.office.now c.bring.new.office) c.in_err-bring.ensures.accounts.0
     (subst (BreaksIn _) c.deref.ensures.value (c.in_err-bring.ensures.goes clean)))
 
 pub returns-in_err-judge_stream-clause-cuts : goal.returns-in_err-judge_stream-clause-cuts

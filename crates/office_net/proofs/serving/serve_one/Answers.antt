@@ -1,5 +1,5 @@
 use Rattle.mb_mbap.specs.Counted.{HasRisen, ends_of, inner_of}
-use Rattle.office_net.specs.Following.{Follows, MayLeave}
+use Rattle.office_core.specs.Following.{Follows, MayLeave}
 use Rattle.office_net.proofs.Called.{err_so}
 use Rattle.office_net.proofs.Connected.{breaks, serves}
 use Rattle.office_net.proofs.serving.serve_one.Goals as goal

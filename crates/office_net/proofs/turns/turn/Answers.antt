@@ -2,7 +2,8 @@ use Rattle.std.proofs.Common.{◌∙◌, ap, sym, subst}
 use Rattle.std.specs.Prelude.{MatchResult}
 use Rattle.office_net.specs.declared.job.LineJob.{LineJob}
 use Rattle.office_net.specs.declared.job.LineJob.TheVariants.{Order}
-use Rattle.office_net.specs.Following.{Follows, MayLeave, TurnFails, Turns}
+use Rattle.office_core.specs.Following.{Follows, MayLeave}
+use Rattle.office_net.specs.Turning.{TurnFails, Turns}
 use Rattle.office_net.proofs.turns.turn.Goals as goal
 
 pub returns-in-Order-clause-turned : goal.returns-in-Order-clause-turned

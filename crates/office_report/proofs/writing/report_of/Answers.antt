@@ -4,13 +4,14 @@ use Rattle.office_core.specs.Fitting.{AreOf}
 use Rattle.office_core.specs.Offices.{Shows, readings_of}
 use Rattle.office_core.specs.Showing.{as_shown}
 use Rattle.office_report.specs.Reports.{report_lines, rows_of}
-use Rattle.office_report.proofs.Reported.{report_is, still_stands}
+use Rattle.office_core.proofs.Following.{stands_alike}
+use Rattle.office_report.proofs.Reported.{report_is}
 use Rattle.office_report.proofs.writing.report_of.Goals as goal
 
 pub returns-clause-text : goal.returns-clause-text
 returns-clause-text g c = λ clean before stands legal.
-    let mid = c.total.ensures.clean clean in
-    let after = still_stands c.args.office.now c.readings.new.self before c.readings.ensures.same stands in
+    let mid = c.total.ensures.accounts.2 clean in
+    let after = stands_alike c.args.office.now c.readings.new.self c.readings.ensures.asked.0 before stands in
     let point = c.in-Some.known.point in
     let name = c.args.point.now in
     report_is before name c.args.from c.args.to c.in-Some.known c.in-Some-2.rows c.in_ok-total.total (string_bytes c.in_ok-report.report)

@@ -46,7 +46,7 @@ loop-event-preserved g c =
     let first_count = g.K.Neighbours.refused old.keeper in
     let count = g.K.Neighbours.refused office.keeper in
     let next_count = g.K.Neighbours.refused next.keeper in
-    let rises : count ≤ next_count = c.step-answer.ensures.counted in
+    let rises : count ≤ next_count = c.step-answer.ensures.counts.0 in
     let caused' : EventAnswer → Type 0 = AnswerCaused (HasCause may_refuse first_count count) in
     let caused : EventAnswer → Type 0 = AnswerCaused (HasCause may_refuse first_count next_count) in
     let i = c.loop-event.event-index in
@@ -64,12 +64,12 @@ loop-event-preserved g c =
           (All-weaker caused' caused (answer_within may_refuse first_count first_count count next_count (omega arith) rises) told c.loop-event.invariant.cause)
           (answer_within may_refuse first_count count next_count next_count c.loop-event.invariant.counted (omega arith) c.step-answer.result c.step-answer.ensures.cause));
       counted = omega (arith, c.loop-event.invariant.counted, rises);
-      clean = λ clean. c.loop-event.invariant.clean (c.step-answer.ensures.clean clean);
+      clean = λ clean. c.loop-event.invariant.clean (c.step-answer.ensures.counts.1 clean);
       runs = λ clean. subst (λ (x : List Event × List EventAnswer). Runs first last x.0 x.1) (λ k. (sym more k, sym items k))
-          (one_ran first middle last (take i events) told c.event-item.result c.step-answer.result same (c.loop-event.invariant.runs (c.step-answer.ensures.clean clean)) (c.step-answer.ensures.goes clean));
+          (one_ran first middle last (take i events) told c.event-item.result c.step-answer.result same (c.loop-event.invariant.runs (c.step-answer.ensures.counts.1 clean)) (c.step-answer.ensures.goes clean));
       stands = λ clean. subst (λ (x : List Event × List EventAnswer). StandsAll first last x.0 x.1) (λ k. (sym more k, sym items k))
-          (one_stood first middle last (take i events) told c.event-item.result c.step-answer.result same (c.loop-event.invariant.stands (c.step-answer.ensures.clean clean)) (c.step-answer.ensures.goes clean));
+          (one_stood first middle last (take i events) told c.event-item.result c.step-answer.result same (c.loop-event.invariant.stands (c.step-answer.ensures.counts.1 clean)) (c.step-answer.ensures.goes clean));
       leaves = λ clean. subst (λ (x : List Event × List EventAnswer). LeavesAll first (may old.keeper) (may next.keeper) x.0 x.1) (λ k. (sym more k, sym items k))
-          (one_left first middle last (take i events) told c.event-item.result c.step-answer.result same (c.loop-event.invariant.stands (c.step-answer.ensures.clean clean))
-          (may old.keeper) (may office.keeper) (may next.keeper) (c.loop-event.invariant.leaves (c.step-answer.ensures.clean clean)) (c.step-answer.ensures.leaves clean));
+          (one_left first middle last (take i events) told c.event-item.result c.step-answer.result same (c.loop-event.invariant.stands (c.step-answer.ensures.counts.1 clean))
+          (may old.keeper) (may office.keeper) (may next.keeper) (c.loop-event.invariant.leaves (c.step-answer.ensures.counts.1 clean)) (c.step-answer.ensures.leaves clean));
     }

@@ -1,7 +1,7 @@
 use Rattle.std.proofs.Common.{◌≡◌, ◌≤◌, []}
 use Rattle.office_core.specs.Offices.{keeper_of}
 use Rattle.office_net.specs.Kinds.{TurnIn}
-use Rattle.office_net.specs.Proceeding.{GoesAlong}
+use Rattle.office_core.specs.Proceeding.{GoesAlong}
 use Rattle.office_net.specs.Stages.{GoesOn, IsSame, left_of, taken_of}
 use Rattle.office_net.proofs.machine.Poll.next.Given as goal
 

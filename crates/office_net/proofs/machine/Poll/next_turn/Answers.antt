@@ -1,14 +1,16 @@
 use Rattle.std.proofs.Common.{◌++◌, ◌∷◌, [], ◌∙◌, ap, refl, subst, sym, take}
 use Rattle.std.proofs.lemmas.List.{take_more}
 use Rattle.office_core.specs.declared.event.EventAnswer.TheVariants.{Query}
-use Rattle.office_net.specs.Following.{Follows, MayLeave, Turns}
+use Rattle.office_core.specs.Following.{Follows, MayLeave}
+use Rattle.office_net.specs.Turning.{Turns}
 use Rattle.office_net.specs.Faults.{fault_by}
 use Rattle.office_net.proofs.Called.{err_so}
 use Rattle.office_net.proofs.Breaking.{turn_breaks}
 use Rattle.office_net.specs.Kinds.{TurnIn}
 use Rattle.office_net.specs.Moves.{turn_of}
 use Rattle.office_net.proofs.Moving.{IsNextJob, asked_on, passed_on}
-use Rattle.office_net.proofs.Proceeding.{did, still, turn_is, turn_missed}
+use Rattle.office_core.proofs.Proceeding.{did, still}
+use Rattle.office_net.proofs.Proceeding.{turn_is, turn_missed}
 use Rattle.office_net.proofs.machine.Poll.next_turn.Goals as goal
 
 pub returns-in-Some-clause-goes : goal.returns-in-Some-clause-goes
@@ -55,7 +57,7 @@ returns-in-Some-clause-along g c = λ clean.
     let poll = c.args.self.now in
     let job = c.index.result.now in
     let turned = subst (Turns (Follows old) (Follows new) (MayLeave old) (MayLeave new) poll.conn poll.slot job) c.in-Some.is (c.in_ok-query.ensures.turned clean) in (
-      c.turn.ensures.clean clean,
+      c.turn.ensures.accounts.2 clean,
       did (TurnIn poll) (Follows old) (Follows new) (MayLeave old) (MayLeave new) (λ now. turn_of poll.conn poll.slot now job) (Query c.in-Some.query)
           (λ now stood. (job, turn_is poll.conn poll.slot now job (turned.0 now stood))) turned.1,
     )
@@ -66,14 +68,14 @@ returns-in-None-clause-along g c = λ clean.
     let new = c.turn.new.office in
     let poll = c.args.self.now in
     let turned = subst (Turns (Follows old) (Follows new) (MayLeave old) (MayLeave new) poll.conn poll.slot c.index.result.now) c.in-None.is (c.in_ok-query.ensures.turned clean) in
-    (c.turn.ensures.clean clean, still (TurnIn poll) (Follows old) (Follows new) (MayLeave old) (MayLeave new) turned.1)
+    (c.turn.ensures.accounts.2 clean, still (TurnIn poll) (Follows old) (Follows new) (MayLeave old) (MayLeave new) turned.1)
 
 pub returns-in_err-query-clause-along : goal.returns-in_err-query-clause-along
 returns-in_err-query-clause-along g c = λ clean.
     let old = c.args.office.now in
     let new = c.turn.new.office in
     let poll = c.args.self.now in (
-      c.turn.ensures.clean clean,
+      c.turn.ensures.accounts.2 clean,
       turn_missed (TurnIn poll) (Follows old) (Follows new) (MayLeave old) (MayLeave new) poll.conn poll.slot c.index.result.now c.in_err-query.field-0.0
           (λ now event turn. (c.index.result.now, turn)) (c.in_err-query.ensures.turned clean),
     )

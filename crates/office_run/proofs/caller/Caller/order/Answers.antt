@@ -1,4 +1,4 @@
-use Rattle.office_net.proofs.Proceeding.{along_then}
+use Rattle.office_core.proofs.Proceeding.{along_then}
 use Rattle.office_run.proofs.caller.Caller.order.Goals as goal
 
 pub returns-in_err-text : goal.returns-in_err-text

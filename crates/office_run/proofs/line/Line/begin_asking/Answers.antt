@@ -1,4 +1,4 @@
-use Rattle.office_net.proofs.Proceeding.{along_then}
+use Rattle.office_core.proofs.Proceeding.{along_then}
 use Rattle.office_run.proofs.line.Line.begin_asking.Goals as goal
 
 pub returns : goal.returns

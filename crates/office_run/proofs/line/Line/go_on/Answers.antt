@@ -1,4 +1,4 @@
-use Rattle.office_net.proofs.Proceeding.{along_then}
+use Rattle.office_core.proofs.Proceeding.{along_then}
 use Rattle.office_run.proofs.line.Line.go_on.Goals as goal
 
 pub returns-in_err-poll : goal.returns-in_err-poll

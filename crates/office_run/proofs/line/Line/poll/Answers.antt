@@ -1,4 +1,4 @@
-use Rattle.office_net.proofs.Proceeding.{along_then}
+use Rattle.office_core.proofs.Proceeding.{along_then}
 use Rattle.office_run.proofs.line.Line.poll.Goals as goal
 
 pub returns-in_err-look_ahead : goal.returns-in_err-look_ahead

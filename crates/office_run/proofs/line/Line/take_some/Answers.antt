@@ -1,4 +1,4 @@
-use Rattle.office_net.proofs.Proceeding.{along_still, along_then}
+use Rattle.office_core.proofs.Proceeding.{along_still, along_then}
 use Rattle.office_run.proofs.line.Line.take_some.Goals as goal
 
 pub loop-init : goal.loop-init

@@ -1,4 +1,4 @@
-use Rattle.office_net.specs.Proceeding.{GoesAlong}
+use Rattle.office_core.specs.Proceeding.{GoesAlong}
 use Rattle.office_run.specs.Doings.{Runs}
 use Rattle.office_run.proofs.link.Link.ask.Given as goal
 

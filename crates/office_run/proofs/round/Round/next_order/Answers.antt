@@ -1,4 +1,4 @@
-use Rattle.office_net.proofs.Proceeding.{along_still, along_then}
+use Rattle.office_core.proofs.Proceeding.{along_still, along_then}
 use Rattle.office_run.proofs.round.Round.next_order.Goals as goal
 
 pub loop-device-init : goal.loop-device-init

@@ -1,7 +1,7 @@
 use Rattle.std.proofs.Common.{◌≡◌, ◌∙◌, ap, subst}
-use Rattle.office_net.specs.Proceeding.{GoesAlong}
+use Rattle.office_core.specs.Proceeding.{GoesAlong}
 use Rattle.office_run.specs.Doings.{Runs}
-use Rattle.office_net.proofs.Proceeding.{along_then}
+use Rattle.office_core.proofs.Proceeding.{along_then}
 use Rattle.office_run.proofs.running.LineCalledRunning.call.Goals as goal
 
 pub returns-clause-went : goal.returns-clause-went

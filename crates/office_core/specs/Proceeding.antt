@@ -7,7 +7,7 @@ use Rattle.office_core.specs.declared.office.Office.{Office}
 use Rattle.office_core.specs.History.{Happening, History, tables}
 use Rattle.office_core.specs.Leavings.{LeftAfter}
 use Rattle.office_core.specs.Offices.{keeper_of}
-use Rattle.office_net.specs.Following.{Follows, MayLeave}
+use Rattle.office_core.specs.Following.{Follows, MayLeave}
 
 -- something happened, or it was refused
 pub data Step : Type 0 where
@@ -49,3 +49,7 @@ Proceeds kind stood stands might may = (now : History) → stood now → Course 
 abbrev pub GoesAlong : {K : Type 0} {g : Ghosts K} → (History → Happening → Type 0) → Office K g → Office K g → Type 0
 GoesAlong {g = g} kind office office' =
     g.is_clean (keeper_of office') → g.is_clean (keeper_of office) × Proceeds kind (Follows office) (Follows office') (MayLeave office) (MayLeave office')
+
+-- the kind of nothing at all
+abbrev pub Nothing : History → Happening → Type 0
+Nothing now event = ⊥
