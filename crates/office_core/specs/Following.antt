@@ -1,5 +1,5 @@
 -- How an office goes on by one call, told as what happened.
-use Rattle.std.specs.Prelude.{◌≡◌, ◌≢◌, true, false, [], ◌∷◌, Result, MatchResult}
+use Rattle.std.specs.Prelude.{◌≡◌, ◌≢◌, false, [], ◌∷◌, Result, MatchResult}
 use Rattle.poll_book.specs.declared.keeper.Neighbours.{Ghosts}
 use Rattle.poll_book.specs.Tables.{Tables, Within}
 use Rattle.office_core.specs.declared.office.Office.{Office}

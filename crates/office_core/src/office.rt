@@ -185,7 +185,7 @@ impl<K: Keeper> Office<K> {
         self.keeper
     }
 
-    // What `load` says of its event, whatever history the office stood for.
+    // The work of `load` and of `step`.
     pub(crate) fn step_load(
         &mut self,
         caller: &Caller,
@@ -237,7 +237,7 @@ impl<K: Keeper> Office<K> {
         })
     }
 
-    // What `order` says of its event, whatever history the office stood for.
+    // The work of `order` and of `step`.
     pub(crate) fn step_order(
         &mut self,
         caller: &Caller,
@@ -287,7 +287,7 @@ impl<K: Keeper> Office<K> {
         })
     }
 
-    // What `void` says of its event, whatever history the office stood for.
+    // The work of `void` and of `step`.
     pub(crate) fn step_void(
         &mut self,
         caller: &Caller,
@@ -338,7 +338,7 @@ impl<K: Keeper> Office<K> {
         })
     }
 
-    // What `open_line` says of its event, whatever history the office stood for.
+    // The work of `open_line` and of `step`.
     pub(crate) fn step_open(&mut self, line: &str) -> Result<Conn, OfficeError>
         ensures goes { K.is_clean (keeper_of self.new) → Goes (Stands self.old) (Stands self.new) (Event.Open line.now) (opened result) }
         ensures leaves { K.is_clean (keeper_of self.new) → LeavesSo self.old self.new (Event.Open line.now) (opened result) }
@@ -364,7 +364,7 @@ impl<K: Keeper> Office<K> {
         Ok(conn)
     }
 
-    // What `ask` says of its event, whatever history the office stood for.
+    // The work of `ask` and of `step`.
     pub(crate) fn step_ask(
         &mut self,
         conn: Conn,
@@ -397,7 +397,7 @@ impl<K: Keeper> Office<K> {
         Ok(self.matcher.next_query(conn, asked)?)
     }
 
-    // What `send_order` says of its event, whatever history the office stood for.
+    // The work of `send_order` and of `step`.
     pub(crate) fn step_send(&mut self, conn: Conn, number: u32) -> Result<Frame, OfficeError>
         ensures goes { K.is_clean (keeper_of self.new) → Goes (Stands self.old) (Stands self.new) (Event.Send conn number) (asked_so result) }
         ensures leaves { K.is_clean (keeper_of self.new) → LeavesSo self.old self.new (Event.Send conn number) (asked_so result) }
@@ -417,7 +417,7 @@ impl<K: Keeper> Office<K> {
         Ok(self.matcher.next_query(conn, asked)?)
     }
 
-    // What `arrive` says of its event, whatever history the office stood for.
+    // The work of `arrive` and of `step`.
     pub(crate) fn step_arrive(&mut self, conn: Conn, frame: &Frame) -> Result<Arrival, OfficeError>
         ensures goes { K.is_clean (keeper_of self.new) → Goes (Stands self.old) (Stands self.new) (Event.Arrive conn frame.now) (arrived result) }
         ensures leaves { K.is_clean (keeper_of self.new) → LeavesSo self.old self.new (Event.Arrive conn frame.now) (arrived result) }

@@ -1,4 +1,4 @@
-use Rattle.std.proofs.Common.{ℕ, List, ltb, rules, length, subst, sym, arith, take}
+use Rattle.std.proofs.Common.{ℕ, List, ltb, rules, subst, sym, arith, take}
 use Rattle.std.specs.List.Sorted.{IsNonDecreasingBy}
 use Rattle.std.proofs.lemmas.List.{length-take}
 use Rattle.std.proofs.lemmas.List.Sorted.{IsPartitionPoint-from_clause, IsPartitionedBy-ltb}
