@@ -1,5 +1,5 @@
-//! A fuzzer: for each reader so many inputs that are drawn from a seed. It ends at the first one that comes to anything but
-//! a value or a named refusal, that takes more than a second, or after which an object isn't as it was.
+//! A fuzzer: for each reader so many inputs that are drawn from a seed. It ends at the first one that comes to anything
+//! but a value or a named refusal, that takes more than a second, or after which an object isn't as it was.
 ghost use Rattle.point_list.specs.Sites.{IsSound};
 
 use crate::fuzz::dice::{Dice, drawn};
@@ -16,13 +16,9 @@ use std::time::{Duration, SystemTime};
 mod dice;
 mod readers;
 mod samples;
-mod stores;
 
 /// How many inputs each reader gets.
 const CASES: u32 = 100_000;
-
-/// How many damaged stores are tried where they are tried alone.
-const STORES: u32 = 10_000;
 
 /// So many requests come to one office.
 const CALLS: u32 = 100;
@@ -234,17 +230,6 @@ fn try_offices(rt: &HostRuntime, dice: &mut Dice) -> io::Result<()> {
     tally.print(rt, "Call")
 }
 
-fn try_stores(rt: &HostRuntime, dice: &mut Dice, count: u32) -> io::Result<()> {
-    let sound = stores::sound(rt.alloc())?;
-    let mut tally = Tally::NONE;
-    for _ in 0..count {
-        let bytes = stores::damaged(rt.alloc(), dice, &sound)?;
-        let (came, took) = timed!(rt, stores::looked_in(rt.alloc(), &bytes));
-        tally.count(rt, &bytes, came, took)?;
-    }
-    tally.print(rt, "Store")
-}
-
 /// The nanoseconds of the clock's second.
 fn nanos(rt: &HostRuntime) -> io::Result<u64> {
     match SystemTime::now(rt)?.duration_since(SystemTime::UNIX_EPOCH) {
@@ -267,12 +252,5 @@ pub fn run(rt: &HostRuntime, given: Option<u64>) -> io::Result<()> {
     for reader in READERS {
         try_reader(rt, &mut dice, &known, *reader)?;
     }
-    try_offices(rt, &mut dice)?;
-    try_stores(rt, &mut dice, CASES)
-}
-
-/// Tries damaged stores alone, which follow from a seed.
-pub fn run_stores(rt: &HostRuntime, seed: u64) -> io::Result<()> {
-    println!(rt; "seed {seed}")?;
-    try_stores(rt, &mut Dice::new(seed), STORES)
+    try_offices(rt, &mut dice)
 }
