@@ -156,14 +156,27 @@ fn told(rt: &HostRuntime, bytes: &[u8], trouble: Trouble) -> io::Result<()> {
     Err(io::Error::other("an input that comes to neither a value nor a refusal"))
 }
 
+/// Tries a reader on one input.
+fn try_input(
+    rt: &HostRuntime,
+    dice: &mut Dice,
+    known: &Site,
+    reader: Reader,
+    tally: &mut Tally,
+) -> io::Result<()>
+    requires { IsSound known.now }
+{
+    let bytes = drawn(rt.alloc(), dice, reader.samples())?;
+    let (came, took) = timed!(rt, reader.read(rt.alloc(), dice, known, &bytes));
+    tally.count(rt, &bytes, came, took)
+}
+
 fn try_reader(rt: &HostRuntime, dice: &mut Dice, known: &Site, reader: Reader) -> io::Result<()>
     requires { IsSound known.now }
 {
     let mut tally = Tally::NONE;
     for _ in 0..CASES {
-        let bytes = drawn(rt.alloc(), dice, reader.samples())?;
-        let (came, took) = timed!(rt, reader.read(rt.alloc(), dice, known, &bytes));
-        tally.count(rt, &bytes, came, took)?;
+        try_input(rt, dice, known, reader, &mut tally)?;
     }
     tally.print(rt, format!(in rt.alloc(); "{reader:?}")?.as_str())
 }
@@ -212,12 +225,22 @@ fn call(
     )
 }
 
-fn try_calls(rt: &HostRuntime, dice: &mut Dice, tally: &mut Tally) -> io::Result<()> {
+/// Tries an office on one request.
+fn try_call(
+    rt: &HostRuntime,
+    dice: &mut Dice,
+    office: &mut Office<MemKeeper>,
+    tally: &mut Tally,
+) -> io::Result<()> {
+    let bytes = drawn(rt.alloc(), dice, samples::CALLS)?;
+    let (came, took) = timed!(rt, call(rt, office, &bytes)?);
+    tally.count(rt, &bytes, came, took)
+}
+
+fn try_office(rt: &HostRuntime, dice: &mut Dice, tally: &mut Tally) -> io::Result<()> {
     let mut office = office_of(rt.alloc())?;
     for _ in 0..CALLS {
-        let bytes = drawn(rt.alloc(), dice, samples::CALLS)?;
-        let (came, took) = timed!(rt, call(rt, &mut office, &bytes)?);
-        tally.count(rt, &bytes, came, took)?;
+        try_call(rt, dice, &mut office, tally)?;
     }
     Ok(())
 }
@@ -225,7 +248,7 @@ fn try_calls(rt: &HostRuntime, dice: &mut Dice, tally: &mut Tally) -> io::Result
 fn try_offices(rt: &HostRuntime, dice: &mut Dice) -> io::Result<()> {
     let mut tally = Tally::NONE;
     for _ in 0..CASES / CALLS {
-        try_calls(rt, dice, &mut tally)?;
+        try_office(rt, dice, &mut tally)?;
     }
     tally.print(rt, "Call")
 }
