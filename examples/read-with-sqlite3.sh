@@ -1,10 +1,10 @@
 #!/bin/sh
 # Shows what sqlite3, SQLite's own program, reads of a database that an office wrote, as
 #
-#     bench store-file
-#     sh examples/read-with-sqlite3.sh bench-10.db
+#     sh examples/read-with-sqlite3.sh FOLDER/roof.db
 #
-# The tables as `.schema` prints them are those of docs/DATABASE.md; the file is sound if the check prints ok.
+# of the store in the folder that examples/a-roof/try.sh leaves. The tables as `.schema` prints them are those of
+# docs/DATABASE.md; the file is sound if the check prints ok.
 set -eu
 file=${1:?usage: read-with-sqlite3.sh FILE}
 sqlite3 "$file" \

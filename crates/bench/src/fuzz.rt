@@ -1,5 +1,5 @@
-//! A fuzzer: for each reader so many inputs that are drawn from a seed. It ends at the first one that comes to anything but
-//! a value or a named refusal, that takes more than a second, or after which an object isn't as it was.
+//! A fuzzer: for each reader so many inputs that are drawn from a seed. It ends at the first one that comes to anything
+//! but a value or a named refusal, that takes more than a second, or after which an object isn't as it was.
 ghost use Rattle.point_list.specs.Sites.{IsSound};
 
 use crate::fuzz::dice::{Dice, drawn};
@@ -16,13 +16,9 @@ use std::time::{Duration, SystemTime};
 mod dice;
 mod readers;
 mod samples;
-mod stores;
 
 /// How many inputs each reader gets.
 const CASES: u32 = 100_000;
-
-/// How many damaged stores are tried where they are tried alone.
-const STORES: u32 = 10_000;
 
 /// So many requests come to one office.
 const CALLS: u32 = 100;
@@ -160,14 +156,27 @@ fn told(rt: &HostRuntime, bytes: &[u8], trouble: Trouble) -> io::Result<()> {
     Err(io::Error::other("an input that comes to neither a value nor a refusal"))
 }
 
+/// Tries a reader on one input.
+fn try_input(
+    rt: &HostRuntime,
+    dice: &mut Dice,
+    known: &Site,
+    reader: Reader,
+    tally: &mut Tally,
+) -> io::Result<()>
+    requires { IsSound known.now }
+{
+    let bytes = drawn(rt.alloc(), dice, reader.samples())?;
+    let (came, took) = timed!(rt, reader.read(rt.alloc(), dice, known, &bytes));
+    tally.count(rt, &bytes, came, took)
+}
+
 fn try_reader(rt: &HostRuntime, dice: &mut Dice, known: &Site, reader: Reader) -> io::Result<()>
     requires { IsSound known.now }
 {
     let mut tally = Tally::NONE;
     for _ in 0..CASES {
-        let bytes = drawn(rt.alloc(), dice, reader.samples())?;
-        let (came, took) = timed!(rt, reader.read(rt.alloc(), dice, known, &bytes));
-        tally.count(rt, &bytes, came, took)?;
+        try_input(rt, dice, known, reader, &mut tally)?;
     }
     tally.print(rt, format!(in rt.alloc(); "{reader:?}")?.as_str())
 }
@@ -216,12 +225,22 @@ fn call(
     )
 }
 
-fn try_calls(rt: &HostRuntime, dice: &mut Dice, tally: &mut Tally) -> io::Result<()> {
+/// Tries an office on one request.
+fn try_call(
+    rt: &HostRuntime,
+    dice: &mut Dice,
+    office: &mut Office<MemKeeper>,
+    tally: &mut Tally,
+) -> io::Result<()> {
+    let bytes = drawn(rt.alloc(), dice, samples::CALLS)?;
+    let (came, took) = timed!(rt, call(rt, office, &bytes)?);
+    tally.count(rt, &bytes, came, took)
+}
+
+fn try_office(rt: &HostRuntime, dice: &mut Dice, tally: &mut Tally) -> io::Result<()> {
     let mut office = office_of(rt.alloc())?;
     for _ in 0..CALLS {
-        let bytes = drawn(rt.alloc(), dice, samples::CALLS)?;
-        let (came, took) = timed!(rt, call(rt, &mut office, &bytes)?);
-        tally.count(rt, &bytes, came, took)?;
+        try_call(rt, dice, &mut office, tally)?;
     }
     Ok(())
 }
@@ -229,20 +248,9 @@ fn try_calls(rt: &HostRuntime, dice: &mut Dice, tally: &mut Tally) -> io::Result
 fn try_offices(rt: &HostRuntime, dice: &mut Dice) -> io::Result<()> {
     let mut tally = Tally::NONE;
     for _ in 0..CASES / CALLS {
-        try_calls(rt, dice, &mut tally)?;
+        try_office(rt, dice, &mut tally)?;
     }
     tally.print(rt, "Call")
-}
-
-fn try_stores(rt: &HostRuntime, dice: &mut Dice, count: u32) -> io::Result<()> {
-    let sound = stores::sound(rt.alloc())?;
-    let mut tally = Tally::NONE;
-    for _ in 0..count {
-        let bytes = stores::damaged(rt.alloc(), dice, &sound)?;
-        let (came, took) = timed!(rt, stores::looked_in(rt.alloc(), &bytes));
-        tally.count(rt, &bytes, came, took)?;
-    }
-    tally.print(rt, "Store")
 }
 
 /// The nanoseconds of the clock's second.
@@ -267,12 +275,5 @@ pub fn run(rt: &HostRuntime, given: Option<u64>) -> io::Result<()> {
     for reader in READERS {
         try_reader(rt, &mut dice, &known, *reader)?;
     }
-    try_offices(rt, &mut dice)?;
-    try_stores(rt, &mut dice, CASES)
-}
-
-/// Tries damaged stores alone, which follow from a seed.
-pub fn run_stores(rt: &HostRuntime, seed: u64) -> io::Result<()> {
-    println!(rt; "seed {seed}")?;
-    try_stores(rt, &mut Dice::new(seed), STORES)
+    try_offices(rt, &mut dice)
 }

@@ -1,9 +1,8 @@
 //! Readings that arrive late, between a million others, beside readings at the end.
 use crate::office::{POINTS, Work, poll_slots};
 use crate::pace::{granted, print_each, timed};
-use crate::store::{Place, Task, done_in};
 use office_core::Office;
-use poll_book::{Keeper, MemKeeper};
+use poll_book::Keeper;
 use std::io;
 use std::ops::Range;
 use std::time::Duration;
@@ -24,7 +23,8 @@ fn brought<K: Keeper>(
     Ok(took)
 }
 
-fn compared<K: Keeper>(rt: &HostRuntime, office: &mut Office<K>) -> io::Result<Duration> {
+/// Prints how a late reading compares, in an office without readings.
+fn compare<K: Keeper>(rt: &HostRuntime, office: &mut Office<K>) -> io::Result<()> {
     brought(rt, office, BEFORE)?;
     brought(rt, office, BEHIND)?;
     let last = brought(rt, office, 1_001..1_002)?;
@@ -32,18 +32,10 @@ fn compared<K: Keeper>(rt: &HostRuntime, office: &mut Office<K>) -> io::Result<D
     print_each(rt, "reading at the end of 1,000,000", POINTS, last)?;
     print_each(rt, "late reading between them", POINTS, late)?;
     let percent = late.as_nanos().saturating_mul(100) / last.as_nanos().max(1);
-    println!(rt; "a late reading: {percent}% of the time")?;
-    Ok(late)
-}
-
-/// Prints how a late reading compares, over an empty keeper. Tells how long the late ones took.
-pub fn compare<K: Keeper + Drop>(rt: &HostRuntime, keeper: K) -> io::Result<Duration> {
-    let mut office = granted(Work::Slots(0).begun(rt.alloc(), keeper).ok())?;
-    compared(rt, &mut office)
+    println!(rt; "a late reading: {percent}% of the time")
 }
 
 pub fn measure(rt: &HostRuntime) -> io::Result<()> {
-    compare(rt, MemKeeper::new(rt.alloc()))?;
-    done_in(rt, Place::Pages, Task::Late)?;
-    Ok(())
+    let mut office = granted(Work::Slots(0).begun(rt.alloc()).ok())?;
+    compare(rt, &mut office)
 }

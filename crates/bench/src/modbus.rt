@@ -109,7 +109,7 @@ pub fn frames(rt: &HostRuntime) -> io::Result<()> {
 }
 
 /// What a device answers to a request.
-pub fn answer(mapping: &mut Mapping, request: &Unit) -> Unit {
+fn answer(mapping: &mut Mapping, request: &Unit) -> Unit {
     mapping.reply(request)
 }
 

@@ -29,36 +29,22 @@ pub fn load<K: Keeper>(
 }
 
 /// An office that knows the points of a list, its caller's first.
-pub fn loaded<K: Keeper + Drop>(
-    alloc: Global,
-    keeper: K,
-    list: &str,
-) -> Result<Office<K>, OfficeError> {
-    let mut office = office_over(alloc, keeper)?;
+pub fn loaded(alloc: Global, list: &str) -> Result<Office<MemKeeper>, OfficeError> {
+    let mut office = office_over(alloc, MemKeeper::new(alloc))?;
     load(&mut office, "list", list)?;
     Ok(office)
 }
 
-/// Points of one register and this role: so many of them from address 0, and so many from each other
-/// multiple of the stride.
-fn registers(alloc: Global, role: &str, quantity: u32, stride: u32) -> Result<String, AllocError> {
+/// The list of so many counters of one register, one behind the other.
+fn counters(alloc: Global) -> Result<String, AllocError> {
     let mut text = String::from_str(alloc, HEADER)?;
     for number in 0..POINTS {
-        let block = number / quantity.max(1);
-        let address = block
-            .wrapping_mul(stride)
-            .wrapping_add(number % quantity.max(1));
         writeln!(
             text,
-            "m1.energy-{number},m1,holding,{address},uint16,,,{role},"
+            "m1.energy-{number},m1,holding,{number},uint16,,,counter,"
         )?;
     }
     Ok(text)
-}
-
-/// Such counters.
-pub fn counters(alloc: Global, quantity: u32, stride: u32) -> Result<String, AllocError> {
-    registers(alloc, "counter", quantity, stride)
 }
 
 /// Asks for registers in a slot, and brings this reply.
@@ -137,11 +123,10 @@ fn carry_out_all<K: Keeper>(alloc: Global, office: &mut Office<K>, count: u32) -
     (state(office, count) == Ok(Some(OrderState::Done))).then_some(())
 }
 
-/// What an office is used for: readings of so many slots, of counters or of gauges, or so many orders.
+/// What an office is used for: readings of so many slots, or so many orders.
 #[derive(Clone, Copy)]
 pub enum Work {
     Slots(u32),
-    Gauges(u32),
     Orders(u32),
 }
 
@@ -149,59 +134,50 @@ impl Work {
     /// The list of its points.
     fn list(self, alloc: Global) -> Result<String, AllocError> {
         match self {
-            Work::Slots(_) => counters(alloc, 125, 125),
-            Work::Gauges(_) => registers(alloc, "gauge", 125, 125),
+            Work::Slots(_) => counters(alloc),
             Work::Orders(_) => format!(in alloc; "{HEADER}{SETTING}"),
         }
     }
 
     fn done<K: Keeper>(self, alloc: Global, office: &mut Office<K>) -> Option<()> {
         match self {
-            Work::Slots(slots) | Work::Gauges(slots) => poll_all(office, slots),
+            Work::Slots(slots) => poll_all(office, slots),
             Work::Orders(count) => carry_out_all(alloc, office, count),
         }
     }
 
-    /// An office over an empty keeper that knows its points.
-    pub fn begun<K: Keeper + Drop>(
-        self,
-        alloc: Global,
-        keeper: K,
-    ) -> Result<Office<K>, OfficeError> {
-        loaded(alloc, keeper, self.list(alloc)?.as_str())
+    /// An office that knows its points.
+    pub fn begun(self, alloc: Global) -> Result<Office<MemKeeper>, OfficeError> {
+        loaded(alloc, self.list(alloc)?.as_str())
     }
 
-    /// Prints how long it takes, for each of what it is called.
-    fn measure<K: Keeper>(self, rt: &HostRuntime, office: &mut Office<K>) -> io::Result<()> {
+    /// Prints how long an office takes for it, for each of what it is called.
+    fn print<K: Keeper>(self, rt: &HostRuntime, office: &mut Office<K>) -> io::Result<()> {
         let (done, took) = timed!(rt, self.done(rt.alloc(), office));
         granted(done)?;
         match self {
             Work::Slots(slots) => print_each(rt, "reading", POINTS.wrapping_mul(slots), took),
-            Work::Gauges(slots) => {
-                print_each(rt, "reading of a gauge", POINTS.wrapping_mul(slots), took)
-            }
             Work::Orders(count) => print_each(rt, "event of an order", count.wrapping_mul(3), took),
         }
     }
 
-    /// Measures it over an empty keeper, and gives the keeper.
-    pub fn measured<K: Keeper + Drop>(self, rt: &HostRuntime, keeper: K) -> io::Result<K> {
-        let mut office = granted(self.begun(rt.alloc(), keeper).ok())?;
-        self.measure(rt, &mut office)?;
-        Ok(office.into_keeper())
+    /// The same of a new office.
+    fn measure(self, rt: &HostRuntime) -> io::Result<()> {
+        let mut office = granted(self.begun(rt.alloc()).ok())?;
+        self.print(rt, &mut office)
     }
 }
 
 pub fn readings(rt: &HostRuntime) -> io::Result<()> {
     for slots in [10u32, 100, 1_000] {
-        Work::Slots(slots).measured(rt, MemKeeper::new(rt.alloc()))?;
+        Work::Slots(slots).measure(rt)?;
     }
     Ok(())
 }
 
 pub fn orders(rt: &HostRuntime) -> io::Result<()> {
     for count in [10_000u32, 100_000] {
-        Work::Orders(count).measured(rt, MemKeeper::new(rt.alloc()))?;
+        Work::Orders(count).measure(rt)?;
     }
     Ok(())
 }

@@ -51,7 +51,7 @@ fn is_done(asked: Asked, answer: &str) -> bool {
 
 /// An office of a counter with readings, and a setting.
 pub fn office_of(alloc: Global) -> Result<Office<MemKeeper>, OfficeError> {
-    let mut office = loaded(alloc, MemKeeper::new(alloc), LIST)?;
+    let mut office = loaded(alloc, LIST)?;
     let span = Span {
         start: 107,
         quantity: 1,
@@ -177,6 +177,6 @@ fn measure_lists<K: Keeper>(
 
 pub fn lists(rt: &HostRuntime) -> io::Result<()> {
     let list = long_list(rt.alloc())?;
-    let mut office = granted(loaded(rt.alloc(), MemKeeper::new(rt.alloc()), LIST).ok())?;
+    let mut office = granted(loaded(rt.alloc(), LIST).ok())?;
     measure_lists(rt, &mut office, list.as_str())
 }

@@ -1,7 +1,7 @@
 //! What an office over a database keeps: which databases and sites open, what a stop at each write leaves, also where
-//! tables of version 1 are moved; files that are full, that fail once, and that have a damaged byte; rows that no
-//! office writes; readings that are written together; the totals that are stored; voids behind a change
-//! that is refused, and the questions for voids.
+//! tables of version 1 are moved; files that are full, that fail once, and that have a damaged byte or several places
+//! that are drawn; rows that no office writes; readings that are written together; the totals that are stored; voids
+//! behind a change that is refused, and the questions for voids.
 #![tactic(auto)]
 
 #[cfg(test)]
@@ -10,6 +10,8 @@ mod bad_rows;
 mod damage;
 #[cfg(test)]
 mod disks;
+#[cfg(test)]
+mod drawn_damage;
 #[cfg(test)]
 mod migrating;
 #[cfg(test)]

@@ -87,16 +87,16 @@ pub(crate) fn done_on<D: Disk + Drop, T: Task>(
     }
 }
 
-/// A file of the same bytes, which a crash leaves.
-fn copied(alloc: Global, file: &Memory) -> Result<Memory, OfficeError>
-    ensures { IfOk result (λ copy. IsTrue (memory_is_usable copy)) }
+/// A file of these bytes, which a crash leaves.
+pub(crate) fn file_of(alloc: Global, bytes: &[u8]) -> Result<Memory, OfficeError>
+    ensures { IfOk result (λ file. IsTrue (memory_is_usable file)) }
 {
-    let mut copy = Memory::new(alloc);
-    if !file.bytes().is_empty() && copy.write_at(0, file.bytes()).is_err() {
+    let mut file = Memory::new(alloc);
+    if !bytes.is_empty() && file.write_at(0, bytes).is_err() {
         return Err(MEMORY);
     }
-    match copy.sync() {
-        Ok(()) => Ok(copy),
+    match file.sync() {
+        Ok(()) => Ok(file),
         Err(_) => Err(MEMORY),
     }
 }
@@ -106,8 +106,8 @@ pub(crate) fn copies(alloc: Global, log: &Memory, db: &Memory) -> Result<Files<M
     ensures log { IfOk result (λ copies. IsTrue (memory_is_usable copies.log)) }
     ensures db { IfOk result (λ copies. IsTrue (memory_is_usable copies.db)) }
 {
-    let log = copied(alloc, log)?;
-    let db = copied(alloc, db)?;
+    let log = file_of(alloc, log.bytes())?;
+    let db = file_of(alloc, db.bytes())?;
     Ok(Files { log, db })
 }
 

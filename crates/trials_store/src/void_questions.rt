@@ -323,8 +323,8 @@ fn refused<K: Keeper>(trial: &Trial<'_>, keeper: &mut K, step: usize) -> Result<
     refused_of(trial, keeper, &points, step)
 }
 
-/// What is done with a keeper over `SOME`, and then by the statement over its connection.
-trait Asking {
+/// What is done with a keeper, and then by the statement over its connection.
+pub(crate) trait Asking {
     /// Tells how often the keeper refused.
     fn asks<K: Keeper>(&self, trial: &Trial<'_>, keeper: &mut K) -> Result<u32, OfficeError>;
 
@@ -341,7 +341,7 @@ trait Asking {
 
 /// Opens a keeper, and does that.
 #[derive(Clone, Copy)]
-struct Over<A>(A);
+pub(crate) struct Over<A>(pub(crate) A);
 
 impl<A: Asking> Task for Over<A> {
     fn done_in<S: Alter + Drop>(

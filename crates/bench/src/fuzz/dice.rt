@@ -47,7 +47,7 @@ fn part<'a>(dice: &mut Dice, bytes: &'a [u8]) -> &'a [u8] {
 }
 
 /// Puts a byte at a random place, takes one away or puts one in, or repeats a part.
-pub fn change(dice: &mut Dice, bytes: &mut Vec<u8>) -> Result<(), AllocError> {
+fn change(dice: &mut Dice, bytes: &mut Vec<u8>) -> Result<(), AllocError> {
     let place = dice.below(bytes.len());
     let byte = dice.byte();
     match dice.below(4) {
