@@ -1,3 +1,4 @@
+pub mod Acts
 pub mod Beats
 pub mod Counts
 pub mod Delays

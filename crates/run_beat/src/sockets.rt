@@ -1,5 +1,6 @@
 //! What turns need of the system.
-ghost use Rattle.std.specs.Prelude.{◌≡◌, ◌<◌, Bool, IfErr, IsTrue, OnErr, OnOk, false, true, length, if◌then◌else◌};
+ghost use Rattle.std.specs.Prelude.{◌≡◌, ◌<◌, ◌∷◌, ◌++◌, [], Bool, IfErr, IsTrue, List, OnErr, OnOk, false, true, length, if◌then◌else◌};
+ghost use Rattle.run_beat.specs.Acts.{Act, Closes, Finishes, begun_so, read_so, taken_so, written_so};
 ghost use Rattle.run_beat.specs.Counts.{CameWithin, SentWithin};
 ghost use Rattle.run_beat.specs.Places.{Places, has_socket, with_socket};
 
@@ -75,7 +76,7 @@ impl fmt::Display for SocketFault {
 impl Error for SocketFault {}
 
 /// The sockets of lines and callers, which never wait but in `wait`, and the clocks. Contracts see
-/// which places have a socket.
+/// which places have a socket, and what is done with them.
 ///
 /// A source that has something stays so until `read` or `write` answers `Nothing`, and only what
 /// comes after that ends a wait. So before it waits, a turn reads and writes until `Nothing`, or it
@@ -89,6 +90,13 @@ pub trait Sockets {
     /// The run is to end.
     ghost stopped: { Self → Bool };
 
+    /// These acts, the newest first, may lead from the one to the other.
+    ghost acts: { Self → List Act → Self → Type 0 };
+
+    ghost rests: { (sockets : Self) → acts sockets [] sockets };
+
+    ghost joins: { (one two three : Self) (first second : List Act) → acts one first two → acts two second three → acts one (second ++ first) three };
+
     /// The moment of the run.
     fn now(&self) -> Result<Moment, SocketFault>
         ensures { IfErr result (λ fault. fault ≡ SocketFault.Clock) };
@@ -101,6 +109,7 @@ pub trait Sockets {
     /// passed.
     fn wait(&mut self, most: u64) -> Result<(), SocketFault>
         ensures same { places self.new ≡ places self.old }
+        ensures acts { acts self.old [] self.new }
         ensures stays { IsTrue (stopped self.old) → IsTrue (stopped self.new) }
         ensures err { IfErr result (λ fault. fault ≡ SocketFault.Wait) };
 
@@ -113,12 +122,14 @@ pub trait Sockets {
     fn connect(&mut self, line: usize) -> Result<(), SocketFault>
         ensures ok { OnOk result (places self.new ≡ with_socket (Source.Line line) true (places self.old)) }
         ensures err { OnErr result (places self.new ≡ places self.old) }
+        ensures acts { acts self.old (begun_so line result) self.new }
         ensures fault { IfErr result (λ fault. fault ≡ SocketFault.Connect) };
 
     /// Looks up once more where a line is, if its address is a name, and waits until whoever knows names answers; tells
     /// whether it was a name. The next `connect` goes where the line is now, if that was answered.
     fn look_up(&mut self, line: usize) -> bool
-        ensures { places self.new ≡ places self.old };
+        ensures same { places self.new ≡ places self.old }
+        ensures acts { acts self.old [] self.new };
 
     /// How the connection to a line stands.
     fn connected(&self, line: usize) -> Connected
@@ -135,6 +146,7 @@ pub trait Sockets {
     fn accept(&mut self, caller: usize) -> bool
         ensures waited { IsTrue result → waiting self.old ≡ true }
         ensures places { places self.new ≡ (if result then with_socket (Source.Caller caller) true (places self.old) else places self.old) }
+        ensures acts { acts self.old (taken_so caller result) self.new }
         ensures free { IsTrue result → has_socket (Source.Caller caller) (places self.old) ≡ false };
 
     /// Reads once, into a piece of one byte or more.
@@ -142,6 +154,7 @@ pub trait Sockets {
         requires { 0 < length piece.old }
         ensures within { CameWithin (length piece.new) result }
         ensures none { has_socket source (places self.old) ≡ false → result ≡ Came.Failed }
+        ensures acts { acts self.old (read_so source piece.new result) self.new }
         ensures same { places self.new ≡ places self.old };
 
     /// Writes once, of one byte or more.
@@ -149,19 +162,23 @@ pub trait Sockets {
         requires { 0 < length bytes.now }
         ensures within { SentWithin (length bytes.now) result }
         ensures none { has_socket source (places self.old) ≡ false → result ≡ Sent.Failed }
+        ensures acts { acts self.old (written_so source bytes.now result) self.new }
         ensures same { places self.new ≡ places self.old };
 
     /// Tells the peer that no more is written.
     fn finish(&mut self, source: Source)
-        ensures { places self.new ≡ places self.old };
+        ensures same { places self.new ≡ places self.old }
+        ensures acts { acts self.old (Finishes source ∷ []) self.new };
 
     /// Writes once to standard error, of one byte or more, as far as it takes them without waiting.
     fn tell(&mut self, bytes: &[u8]) -> Sent
         requires { 0 < length bytes.now }
         ensures within { SentWithin (length bytes.now) result }
+        ensures acts { acts self.old [] self.new }
         ensures same { places self.new ≡ places self.old };
 
     /// Closes a connection, if there is one.
     fn close(&mut self, source: Source)
-        ensures { places self.new ≡ with_socket source false (places self.old) };
+        ensures places { places self.new ≡ with_socket source false (places self.old) }
+        ensures acts { acts self.old (Closes source ∷ []) self.new };
 }

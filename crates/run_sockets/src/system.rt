@@ -1,5 +1,5 @@
 //! The system's sockets and clocks.
-ghost use Rattle.std.specs.Prelude.{◌≡◌, ◌/◌, ◌-◌, ◌^◌, IfOk, OnErr, OnOk, min, true};
+ghost use Rattle.std.specs.Prelude.{◌≡◌, ◌/◌, ◌-◌, ◌^◌, IfOk, OnErr, OnOk, min, true, ⊤};
 ghost use Rattle.std.specs.Duration.{as_nanos};
 ghost use Rattle.run_beat.specs.Places.{no_sockets, with_socket};
 
@@ -129,6 +129,13 @@ impl<R: Clock + Net, E: Write + Drop> Sockets for System<'_, R, E> {
     ghost waiting = { is_waited_at };
 
     ghost stopped = { is_ended };
+
+    // What a socket of the system holds isn't known.
+    ghost acts = { λ _ _ _. ⊤ };
+
+    ghost rests = { λ _. tt };
+
+    ghost joins = { λ _ _ _ _ _ _ _. tt };
 
     fn now(&self) -> Result<Moment, SocketFault> {
         match self.begun.elapsed(self.rt) {

@@ -3,6 +3,4 @@ use Rattle.run_beat.proofs.turns.run.Given as goal
 
 abbrev pub invariant-loop : goal.invariant-loop
 invariant-loop g l =
-    Turns g.L.Called.steps l.counter l.initial.lines l.lines
-    × Turns g.C.Called.steps l.counter l.initial.callers l.callers
-    × g.W.World.goes l.initial.world l.world
+    Turns g.L.Called.steps g.C.Called.steps g.W.World.waits l.counter l.initial.lines l.initial.callers l.initial.world l.lines l.callers l.world
