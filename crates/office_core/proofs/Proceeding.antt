@@ -43,14 +43,14 @@ stepped_then now (Did event ∷ last) first = ap (λ (h : History). event ∷ h)
 stepped_then now (Missed event ∷ last) first = stepped_then now last first
 
 -- from less, more steps leave less
-left_by_more : (might may : Tables → Type 0) (now : History) (steps : List Step) → Within might may → Within (LeftBySteps might now steps) (LeftBySteps may now steps)
+pub left_by_more : (might may : Tables → Type 0) (now : History) (steps : List Step) → Within might may → Within (LeftBySteps might now steps) (LeftBySteps may now steps)
 left_by_more might may now [] within = within
 left_by_more might may now (Did event ∷ steps) within =
     left_more (LeftBySteps might now steps) (LeftBySteps may now steps) (tables (stepped now steps)) (tables (event ∷ stepped now steps)) false (left_by_more might may now steps within)
 left_by_more might may now (Missed event ∷ steps) within =
     left_more (LeftBySteps might now steps) (LeftBySteps may now steps) (tables (stepped now steps)) (tables (event ∷ stepped now steps)) true (left_by_more might may now steps within)
 
-left_by_then : (might : Tables → Type 0) (now : History) (last first : List Step)
+pub left_by_then : (might : Tables → Type 0) (now : History) (last first : List Step)
     → Within (LeftBySteps (LeftBySteps might now first) (stepped now first) last) (LeftBySteps might now (last ++ first))
 left_by_then might now [] first left l = l
 left_by_then might now (Did event ∷ last) first left l =
@@ -62,7 +62,7 @@ left_by_then might now (Missed event ∷ last) first left l =
     (left_more (LeftBySteps (LeftBySteps might now first) (stepped now first) last) (LeftBySteps might now (last ++ first))
     (tables (stepped (stepped now first) last)) (tables (event ∷ stepped (stepped now first) last)) true (left_by_then might now last first) left l)
 
-are_then : (kind : History → Happening → Type 0) (now : History) (last first : List Step) → AreOf kind (stepped now first) last → AreOf kind now first → AreOf kind now (last ++ first)
+pub are_then : (kind : History → Happening → Type 0) (now : History) (last first : List Step) → AreOf kind (stepped now first) last → AreOf kind now first → AreOf kind now (last ++ first)
 are_then kind now [] first of begun = begun
 are_then kind now (Did event ∷ last) first of begun = (subst (λ (h : History). kind h event) (sym (stepped_then now last first)) of.0, are_then kind now last first of.1 begun)
 are_then kind now (Missed event ∷ last) first of begun = (subst (λ (h : History). kind h event) (sym (stepped_then now last first)) of.0, are_then kind now last first of.1 begun)

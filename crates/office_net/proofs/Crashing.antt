@@ -1,5 +1,5 @@
 -- What a crash leaves after moves, from what it leaves after each.
-use Rattle.std.proofs.Common.{inl, inr, Bool, true, false, List, [], ◌∷◌, ◌++◌, Option, Some, None, sym, subst, append_assoc}
+use Rattle.std.proofs.Common.{true, false, List, [], ◌∷◌, ◌++◌, Option, Some, None, sym, subst, append_assoc}
 use Rattle.std.proofs.lemmas.List.{append-nil}
 use Rattle.poll_book.specs.Tables.{Tables, Within}
 use Rattle.office_core.specs.History.{tables}

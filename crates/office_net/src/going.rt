@@ -3,21 +3,17 @@ ghost use Rattle.std.specs.Prelude.{◌≡◌, IfOk};
 ghost use Rattle.poll_book.specs.Orders as orders;
 ghost use Rattle.office_core.specs.History.{History, settings};
 ghost use Rattle.office_core.specs.Offices.{keeper_of};
-ghost use Rattle.office_http.specs.Heard.{meaning_of};
 ghost use Rattle.office_net.specs.Counting.{Learnt};
 ghost use Rattle.office_core.specs.Following.{Follows};
 ghost use Rattle.office_core.specs.Proceeding.{GoesAlong, Nothing};
-ghost use Rattle.office_net.specs.Kinds.{Asks, Does, Hears, IsOldest, Opens, SendsUpTo};
+ghost use Rattle.office_net.specs.Kinds.{Asks, Hears, IsOldest, Opens, SendsUpTo};
 
-use crate::answering::respond;
 use crate::turns::ask_lacking;
 use mb_mbap::Frame;
 use office_core::{Arrival, Office, OfficeError};
-use office_http::Heard;
-use poll_book::{Keeper, StoreFault};
+use poll_book::Keeper;
 use poll_match::Conn;
 use read_planner::Read;
-use std::alloc::Global;
 
 /// Opens a line by its name, and closes its former connection. It refuses as `Office::open_line` does.
 pub fn open_line<K: Keeper>(office: &mut Office<K>, line: &str) -> Result<Conn, OfficeError>
@@ -36,17 +32,6 @@ pub fn take_late<K: Keeper>(
     ensures { GoesAlong (Hears conn frame.now) office.old office.new }
 {
     office.arrive(conn, frame)
-}
-
-/// Does what a request asks for, and gives the bytes of the answer, as `respond` does.
-pub fn respond_among<K: Keeper>(
-    alloc: Global,
-    office: &mut Office<K>,
-    asked: &Heard,
-) -> Result<String, StoreFault>
-    ensures { GoesAlong (Does (meaning_of asked.now)) office.old office.new }
-{
-    respond(alloc, office, asked)
 }
 
 /// The number of the last order, 0 before the first.

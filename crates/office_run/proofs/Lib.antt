@@ -1,1 +1,5 @@
+mod Callers
+mod Deeds
+mod Sessions
+mod Staying
 mod Widening

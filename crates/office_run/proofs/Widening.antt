@@ -4,7 +4,6 @@ use Rattle.mb_mbap.specs.declared.frame.Frame.{Frame}
 use Rattle.poll_book.specs.declared.keeper.Neighbours.{Ghosts}
 use Rattle.read_planner.specs.declared.Read.{Read}
 use Rattle.office_core.specs.declared.office.Office.{Office}
-use Rattle.office_core.specs.History.{Happening, History}
 use Rattle.office_http.specs.Meanings.{Meaning}
 use Rattle.office_core.specs.Proceeding.{GoesAlong, Nothing}
 use Rattle.office_net.specs.Kinds.{Asks, Does, Hears, Opens, SendsUpTo}

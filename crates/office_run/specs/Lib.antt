@@ -1,3 +1,5 @@
+pub mod Callers
+pub mod Deeds
 pub mod Devices
 pub mod Doings
 pub mod Dues
@@ -6,5 +8,6 @@ pub mod Links
 pub mod Noises
 pub mod Outlooks
 pub mod Passes
+pub mod Sessions
 pub mod Shares
 pub mod Windows

@@ -1,7 +1,7 @@
 -- How far a device is in a round.
 use Rattle.std.specs.Prelude.{ℕ, Bool, true, false, ◌==◌, ◌&&◌, ◌||◌, nat_lt, if◌then◌else◌, Option, Some, None}
 use Rattle.office_core.specs.declared.event.Arrival.{Arrival}
-use Rattle.office_core.specs.declared.event.Arrival.TheVariants.{Recorded, Settled, Excepted}
+use Rattle.office_core.specs.declared.event.Arrival.TheVariants.{Excepted}
 use Rattle.office_run.specs.declared.share.Orders.{Orders}
 use Rattle.office_run.specs.declared.share.Orders.TheVariants.{Next, Sent, Done, Ended}
 use Rattle.office_run.specs.declared.share.Share.{Share}

@@ -1,11 +1,18 @@
 //! A caller's exchange.
-ghost use Rattle.office_core.specs.Proceeding.{GoesAlong};
-ghost use Rattle.office_run.specs.Doings.{Runs};
+ghost use Rattle.std.specs.Prelude.{◌≡◌, ◌≢◌, ◌++◌, [], List, MatchResult, OnOk, ℕ};
+ghost use Rattle.office_core.specs.Proceeding.{GoesAlong, Nothing};
+ghost use Rattle.office_http.specs.Deciding.{Lacks};
+ghost use Rattle.office_http.specs.Exchanges.{bytes_of};
+ghost use Rattle.office_http.specs.Heard.{meaning_of};
+ghost use Rattle.office_net.specs.Serving.{written_for};
+ghost use Rattle.run_beat.specs.declared.sockets.Source.{Source as ASource};
+ghost use Rattle.office_run.specs.Sessions.{Acting, Comes, Exchanges, Heard as HeardAll, Hearing as HearingOf, Session};
+ghost use Rattle.office_run.specs.declared.caller.Mood.TheVariants as moods;
 
 use crate::moved::Moved;
 use office_core::{Office, OfficeError};
 use office_http::{Exchange, Heard, answer};
-use office_net::{last_order, respond_among};
+use office_net::{last_order, respond};
 use poll_book::{Keeper, StoreFault};
 use run_beat::{
     CLOSING_MILLIS, Came, EXCHANGE_MILLIS, HEAD_MILLIS, Moment, Outbox, Sent, Sockets, Source,
@@ -67,6 +74,9 @@ pub(crate) struct Caller {
     moved: Moved,
     // What became of what it asked for, of which nobody was told yet.
     news: News,
+    // While it is heard no whole request is there, and nothing is to be written.
+    ghost lacks: { mood ≡ moods.Hearing → Lacks (bytes_of exchange) },
+    ghost unwritten: { mood ≡ moods.Hearing → out ≡ [] },
 }
 
 /// What became of what a caller asked for.
@@ -96,7 +106,7 @@ fn line_of<K: Keeper>(office: &Office<K>, point: &str) -> Option<u16> {
 
 /// The number of the last order, where the store tells it.
 pub(crate) fn orders_of<K: Keeper>(office: &mut Office<K>) -> Result<u32, StoreFault>
-    ensures { GoesAlong Runs office.old office.new }
+    ensures { GoesAlong Nothing office.old office.new }
 {
     match last_order(office) {
         Ok(number) => Ok(number),
@@ -107,7 +117,7 @@ pub(crate) fn orders_of<K: Keeper>(office: &mut Office<K>) -> Result<u32, StoreF
 
 /// Whether there are other orders than up to this number; also where the store doesn't tell it.
 fn has_more<K: Keeper>(office: &mut Office<K>, before: u32) -> bool
-    ensures { GoesAlong Runs office.old office.new }
+    ensures { GoesAlong Nothing office.old office.new }
 {
     orders_of(office) != Ok(before)
 }
@@ -118,13 +128,18 @@ fn done<K: Keeper>(
     office: &mut Office<K>,
     heard: &Heard,
 ) -> Result<String, StoreFault>
-    ensures { GoesAlong Runs office.old office.new }
+    ensures { Comes office.old office.new (λ meaning. meaning ≡ meaning_of heard.now) (written_for result) }
 {
-    respond_among(alloc, office, heard)
+    respond(alloc, office, heard)
 }
 
 impl Caller {
-    pub fn new(alloc: Global, now: Moment) -> Caller {
+    ghost use Rattle.office_run.specs.Callers.{session_of};
+
+    /// One that was just taken.
+    pub fn new(alloc: Global, now: Moment) -> Caller
+        ensures { session_of result ≡ HearingOf [] }
+    {
         Caller {
             alloc,
             exchange: Exchange::new(alloc),
@@ -172,7 +187,9 @@ impl Caller {
     }
 
     /// What became of what it asked for since this was asked last.
-    pub fn news(&mut self) -> News {
+    pub fn news(&mut self) -> News
+        ensures { session_of self.new ≡ session_of self.old }
+    {
         mem::replace(&mut self.news, NO_NEWS)
     }
 
@@ -183,14 +200,15 @@ impl Caller {
         heard: &Heard,
         point: &str,
     ) -> Result<String, StoreFault>
-        ensures { GoesAlong Runs office.old office.new }
+        ensures came { Comes office.old office.new (λ meaning. meaning ≡ meaning_of heard.now) (written_for result) }
+        ensures same { (self.new.mood ≡ self.old.mood) × (self.new.out ≡ self.old.out) × (self.new.exchange ≡ self.old.exchange) }
     {
         let before = orders_of(office)?;
-        let text = done(self.alloc, office, heard)?;
-        if has_more(office, before) {
+        let told = done(self.alloc, office, heard);
+        if told.is_ok() && has_more(office, before) {
             self.news.ordered = line_of(office, point);
         }
-        Ok(text)
+        told
     }
 
     /// Does what was asked for.
@@ -199,7 +217,8 @@ impl Caller {
         office: &mut Office<K>,
         heard: &Heard,
     ) -> Result<String, StoreFault>
-        ensures { GoesAlong Runs office.old office.new }
+        ensures came { Comes office.old office.new (λ meaning. meaning ≡ meaning_of heard.now) (written_for result) }
+        ensures same { (self.new.mood ≡ self.old.mood) × (self.new.out ≡ self.old.out) × (self.new.exchange ≡ self.old.exchange) }
     {
         match heard {
             Heard::Order { point, .. } => self.order(office, heard, point.as_str()),
@@ -214,9 +233,11 @@ impl Caller {
     /// Does what was asked for, and puts the answer there to be written: where it is one, it is so only once what was
     /// asked for is done.
     fn answer<K: Keeper>(&mut self, office: &mut Office<K>, heard: &Heard) -> Result<(), AllocError>
-        ensures { GoesAlong Runs office.old office.new }
+        requires answering { self.old.mood ≡ Mood.Answering }
+        requires unwritten { self.old.out ≡ [] }
+        ensures came { (text : List ℕ) × Comes office.old office.new (λ meaning. meaning ≡ meaning_of heard.now) text × OnOk result (self.new.out ≡ text) }
+        ensures mood { self.new.mood ≡ Mood.Answering }
     {
-        self.mood = Mood::Answering;
         match self.respond(office, heard) {
             Ok(text) => self.out.push(text.as_bytes()),
             Err(fault) => {
@@ -228,14 +249,20 @@ impl Caller {
 
     /// Takes bytes of the request.
     fn hear<K: Keeper>(&mut self, office: &mut Office<K>, piece: &[u8]) -> Result<(), AllocError>
-        ensures { GoesAlong Runs office.old office.new }
+        requires { self.old.mood ≡ Mood.Hearing }
+        ensures { (source : ASource) → MatchResult result
+            (λ _. Exchanges source office.old office.new (λ acts. acts ≡ []) (HearingOf (bytes_of self.old.exchange ++ piece.now)) (session_of self.new))
+            (λ _. (session : Session) × Exchanges source office.old office.new (λ acts. acts ≡ []) (HearingOf (bytes_of self.old.exchange ++ piece.now)) session) }
     {
         match self.exchange.take(piece) {
             Ok(None) => {
                 self.has_head = self.has_head || self.exchange.has_head();
                 Ok(())
             }
-            Ok(Some(heard)) => self.answer(office, &heard),
+            Ok(Some(heard)) => {
+                self.mood = Mood::Answering;
+                self.answer(office, &heard)
+            }
             Err(_) => {
                 self.mood = Mood::Answering;
                 self.out.push(answer::unavailable())
@@ -243,7 +270,19 @@ impl Caller {
         }
     }
 
-    /// Reads a piece; tells whether something came.
+    /// No more of the request comes.
+    fn end<K: Keeper>(&mut self, office: &mut Office<K>) -> Result<(), AllocError>
+        requires { self.old.mood ≡ Mood.Hearing }
+        ensures { (source : ASource) → MatchResult result
+            (λ _. Exchanges source office.old office.new (λ acts. acts ≡ []) (HeardAll (bytes_of self.old.exchange)) (session_of self.new))
+            (λ _. (session : Session) × Exchanges source office.old office.new (λ acts. acts ≡ []) (HeardAll (bytes_of self.old.exchange)) session) }
+    {
+        self.mood = Mood::Answering;
+        let heard = self.exchange.end();
+        self.answer(office, &heard)
+    }
+
+    /// Reads a piece of the request; tells whether something came.
     fn read<K: Keeper, S: Sockets>(
         &mut self,
         office: &mut Office<K>,
@@ -251,26 +290,39 @@ impl Caller {
         source: Source,
         now: Moment,
     ) -> Result<bool, Gone>
-        ensures { GoesAlong Runs office.old office.new }
+        requires { self.old.mood ≡ Mood.Hearing }
+        ensures { MatchResult result
+            (λ _. Exchanges source office.old office.new (λ acts. S.acts sockets.old acts sockets.new) (session_of self.old) (session_of self.new))
+            (λ _. (session : Session) × Exchanges source office.old office.new (λ acts. S.acts sockets.old acts sockets.new) (session_of self.old) session) }
     {
         let mut piece = [0u8; PIECE];
-        match (sockets.read(source, &mut piece), self.mood) {
-            (Came::Nothing, _) => {
+        match sockets.read(source, &mut piece) {
+            Came::Nothing => {
                 self.has_paused = true;
-                Ok(false)
+                return Ok(false);
             }
-            (Came::Failed, _) | (Came::Ended, Mood::Closing) => Err(Gone),
-            (Came::Ended, _) => {
-                let heard = self.exchange.end();
-                self.answer(office, &heard)?;
-                Ok(true)
-            }
-            (Came::Bytes(_), Mood::Closing) => Ok(true),
-            (Came::Bytes(count), _) => {
+            Came::Failed => return Err(Gone),
+            Came::Ended => self.end(office)?,
+            Came::Bytes(count) => {
                 self.moved.add(now, count);
                 self.hear(office, &piece[..count])?;
-                Ok(true)
             }
+        }
+        Ok(true)
+    }
+
+    /// Reads a piece behind the answer, and drops it; tells whether something came.
+    fn drop_one<S: Sockets>(&self, sockets: &mut S, source: Source) -> Result<bool, Gone>
+        requires { self.now.mood ≡ Mood.Closing }
+        ensures { MatchResult result
+            (λ _. Acting source (λ acts. S.acts sockets.old acts sockets.new) (session_of self.now) (session_of self.now))
+            (λ _. (session : Session) × Acting source (λ acts. S.acts sockets.old acts sockets.new) (session_of self.now) session) }
+    {
+        let mut piece = [0u8; PIECE];
+        match sockets.read(source, &mut piece) {
+            Came::Nothing => Ok(false),
+            Came::Failed | Came::Ended => Err(Gone),
+            Came::Bytes(_) => Ok(true),
         }
     }
 
@@ -280,7 +332,12 @@ impl Caller {
         sockets: &mut S,
         source: Source,
         now: Moment,
-    ) -> Result<bool, Gone> {
+    ) -> Result<bool, Gone>
+        requires { self.old.mood ≡ Mood.Answering }
+        ensures { MatchResult result
+            (λ _. Acting source (λ acts. S.acts sockets.old acts sockets.new) (session_of self.old) (session_of self.new))
+            (λ _. (session : Session) × Acting source (λ acts. S.acts sockets.old acts sockets.new) (session_of self.old) session) }
+    {
         if self.out.is_empty() {
             return Err(Gone);
         }
@@ -308,14 +365,17 @@ impl Caller {
         source: Source,
         now: Moment,
     ) -> Result<bool, Gone>
-        ensures { GoesAlong Runs office.old office.new }
+        ensures { MatchResult result
+            (λ _. Exchanges source office.old office.new (λ acts. S.acts sockets.old acts sockets.new) (session_of self.old) (session_of self.new))
+            (λ _. (session : Session) × Exchanges source office.old office.new (λ acts. S.acts sockets.old acts sockets.new) (session_of self.old) session) }
     {
         if self.due() <= now {
             return Err(Gone);
         }
         match self.mood {
+            Mood::Hearing => self.read(office, sockets, source, now),
             Mood::Answering => self.write(sockets, source, now),
-            Mood::Hearing | Mood::Closing => self.read(office, sockets, source, now),
+            Mood::Closing => self.drop_one(sockets, source),
         }
     }
 }

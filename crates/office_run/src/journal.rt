@@ -89,7 +89,9 @@ impl Journal {
     }
 
     /// Writes what waits, as far as it is taken; tells whether something was.
-    pub fn write<S: Sockets>(&mut self, sockets: &mut S) -> bool {
+    pub fn write<S: Sockets>(&mut self, sockets: &mut S) -> bool
+        ensures { S.acts sockets.old [] sockets.new }
+    {
         if self.out.is_empty() {
             return false;
         }

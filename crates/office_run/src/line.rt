@@ -1,6 +1,7 @@
 //! A line of the site: its connection, its rounds, and when something of it is due.
-ghost use Rattle.std.specs.Prelude.{◌≡◌};
+ghost use Rattle.std.specs.Prelude.{◌≡◌, ℕ};
 ghost use Rattle.office_core.specs.Proceeding.{GoesAlong};
+ghost use Rattle.office_run.specs.Deeds.{OfLines};
 ghost use Rattle.office_run.specs.Doings.{Runs};
 ghost use Rattle.run_beat.specs.Beats.{Wants};
 
@@ -146,7 +147,9 @@ impl Line {
         }
     }
 
-    fn source(&self) -> Source {
+    fn source(&self) -> Source
+        ensures { (place : ℕ) × (result ≡ Source.Line place) }
+    {
         Source::Line(self.place())
     }
 
@@ -192,7 +195,9 @@ impl Line {
     }
 
     /// Closes its connection, if there is one. It is left alone for a while.
-    fn lose<S: Sockets>(&mut self, sockets: &mut S, journal: &mut Journal, now: Moment, why: Loss) {
+    fn lose<S: Sockets>(&mut self, sockets: &mut S, journal: &mut Journal, now: Moment, why: Loss)
+        ensures { OfLines (λ acts. S.acts sockets.old acts sockets.new) }
+    {
         sockets.close(self.source());
         self.link = None;
         self.stuck = None;
@@ -206,7 +211,9 @@ impl Line {
     }
 
     /// Begins a connection, if it is due.
-    fn begin<S: Sockets>(&mut self, sockets: &mut S, now: Moment) {
+    fn begin<S: Sockets>(&mut self, sockets: &mut S, now: Moment)
+        ensures { OfLines (λ acts. S.acts sockets.old acts sockets.new) }
+    {
         if !self.beat.is_due(now) || now < self.noise.until() {
             return;
         }
@@ -325,7 +332,9 @@ impl Line {
     }
 
     /// Reads a piece; tells whether something came.
-    fn read<S: Sockets>(&mut self, sockets: &mut S) -> Result<bool, Loss> {
+    fn read<S: Sockets>(&mut self, sockets: &mut S) -> Result<bool, Loss>
+        ensures { OfLines (λ acts. S.acts sockets.old acts sockets.new) }
+    {
         let source = self.source();
         let Some(link) = &mut self.link else {
             return Err(Loss::Ended);
@@ -355,7 +364,8 @@ impl Line {
         journal: &mut Journal,
         now: Moment,
     ) -> Result<bool, Stop>
-        ensures { GoesAlong Runs office.old office.new }
+        ensures along { GoesAlong Runs office.old office.new }
+        ensures acts { OfLines (λ acts. S.acts sockets.old acts sockets.new) }
     {
         let has_come = self.read(sockets)?;
         if has_come {
@@ -617,7 +627,9 @@ impl Line {
     }
 
     /// Writes what waits to be written; tells whether something was.
-    fn write<S: Sockets>(&mut self, sockets: &mut S, now: Moment) -> Result<bool, Loss> {
+    fn write<S: Sockets>(&mut self, sockets: &mut S, now: Moment) -> Result<bool, Loss>
+        ensures { OfLines (λ acts. S.acts sockets.old acts sockets.new) }
+    {
         let source = self.source();
         let Some(link) = &mut self.link else {
             return Err(Loss::Ended);
@@ -683,7 +695,8 @@ impl Line {
         times: Times,
         orders: u64,
     ) -> Result<bool, Stop>
-        ensures { GoesAlong Runs office.old office.new }
+        ensures along { GoesAlong Runs office.old office.new }
+        ensures acts { OfLines (λ acts. S.acts sockets.old acts sockets.new) }
     {
         let now = times.now;
         if let Some(slot) = times.slot() {
@@ -704,7 +717,8 @@ impl Line {
         times: Times,
         orders: u64,
     ) -> Result<bool, Stop>
-        ensures { GoesAlong Runs office.old office.new }
+        ensures along { GoesAlong Runs office.old office.new }
+        ensures acts { OfLines (λ acts. S.acts sockets.old acts sockets.new) }
     {
         let now = times.now;
         match self.beat.stage() {
@@ -736,7 +750,8 @@ impl Line {
         times: Times,
         orders: u64,
     ) -> Turned
-        ensures { GoesAlong Runs office.old office.new }
+        ensures along { GoesAlong Runs office.old office.new }
+        ensures acts { OfLines (λ acts. S.acts sockets.old acts sockets.new) }
     {
         let now = times.now;
         let slot = times.slot();

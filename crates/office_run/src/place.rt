@@ -1,6 +1,7 @@
 //! A caller's place.
-ghost use Rattle.office_core.specs.Proceeding.{GoesAlong};
-ghost use Rattle.office_run.specs.Doings.{Runs};
+ghost use Rattle.std.specs.Prelude.{◌≡◌, ◌∷◌, []};
+ghost use Rattle.run_beat.specs.Acts.{Closes};
+ghost use Rattle.office_run.specs.Sessions.{Exchanges, Free};
 
 use crate::caller::{Caller, Gone, Hold, News};
 use office_core::Office;
@@ -19,8 +20,13 @@ pub(crate) struct Place {
 }
 
 impl Place {
+    ghost use Rattle.office_run.specs.Callers.{session_at};
+
     /// An empty one.
-    pub fn new(alloc: Global, at: usize) -> Place {
+    pub fn new(alloc: Global, at: usize) -> Place
+        ensures at { result.at ≡ at }
+        ensures free { session_at result ≡ Free }
+    {
         Place {
             alloc,
             at,
@@ -29,7 +35,9 @@ impl Place {
         }
     }
 
-    pub fn at(&self) -> usize {
+    pub fn at(&self) -> usize
+        ensures { result ≡ self.now.at }
+    {
         self.at
     }
 
@@ -46,7 +54,10 @@ impl Place {
     }
 
     /// What became of what its caller asked for since this was asked last; nothing where it has none.
-    pub fn news(&mut self) -> Option<News> {
+    pub fn news(&mut self) -> Option<News>
+        ensures at { self.new.at ≡ self.old.at }
+        ensures same { session_at self.new ≡ session_at self.old }
+    {
         match &mut self.caller {
             Some(caller) => Some(caller.news()),
             None => None,
@@ -70,7 +81,11 @@ impl Place {
     }
 
     /// Sends its caller away, if it has one.
-    pub fn clear<S: Sockets>(&mut self, sockets: &mut S) {
+    pub fn clear<S: Sockets>(&mut self, sockets: &mut S)
+        ensures at { self.new.at ≡ self.old.at }
+        ensures free { session_at self.new ≡ Free }
+        ensures acts { S.acts sockets.old (Closes (Source.Caller self.old.at) ∷ []) sockets.new }
+    {
         sockets.close(Source::Caller(self.at));
         self.caller = None;
     }
@@ -82,7 +97,8 @@ impl Place {
         sockets: &mut S,
         now: Moment,
     ) -> bool
-        ensures { GoesAlong Runs office.old office.new }
+        ensures at { self.new.at ≡ self.old.at }
+        ensures goes { Exchanges (Source.Caller self.old.at) office.old office.new (λ acts. S.acts sockets.old acts sockets.new) (session_at self.old) (session_at self.new) }
     {
         let Some(caller) = &mut self.caller else {
             let is_taken = sockets.accept(self.at);

@@ -1,9 +1,11 @@
 //! The turns of an office that stays up.
-ghost use Rattle.std.specs.Prelude.{◌≡◌, ◌||◌, is_some, ⊤};
-ghost use Rattle.std.proofs.Common.{refl, ◌∙◌};
-ghost use Rattle.office_core.specs.Proceeding.{GoesAlong};
+ghost use Rattle.std.specs.Prelude.{◌≡◌, ◌||◌, [], IfOk, is_some};
+ghost use Rattle.run_beat.specs.declared.sockets.Source.TheVariants as source;
+ghost use Rattle.office_core.specs.Proceeding.{GoesAlong, Nothing};
+ghost use Rattle.office_run.specs.Callers.{AreEmpty, session_at};
+ghost use Rattle.office_run.specs.Deeds.{AllOf, GoesBy, IsLine};
 ghost use Rattle.office_run.specs.Doings.{Runs};
-ghost use Rattle.office_core.proofs.Proceeding.{along_still, along_then};
+ghost use Rattle.office_run.specs.Sessions.{Acting, AreServed, Exchanges};
 
 use crate::ahead::Ahead;
 use crate::caller::{Hold, News, orders_of};
@@ -114,14 +116,14 @@ impl<K: Keeper, S: Sockets> Running<'_, K, S> {
 
     /// Something is due at a moment.
     fn expect(&mut self, due: Option<Moment>)
-        ensures { self.new.office ≡ self.old.office }
+        ensures { (self.new.office ≡ self.old.office) × (self.new.sockets ≡ self.old.sockets) }
     {
         self.due = earlier(self.due, due);
     }
 
     /// An order for a line was accepted.
     fn wake(&mut self, line: u16)
-        ensures { self.new.office ≡ self.old.office }
+        ensures { (self.new.office ≡ self.old.office) × (self.new.sockets ≡ self.old.sockets) }
     {
         if let Some(orders) = self.orders.get_mut(usize::from(line)) {
             *orders = orders.wrapping_add(1);
@@ -130,7 +132,8 @@ impl<K: Keeper, S: Sockets> Running<'_, K, S> {
 
     /// The store refused something: where a file failed it is asked once more, and is broken where it fails again.
     fn note_refusal(&mut self, fault: StoreFault)
-        ensures { (self.new.office.ghost_name ≡ self.old.office.ghost_name) × GoesAlong Runs self.old.office.now self.new.office.now }
+        ensures along { (self.new.office.ghost_name ≡ self.old.office.ghost_name) × GoesAlong Nothing self.old.office.now self.new.office.now }
+        ensures sockets { self.new.sockets ≡ self.old.sockets }
     {
         if self.refused != Some(fault) {
             self.refused = Some(fault);
@@ -146,7 +149,7 @@ impl<K: Keeper, S: Sockets> Running<'_, K, S> {
 
     /// The store kept something.
     fn note_kept(&mut self)
-        ensures { self.new.office ≡ self.old.office }
+        ensures { (self.new.office ≡ self.old.office) × (self.new.sockets ≡ self.old.sockets) }
     {
         if self.refused.is_some() {
             self.refused = None;
@@ -156,7 +159,8 @@ impl<K: Keeper, S: Sockets> Running<'_, K, S> {
 
     /// A line had its turn.
     fn note_line(&mut self, line: &Line, turned: Turned)
-        ensures { (self.new.office.ghost_name ≡ self.old.office.ghost_name) × GoesAlong Runs self.old.office.now self.new.office.now }
+        ensures along { (self.new.office.ghost_name ≡ self.old.office.ghost_name) × GoesAlong Nothing self.old.office.now self.new.office.now }
+        ensures sockets { self.new.sockets ≡ self.old.sockets }
     {
         self.note_turn(line, &turned);
         if let Some(fault) = turned.refused {
@@ -166,7 +170,7 @@ impl<K: Keeper, S: Sockets> Running<'_, K, S> {
 
     /// The same, but for what the store refused.
     fn note_turn(&mut self, line: &Line, turned: &Turned)
-        ensures { self.new.office ≡ self.old.office }
+        ensures { (self.new.office ≡ self.old.office) × (self.new.sockets ≡ self.old.sockets) }
     {
         self.expect(line.due());
         self.note_unreached(line);
@@ -181,7 +185,7 @@ impl<K: Keeper, S: Sockets> Running<'_, K, S> {
 
     /// Notes a line that can't be reached.
     fn note_unreached(&mut self, line: &Line)
-        ensures { self.new.office ≡ self.old.office }
+        ensures { (self.new.office ≡ self.old.office) × (self.new.sockets ≡ self.old.sockets) }
     {
         if let Some(looked_up) = line.unreached() {
             let is_longer = self
@@ -196,7 +200,9 @@ impl<K: Keeper, S: Sockets> Running<'_, K, S> {
 
     /// Looks up where a line is, if that is to be done now.
     fn look_up(&mut self, line: &mut Line)
-        ensures { self.new.office ≡ self.old.office }
+        ensures office { self.new.office ≡ self.old.office }
+        ensures name { self.new.sockets.ghost_name ≡ self.old.sockets.ghost_name }
+        ensures acts { S.acts self.old.sockets.now [] self.new.sockets.now }
     {
         if self.to_look_up != Some(line.place()) {
             return;
@@ -216,7 +222,7 @@ impl<K: Keeper, S: Sockets> Running<'_, K, S> {
 
     /// Whether a line may do something in this turn. If not, it is noted how it stands.
     fn admit_line(&mut self, line: &mut Line) -> bool
-        ensures { self.new.office ≡ self.old.office }
+        ensures { (self.new.office ≡ self.old.office) × (self.new.sockets ≡ self.old.sockets) }
     {
         let now = self.moment();
         let is_admitted = self.lines.admit(line.served, now);
@@ -231,7 +237,8 @@ impl<K: Keeper, S: Sockets> Running<'_, K, S> {
 
     /// Whether a place may do something in this turn. If not, it is noted how it stands.
     fn admit(&mut self, place: &mut Place) -> bool
-        ensures { self.new.office ≡ self.old.office }
+        ensures same { (self.new.office ≡ self.old.office) × (self.new.sockets ≡ self.old.sockets) }
+        ensures place { (place.new.at ≡ place.old.at) × (session_at place.new ≡ session_at place.old) }
     {
         let now = self.moment();
         if place.at() == 0 {
@@ -248,7 +255,9 @@ impl<K: Keeper, S: Sockets> Running<'_, K, S> {
 
     /// A place did something.
     fn note_place(&mut self, place: &mut Place)
-        ensures { (self.new.office.ghost_name ≡ self.old.office.ghost_name) × GoesAlong Runs self.old.office.now self.new.office.now }
+        ensures along { (self.new.office.ghost_name ≡ self.old.office.ghost_name) × GoesAlong Nothing self.old.office.now self.new.office.now }
+        ensures sockets { self.new.sockets ≡ self.old.sockets }
+        ensures place { (place.new.at ≡ place.old.at) × (session_at place.new ≡ session_at place.old) }
     {
         self.note(place);
         if let Some(news) = place.news() {
@@ -258,7 +267,8 @@ impl<K: Keeper, S: Sockets> Running<'_, K, S> {
 
     /// What became of what a caller asked for.
     fn note_news(&mut self, news: News)
-        ensures { (self.new.office.ghost_name ≡ self.old.office.ghost_name) × GoesAlong Runs self.old.office.now self.new.office.now }
+        ensures along { (self.new.office.ghost_name ≡ self.old.office.ghost_name) × GoesAlong Nothing self.old.office.now self.new.office.now }
+        ensures sockets { self.new.sockets ≡ self.old.sockets }
     {
         if let Some(line) = news.ordered {
             self.wake(line);
@@ -274,7 +284,7 @@ impl<K: Keeper, S: Sockets> Running<'_, K, S> {
 
     /// A place had its turn.
     fn note(&mut self, place: &Place)
-        ensures { self.new.office ≡ self.old.office }
+        ensures { (self.new.office ≡ self.old.office) × (self.new.sockets ≡ self.old.sockets) }
     {
         let now = self.times.now;
         self.expect(place.due());
@@ -291,7 +301,10 @@ impl<K: Keeper, S: Sockets> Running<'_, K, S> {
 
     /// Sends the caller of a place away that is wanted for another one.
     fn make_room(&mut self, place: &mut Place)
-        ensures { self.new.office ≡ self.old.office }
+        ensures office { self.new.office ≡ self.old.office }
+        ensures name { self.new.sockets.ghost_name ≡ self.old.sockets.ghost_name }
+        ensures at { place.new.at ≡ place.old.at }
+        ensures acts { Acting (source.Caller place.old.at) (λ acts. S.acts self.old.sockets.now acts self.new.sockets.now) (session_at place.old) (session_at place.new) }
     {
         if self.wanted == Some(place.at()) {
             place.clear(self.sockets);
@@ -300,7 +313,7 @@ impl<K: Keeper, S: Sockets> Running<'_, K, S> {
 
     /// Tells what the clock does, where that is new.
     fn tell_clock(&mut self)
-        ensures { self.new.office ≡ self.old.office }
+        ensures { (self.new.office ≡ self.old.office) × (self.new.sockets ≡ self.old.sockets) }
     {
         self.journal.set_clock(self.times.clock);
         let is_held = self.times.slot().is_none();
@@ -358,9 +371,9 @@ impl<K: Keeper, S: Sockets> Running<'_, K, S> {
 }
 
 impl<K: Keeper, S: Sockets> World for Running<'_, K, S> {
-    // The office is the same one, and whatever history it followed, it goes on to one that it follows then.
-    ghost goes = { λ old new. (new.office.ghost_name ≡ old.office.ghost_name)
-        × GoesAlong Runs old.office.now new.office.now };
+    // Nothing is done with the office, nor with the sockets.
+    ghost waits = { λ old _ _ new. (new.office ≡ old.office) × (new.sockets.ghost_name ≡ old.sockets.ghost_name)
+        × S.acts old.sockets.now [] new.sockets.now };
 
     ghost stopped = { λ world. is_some world.fault || S.stopped world.sockets.now };
 
@@ -386,17 +399,12 @@ impl<K: Keeper, S: Sockets> World for Running<'_, K, S> {
         self.unreached = None;
         Ok(())
     }
-
-    ghost stays = { λ world. (refl, along_still world.office.now) };
-
-    ghost chains = { λ one two three first second. (
-      second.0 ∙ first.0,
-      along_then one.office.now two.office.now three.office.now first.1 second.1,
-    ) };
 }
 
 impl<K: Keeper, S: Sockets> Called<Running<'_, K, S>> for Line {
-    ghost steps = { λ _ _ _. ⊤ };
+    // The office and the sockets are the same ones, and what is done with them is of lines alone.
+    ghost steps = { λ _ old _ _ new. (new.office.ghost_name ≡ old.office.ghost_name) × (new.sockets.ghost_name ≡ old.sockets.ghost_name)
+        × GoesBy old.office.now new.office.now (λ acts. S.acts old.sockets.now acts new.sockets.now) (λ now deeds. AllOf IsLine deeds) };
 
     fn call(&mut self, world: &mut Running<'_, K, S>) -> bool {
         if !world.admit_line(self) {
@@ -420,7 +428,10 @@ impl<K: Keeper, S: Sockets> Called<Running<'_, K, S>> for Line {
 }
 
 impl<K: Keeper, S: Sockets> Called<Running<'_, K, S>> for Place {
-    ghost steps = { λ _ _ _. ⊤ };
+    // The same, and what is done with them is of this place alone, and what its caller's session wants.
+    ghost steps = { λ place old _ place' new. (new.office.ghost_name ≡ old.office.ghost_name) × (new.sockets.ghost_name ≡ old.sockets.ghost_name)
+        × (place'.at ≡ place.at)
+        × Exchanges (source.Caller place.at) old.office.now new.office.now (λ acts. S.acts old.sockets.now acts new.sockets.now) (session_at place) (session_at place') };
 
     fn call(&mut self, world: &mut Running<'_, K, S>) -> bool {
         if !world.admit(self) {
@@ -443,7 +454,9 @@ fn lines_of(alloc: Global, site: &Site, timeout: u32) -> Result<Vec<Line>, Alloc
 }
 
 /// Empty places for callers.
-fn places(alloc: Global) -> Result<Vec<Place>, AllocError> {
+fn places(alloc: Global) -> Result<Vec<Place>, AllocError>
+    ensures { IfOk result (λ places. AreEmpty 0 places.items) }
+{
     let mut places = Vec::new(alloc);
     for at in 0..MOST_CALLERS {
         places.push(Place::new(alloc, at))?;
@@ -458,6 +471,20 @@ struct Outset {
     times: Times,
 }
 
+/// Turns in a world until the run is to end.
+fn stay<K: Keeper, S: Sockets>(
+    lines: &mut Vec<Line>,
+    places: &mut Vec<Place>,
+    world: &mut Running<'_, K, S>,
+) -> Result<(), RunFault>
+    requires { AreEmpty 0 places.old.items }
+    ensures { (world.new.office.ghost_name ≡ world.old.office.ghost_name) × (world.new.sockets.ghost_name ≡ world.old.sockets.ghost_name)
+        × GoesBy world.old.office.now world.new.office.now (λ acts. S.acts world.old.sockets.now acts world.new.sockets.now) AreServed }
+{
+    run_beat::run(lines, places, world)?;
+    world.ended()
+}
+
 /// Turns until the run is to end.
 fn turns<K: Keeper, S: Sockets>(
     office: &mut Office<K>,
@@ -468,7 +495,8 @@ fn turns<K: Keeper, S: Sockets>(
     places: &mut Vec<Place>,
     outset: Outset,
 ) -> Result<(), RunFault>
-    ensures { GoesAlong Runs office.old office.new }
+    requires { AreEmpty 0 places.old.items }
+    ensures { GoesBy office.old office.new (λ acts. S.acts sockets.old acts sockets.new) AreServed }
 {
     let mut world = Running {
         office,
@@ -493,8 +521,7 @@ fn turns<K: Keeper, S: Sockets>(
         lines: Pass::at(outset.times.now),
         callers: Pass::new(),
     };
-    run_beat::run(lines, places, &mut world)?;
-    world.ended()
+    stay(lines, places, &mut world)
 }
 
 /// Keeps an office up until the run is to end: each line of its site polls each slot, over a connection that stays
@@ -508,7 +535,8 @@ pub fn run<K: Keeper, S: Sockets>(
     slots: Slots,
     timeout: u32,
 ) -> Result<(), RunFault>
-    ensures { GoesAlong Runs office.old office.new }
+    ensures along { GoesAlong Runs office.old office.new }
+    ensures deeds { GoesBy office.old office.new (λ acts. S.acts sockets.old acts sockets.new) AreServed }
 {
     let mut lines = lines_of(alloc, office.site(), timeout)?;
     let mut places = places(alloc)?;

@@ -13,9 +13,9 @@ module _ {L C W : Type 0} (of_line : L → W → Bool → L → W → Type 0) (o
     (still : (ls : List L) (cs : List C) (world : W) → Goes ls cs world ls cs world)
     (chains : (ls ls' ls'' : List L) (cs cs' cs'' : List C) (one two three : W) → Goes ls cs one ls' cs' two → Goes ls' cs' two ls'' cs'' three → Goes ls cs one ls'' cs'' three)
     (by_line : (front : List L) (line : L) (back : List L) (cs : List C) (one : W) (more : Bool) (line' : L) (two : W)
-        → of_line line one more line' two → Goes (front ++ line ∷ back) cs one (front ++ line' ∷ back) cs two)
+    → of_line line one more line' two → Goes (front ++ line ∷ back) cs one (front ++ line' ∷ back) cs two)
     (by_caller : (ls : List L) (front : List C) (caller : C) (back : List C) (one : W) (more : Bool) (caller' : C) (two : W)
-        → of_caller caller one more caller' two → Goes ls (front ++ caller ∷ back) one ls (front ++ caller' ∷ back) two)
+    → of_caller caller one more caller' two → Goes ls (front ++ caller ∷ back) one ls (front ++ caller' ∷ back) two)
     (by_wait : (ls : List L) (cs : List C) (one : W) (more : Bool) (result : Result (Unit {0}) SocketFault) (two : W) → waits one more result two → Goes ls cs one ls cs two) where
   by_lines : (front ls : List L) (cs : List C) (one : W) (mores : List Bool) (ls' : List L) (two : W)
       → EachSteps of_line ls one mores ls' two → Goes (front ++ ls) cs one (front ++ ls') cs two

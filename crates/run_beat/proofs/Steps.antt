@@ -18,7 +18,7 @@ module _ {M W : Type 0} (steps : M → W → Bool → M → W → Type 0) where
     (
       world',
       subst (λ (w : W). steps x w more new world') stepped.0
-      (subst (λ (member : M). steps member between more new world') (sym (ap (λ members. get_or members 0 default) stepped.1)) step),
+          (subst (λ (member : M). steps member between more new world') (sym (ap (λ members. get_or members 0 default) stepped.1)) step),
       refl,
     ),
     ap (drop 1) stepped.1,

@@ -1,4 +1,4 @@
-use Rattle.std.proofs.Common.{◌∙◌, None, Some}
+use Rattle.std.proofs.Common.{None, Some}
 use Rattle.office_core.proofs.Following.{stays_so}
 use Rattle.office_net.proofs.Oldest.{oldest_found}
 use Rattle.office_core.proofs.Proceeding.{along_asked}

@@ -1,6 +1,6 @@
 use Rattle.office_http.specs.Heard.{meaning_of}
-use Rattle.office_run.proofs.Widening.{did_one}
+use Rattle.office_run.proofs.Sessions.{comes_of}
 use Rattle.office_run.proofs.caller.done.Goals as goal
 
 pub returns : goal.returns
-returns g c = did_one c.args.office.now c.respond_among.new.office (meaning_of c.args.heard.now) c.respond_among.ensures
+returns g c = comes_of c.args.office.now c.respond.new.office (meaning_of c.args.heard.now) c.respond.result c.respond.ensures.accounts.2 c.respond.ensures.goes

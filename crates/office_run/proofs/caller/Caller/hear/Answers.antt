@@ -1,0 +1,35 @@
+use Rattle.std.proofs.Common.{◌≡◌, ◌++◌, List, [], ℕ, Option, ◌∙◌, ap, refl, sym, subst}
+use Rattle.office_core.proofs.Proceeding.{along_still}
+use Rattle.office_http.specs.Answers.{unavailable_text}
+use Rattle.office_http.specs.Deciding.{Decides}
+use Rattle.office_http.specs.Exchanges.{bytes_of}
+use Rattle.office_http.specs.Heard.{meaning_of}
+use Rattle.office_http.specs.Judging.{Judges}
+use Rattle.office_http.specs.declared.heard.Heard.{Heard}
+use Rattle.office_http.specs.Meanings.{Meaning}
+use Rattle.office_run.specs.Callers.{session_of}
+use Rattle.office_run.specs.Sessions.{Answering, Exchanges, Hearing}
+use Rattle.office_run.proofs.Callers.{is_answering}
+use Rattle.office_run.proofs.Sessions.{comes_untried, replies_at_once, reply_put}
+use Rattle.office_run.proofs.caller.Caller.hear.Goals as goal
+
+pub returns-in-Ok-Some : goal.returns-in-Ok-Some
+returns-in-Ok-Some g c = λ source.
+    let heard = bytes_of c.args.self.now.exchange ++ c.args.piece.now in
+    let came = c.answer.ensures.came in
+    reply_put source c.args.office.now c.answer.new.office (Hearing heard) (session_of c.answer.new.self) c.answer.new.self.out came.0 c.answer.result
+    (is_answering c.answer.new.self c.answer.ensures.mood) came.2
+    (replies_at_once source c.args.office.now c.answer.new.office (λ meaning. meaning ≡ meaning_of c.in-Ok-Some.heard) heard came.0
+    (λ meaning same. subst (λ (some : Meaning). Decides heard some) (sym same)
+    (subst (λ (bytes : List ℕ). Decides bytes (meaning_of c.in-Ok-Some.heard)) c.in-Ok-Some.ensures.taken
+    (subst (λ (told : Option Heard). Judges (bytes_of c.take.new.self) told) c.in-Ok-Some.field-0-is c.in-Ok-Some.ensures.asked))) came.1)
+
+pub returns-in-Err : goal.returns-in-Err
+returns-in-Err g c = λ source.
+    let heard = bytes_of c.args.self.now.exchange ++ c.args.piece.now in
+    reply_put source c.args.office.now c.args.office.now (Hearing heard) (Answering c.push.new.self) c.push.new.self (c.args.self.now.out ++ c.unavailable.result.now) c.push.result
+    refl c.push.ensures.ok
+    (subst (λ (text : List ℕ). Exchanges source c.args.office.now c.args.office.now (λ acts. acts ≡ []) (Hearing heard) (Answering text))
+    (sym c.unavailable.ensures ∙ sym (ap (λ (out : List ℕ). out ++ c.unavailable.result.now) (c.args.self.now.unwritten c.requires)))
+    (replies_at_once source c.args.office.now c.args.office.now (Decides heard) heard unavailable_text (λ meaning decides. decides)
+    (comes_untried c.args.office.now c.args.office.now (Decides heard) (along_still c.args.office.now))))
