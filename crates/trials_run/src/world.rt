@@ -1,6 +1,6 @@
 //! A small world in the place of the system's sockets. Its time passes in waits alone, up to the next moment at which
 //! something comes: what a turn left unread ends no wait.
-ghost use Rattle.std.specs.Prelude.{◌≡◌, IsTrue, false, is_some, slice_index_or, slice_set};
+ghost use Rattle.std.specs.Prelude.{◌≡◌, IsTrue, false, is_some, slice_index_or, slice_set, ⊤};
 
 use crate::guest::{Guests, Speech};
 use crate::wire::{Wire, sent};
@@ -130,6 +130,13 @@ impl Sockets for World {
     ghost waiting = { λ world. is_some world.door };
 
     ghost stopped = { λ world. world.is_over };
+
+    // What comes and goes is looked at by the trials alone.
+    ghost acts = { λ _ _ _. ⊤ };
+
+    ghost rests = { λ _. tt };
+
+    ghost joins = { λ _ _ _ _ _ _ _. tt };
 
     fn now(&self) -> Result<Moment, SocketFault> {
         Ok(Moment::new(self.now))
