@@ -29,3 +29,4 @@ pub mod Readable
 pub mod Proceeding
 pub mod OneRound
 pub mod Oldest
+pub mod Querying

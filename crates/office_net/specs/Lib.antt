@@ -10,3 +10,4 @@ pub mod Serving
 pub mod Drills
 pub mod Counting
 pub mod Kinds
+pub mod Querying

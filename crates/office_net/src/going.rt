@@ -1,5 +1,5 @@
 //! Calls between which others may have the office: what they promise holds of every history that it follows.
-ghost use Rattle.std.specs.Prelude.{◌≡◌, IfOk};
+ghost use Rattle.std.specs.Prelude.{◌≡◌, IfOk, MatchResult};
 ghost use Rattle.poll_book.specs.Orders as orders;
 ghost use Rattle.office_core.specs.History.{History, settings};
 ghost use Rattle.office_core.specs.Offices.{keeper_of};
@@ -7,6 +7,7 @@ ghost use Rattle.office_net.specs.Counting.{Learnt};
 ghost use Rattle.office_core.specs.Following.{Follows};
 ghost use Rattle.office_core.specs.Proceeding.{GoesAlong, Nothing};
 ghost use Rattle.office_net.specs.Kinds.{Asks, Hears, IsOldest, Opens, SendsUpTo};
+ghost use Rattle.office_net.specs.Querying.{Makes, Misses};
 
 use crate::turns::ask_lacking;
 use mb_mbap::Frame;
@@ -52,7 +53,7 @@ pub fn ask_among<K: Keeper>(
     device: &str,
     read: &Read,
 ) -> Result<Option<Frame>, OfficeError>
-    ensures { GoesAlong (Asks conn slot device.now read.now) office.old office.new }
+    ensures { MatchResult result (Makes (Asks conn slot device.now read.now) office.old office.new) (λ _. Misses (Asks conn slot device.now read.now) office.old office.new) }
 {
     ask_lacking(office, conn, slot, device, read)
 }
@@ -77,7 +78,7 @@ pub fn send_among<K: Keeper>(
     device: &str,
     last: u32,
 ) -> Result<Option<Frame>, OfficeError>
-    ensures { GoesAlong (SendsUpTo last conn device.now) office.old office.new }
+    ensures { MatchResult result (Makes (SendsUpTo last conn device.now) office.old office.new) (λ _. Misses (SendsUpTo last conn device.now) office.old office.new) }
 {
     let number = oldest(office, device)?;
     match number {

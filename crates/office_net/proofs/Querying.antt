@@ -1,0 +1,180 @@
+-- Queries that calls make, call behind call.
+use Rattle.std.proofs.Common.{◌≡◌, ◌⊎◌, inl, inr, true, false, ℕ, List, [], ◌∷◌, Option, Some, None, Result, Ok, Err, refl, sym, subst}
+use Rattle.std.specs.Prelude.{IsErr, MatchResult}
+use Rattle.mb_mbap.specs.declared.frame.Frame.{Frame}
+use Rattle.poll_book.specs.declared.keeper.Neighbours.{Ghosts}
+use Rattle.poll_book.specs.Tables.{Within}
+use Rattle.office_core.specs.declared.office.Office.{Office}
+use Rattle.office_core.specs.declared.error.OfficeError.{OfficeError}
+use Rattle.office_core.specs.declared.event.EventAnswer.TheVariants.{Query, Refused}
+use Rattle.office_core.specs.Following.{Fails, Follows, Happens, MayLeave}
+use Rattle.office_core.specs.History.{Happening, History, tables}
+use Rattle.office_core.specs.Leavings.{LeftAfter}
+use Rattle.office_core.specs.Offices.{keeper_of}
+use Rattle.office_core.specs.Proceeding.{AreOf, Did, GoesAlong, LeftBySteps, Missed, Nothing, Step, stepped}
+use Rattle.office_core.specs.Standing.{is_store}
+use Rattle.office_core.proofs.Following.{left_more, left_refused}
+use Rattle.office_core.proofs.Proceeding.{along_then, still}
+use Rattle.office_net.specs.Counting.{Learnt}
+use Rattle.office_net.specs.Kinds.{Turn}
+use Rattle.office_net.specs.Moves.{turn_of}
+use Rattle.office_net.specs.Querying.{Makes, Misses}
+use Rattle.office_net.specs.Turning.{TurnFails, Turns}
+use Rattle.office_net.specs.declared.job.LineJob.{LineJob}
+use Rattle.office_net.proofs.Proceeding.{turn_is}
+
+-- steps of which there can be none
+pub none_of : (now : History) (steps : List Step) → AreOf Nothing now steps → steps ≡ []
+none_of now [] of = refl
+none_of now (Did event ∷ steps) of = absurd of.0
+none_of now (Missed event ∷ steps) of = absurd of.0
+
+module _ {K : Type 0} {g : Ghosts K} where
+  -- an office that was only asked follows what it followed
+  pub still_follows : (old new : Office K g) → GoesAlong Nothing old new → g.is_clean (keeper_of new)
+      → g.is_clean (keeper_of old) × ((now : History) → Follows old now → Follows new now × Within (MayLeave new) (MayLeave old))
+  still_follows old new along clean =
+      let went = along clean in (
+        went.0,
+        λ now follows.
+            let course = went.1 now follows in
+            let none = none_of now course.steps course.are in (
+              subst (λ (steps : List Step). Follows new (stepped now steps)) none course.follows,
+              subst (λ (steps : List Step). Within (MayLeave new) (LeftBySteps (MayLeave old) now steps)) none course.leaves,
+            ),
+      )
+
+  module _ (kind : History → Happening → Type 0) where
+    pub nothing_misses : (old new : Office K g) → GoesAlong Nothing old new → Misses kind old new
+    nothing_misses old new along clean =
+        let went = still_follows old new along clean in
+        (went.0, λ now follows. let stays = went.1 now follows in (stays.0, inl stays.1))
+
+    -- the office was only asked, and then
+    pub nothing_then_makes : (one two three : Office K g) (told : Option Frame) → GoesAlong Nothing one two → Makes kind two three told → Makes kind one three told
+    nothing_then_makes one two three None along makes = along_then one two three along makes
+    nothing_then_makes one two three (Some query) along makes = λ clean.
+        let later = makes clean in
+        let earlier = still_follows one two along later.0 in (
+          earlier.0,
+          λ now follows.
+              let stays = earlier.1 now follows in
+              let made = later.1 now stays.0 in
+              (made.0, made.1, made.2, made.3, λ left may_be. left_more (MayLeave two) (MayLeave one) (tables now) (tables (made.0 ∷ now)) false stays.1 left (made.4 left may_be)),
+        )
+
+    pub nothing_then_misses : (one two three : Office K g) → GoesAlong Nothing one two → Misses kind two three → Misses kind one three
+    nothing_then_misses one two three along misses clean =
+        let later = misses clean in
+        let earlier = still_follows one two along later.0 in (
+          earlier.0,
+          λ now follows.
+              let stays = earlier.1 now follows in
+              let missed = later.1 now stays.0 in (
+                missed.0,
+                elim missed.1 as (λ _. Within (MayLeave three) (MayLeave one)
+                    ⊎ ((event : Happening) × kind now event × Within (MayLeave three) (LeftAfter (MayLeave one) (tables now) (tables (event ∷ now)) true))) [
+                  inl none ↦ inl (λ left may_be. stays.1 left (none left may_be))
+                  | inr some ↦ inr (some.0, some.1, λ left may_be. left_more (MayLeave two) (MayLeave one) (tables now) (tables (some.0 ∷ now)) true stays.1 left (some.2 left may_be))
+                ],
+              ),
+        )
+
+    -- of a wider kind
+    pub makes_wider : (wider : History → Happening → Type 0) → ((now : History) (event : Happening) → kind now event → wider now event) → (old new : Office K g) (told : Option Frame)
+        → Makes kind old new told → Makes wider old new told
+    makes_wider wider is old new None makes = makes
+    makes_wider wider is old new (Some query) makes = λ clean.
+        let went = makes clean in
+        (went.0, λ now follows. let made = went.1 now follows in (made.0, is now made.0 made.1, made.2, made.3, made.4))
+
+    pub misses_wider : (wider : History → Happening → Type 0) → ((now : History) (event : Happening) → kind now event → wider now event) → (old new : Office K g)
+        → Misses kind old new → Misses wider old new
+    misses_wider wider is old new misses clean =
+        let went = misses clean in (
+          went.0,
+          λ now follows.
+              let missed = went.1 now follows in (
+                missed.0,
+                elim missed.1 as (λ _. Within (MayLeave new) (MayLeave old)
+                    ⊎ ((event : Happening) × wider now event × Within (MayLeave new) (LeftAfter (MayLeave old) (tables now) (tables (event ∷ now)) true))) [
+                  inl none ↦ inl none
+                  | inr some ↦ inr (some.0, is now some.0 some.1, some.2)
+                ],
+              ),
+        )
+
+    -- an office was asked, and then made a query of what it told
+    pub learnt_makes : (one two three : Office K g) (holds : History → Type 0) (event : Happening) (told : Result Frame OfficeError)
+        → ((now : History) → holds now → kind now event) → Learnt one two holds → (g.is_clean (keeper_of three) → g.is_clean (keeper_of two))
+        → (g.is_clean (keeper_of three) → MatchResult told
+        (λ query. Happens (Follows two) (Follows three) (MayLeave two) (MayLeave three) (λ _. event) (Query query))
+        (λ e. Fails (Follows two) (Follows three) (MayLeave two) (MayLeave three) (λ _. event) (Refused e)))
+        → MatchResult told (λ query. Makes kind one three (Some query)) (λ e. Misses kind one three)
+    learnt_makes one two three holds event (Ok query) is learnt before went = λ clean.
+        let known = learnt (before clean) in
+        let happens = went clean in (
+          known.0,
+          λ now follows.
+              let stood = known.1.stays.follows now follows in (
+                event,
+                is now (known.1.known now follows),
+                sym (happens.answered now stood),
+                happens.follows now stood,
+                λ left may_be. left_more (MayLeave two) (MayLeave one) (tables now) (tables (event ∷ now)) false known.1.stays.leaves left (happens.leaves now stood left may_be),
+              ),
+        )
+    learnt_makes one two three holds event (Err e) is learnt before went = λ clean.
+        let known = learnt (before clean) in
+        let fails = went clean in (
+          known.0,
+          λ now follows.
+              let stood = known.1.stays.follows now follows in (
+                fails.follows now stood,
+                inr (
+                  event,
+                  is now (known.1.known now follows),
+                  λ left may_be.
+                      left_more (MayLeave two) (MayLeave one) (tables now) (tables (event ∷ now)) true known.1.stays.leaves left
+                      (left_refused (MayLeave two) (tables now) (tables (event ∷ now)) (is_store (Refused e)) left (fails.leaves now stood left may_be)),
+                ),
+              ),
+        )
+
+  -- a job had its turn
+  pub turn_makes : (old new : Office K g) (conn slot : ℕ) (job : LineJob) (told : Result (Option Frame) OfficeError) → (g.is_clean (keeper_of new) → g.is_clean (keeper_of old))
+      → (g.is_clean (keeper_of new) → MatchResult told
+      (Turns (Follows old) (Follows new) (MayLeave old) (MayLeave new) conn slot job) (TurnFails (Follows old) (Follows new) (MayLeave old) (MayLeave new) conn slot job))
+      → MatchResult told (Makes (Turn conn slot job) old new) (λ _. Misses (Turn conn slot job) old new)
+  turn_makes old new conn slot job (Ok None) before turned = λ clean. (before clean, still Nothing (Follows old) (Follows new) (MayLeave old) (MayLeave new) (turned clean).1)
+  turn_makes old new conn slot job (Ok (Some query)) before turned = λ clean. (
+    before clean,
+    λ now follows.
+        let happens = (turned clean).1 in (
+          turn_of conn slot now job,
+          turn_is conn slot now job ((turned clean).0 now follows),
+          sym (happens.answered now follows),
+          happens.follows now follows,
+          happens.leaves now follows,
+        ),
+  )
+  turn_makes old new conn slot job (Err e) before turned = λ clean. (
+    before clean,
+    λ now follows. elim (turned clean) as (λ _. Follows new now × (Within (MayLeave new) (MayLeave old)
+        ⊎ ((event : Happening) × Turn conn slot job now event × Within (MayLeave new) (LeftAfter (MayLeave old) (tables now) (tables (event ∷ now)) true)))) [
+      inl unasked ↦ (unasked.0.follows now follows, inl unasked.0.leaves)
+      | inr asked ↦ (
+        asked.1.follows now follows,
+        inr (
+          turn_of conn slot now job,
+          turn_is conn slot now job (asked.0 now follows),
+          λ left may_be. left_refused (MayLeave old) (tables now) (tables (turn_of conn slot now job ∷ now)) (is_store (Refused e)) left (asked.1.leaves now follows left may_be),
+        ),
+      )
+    ],
+  )
+
+-- what holds where a call failed
+pub told_err : {T E : Type 0} (told : Result T E) (fine : T → Type 0) (failed : Type 0) → IsErr told → failed → MatchResult told fine (λ _. failed)
+told_err (Ok value) fine failed is holds = absurd (cc)
+told_err (Err error) fine failed is holds = holds

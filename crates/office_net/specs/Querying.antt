@@ -1,0 +1,29 @@
+-- What a call that may make a query makes of an office.
+use Rattle.std.specs.Prelude.{◌≡◌, ◌⊎◌, true, false, ◌∷◌, Option, Some, None}
+use Rattle.mb_mbap.specs.declared.frame.Frame.{Frame}
+use Rattle.poll_book.specs.declared.keeper.Neighbours.{Ghosts}
+use Rattle.poll_book.specs.Tables.{Within}
+use Rattle.office_core.specs.declared.office.Office.{Office}
+use Rattle.office_core.specs.declared.event.EventAnswer.TheVariants.{Query}
+use Rattle.office_core.specs.Answers.{answer_of}
+use Rattle.office_core.specs.Following.{Follows, MayLeave}
+use Rattle.office_core.specs.History.{Happening, History, tables}
+use Rattle.office_core.specs.Leavings.{LeftAfter}
+use Rattle.office_core.specs.Offices.{keeper_of}
+use Rattle.office_core.specs.Proceeding.{GoesAlong, Nothing}
+
+-- whatever history the office followed, one event of a kind happened, to which it answers this query; or nothing did, and there is none
+abbrev pub Makes : {K : Type 0} {g : Ghosts K} → (History → Happening → Type 0) → Office K g → Office K g → Option Frame → Type 0
+Makes kind old new None = GoesAlong Nothing old new
+Makes {g = g} kind old new (Some query) =
+    g.is_clean (keeper_of new) → g.is_clean (keeper_of old)
+    × ((now : History) → Follows old now → (event : Happening) × kind now event × (answer_of now event ≡ Query query)
+    × Follows new (event ∷ now) × Within (MayLeave new) (LeftAfter (MayLeave old) (tables now) (tables (event ∷ now)) false))
+
+-- nothing happened, or one event of the kind was refused
+abbrev pub Misses : {K : Type 0} {g : Ghosts K} → (History → Happening → Type 0) → Office K g → Office K g → Type 0
+Misses {g = g} kind old new =
+    g.is_clean (keeper_of new) → g.is_clean (keeper_of old)
+    × ((now : History) → Follows old now → Follows new now
+    × (Within (MayLeave new) (MayLeave old)
+    ⊎ ((event : Happening) × kind now event × Within (MayLeave new) (LeftAfter (MayLeave old) (tables now) (tables (event ∷ now)) true))))
