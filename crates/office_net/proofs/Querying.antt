@@ -6,8 +6,9 @@ use Rattle.poll_book.specs.declared.keeper.Neighbours.{Ghosts}
 use Rattle.poll_book.specs.Tables.{Within}
 use Rattle.office_core.specs.declared.office.Office.{Office}
 use Rattle.office_core.specs.declared.error.OfficeError.{OfficeError}
+use Rattle.office_core.specs.declared.event.EventAnswer.{EventAnswer}
 use Rattle.office_core.specs.declared.event.EventAnswer.TheVariants.{Query, Refused}
-use Rattle.office_core.specs.Following.{Fails, Follows, Happens, MayLeave}
+use Rattle.office_core.specs.Following.{Fails, Follows, Happens, MayLeave, Went}
 use Rattle.office_core.specs.History.{Happening, History, tables}
 use Rattle.office_core.specs.Leavings.{LeftAfter}
 use Rattle.office_core.specs.Offices.{keeper_of}
@@ -18,7 +19,7 @@ use Rattle.office_core.proofs.Proceeding.{along_then, still}
 use Rattle.office_net.specs.Counting.{Learnt}
 use Rattle.office_net.specs.Kinds.{Turn}
 use Rattle.office_net.specs.Moves.{turn_of}
-use Rattle.office_net.specs.Querying.{Makes, Misses}
+use Rattle.office_net.specs.Querying.{Answered, Makes, Misses}
 use Rattle.office_net.specs.Turning.{TurnFails, Turns}
 use Rattle.office_net.specs.declared.job.LineJob.{LineJob}
 use Rattle.office_net.proofs.Proceeding.{turn_is}
@@ -140,6 +141,29 @@ module _ {K : Type 0} {g : Ghosts K} where
                 ),
               ),
         )
+
+  -- a call of which an event happened, or was refused
+  pub answered_of : {X : Type 0} (kind : History → Happening → Type 0) (old new : Office K g) (event : Happening) (tell : X → EventAnswer) (told : Result X OfficeError)
+      → ((now : History) → kind now event) → (g.is_clean (keeper_of new) → g.is_clean (keeper_of old)) → (g.is_clean (keeper_of new) → Went old new (λ _. event) tell told)
+      → MatchResult told (λ x. Answered kind old new (tell x)) (λ e. Misses kind old new)
+  answered_of kind old new event tell (Ok x) is before went = λ clean. (
+    before clean,
+    λ now follows.
+        let happens = went clean in
+        (event, is now, sym (happens.answered now follows), happens.follows now follows, happens.leaves now follows),
+  )
+  answered_of kind old new event tell (Err e) is before went = λ clean. (
+    before clean,
+    λ now follows.
+        let fails = went clean in (
+          fails.follows now follows,
+          inr (
+            event,
+            is now,
+            λ left may_be. left_refused (MayLeave old) (tables now) (tables (event ∷ now)) (is_store (Refused e)) left (fails.leaves now follows left may_be),
+          ),
+        ),
+  )
 
   -- a job had its turn
   pub turn_makes : (old new : Office K g) (conn slot : ℕ) (job : LineJob) (told : Result (Option Frame) OfficeError) → (g.is_clean (keeper_of new) → g.is_clean (keeper_of old))

@@ -4,6 +4,7 @@ use Rattle.mb_mbap.specs.declared.frame.Frame.{Frame}
 use Rattle.poll_book.specs.declared.keeper.Neighbours.{Ghosts}
 use Rattle.poll_book.specs.Tables.{Within}
 use Rattle.office_core.specs.declared.office.Office.{Office}
+use Rattle.office_core.specs.declared.event.EventAnswer.{EventAnswer}
 use Rattle.office_core.specs.declared.event.EventAnswer.TheVariants.{Query}
 use Rattle.office_core.specs.Answers.{answer_of}
 use Rattle.office_core.specs.Following.{Follows, MayLeave}
@@ -12,13 +13,17 @@ use Rattle.office_core.specs.Leavings.{LeftAfter}
 use Rattle.office_core.specs.Offices.{keeper_of}
 use Rattle.office_core.specs.Proceeding.{GoesAlong, Nothing}
 
--- whatever history the office followed, one event of a kind happened, to which it answers this query; or nothing did, and there is none
+-- whatever history the office followed, one event of a kind happened, to which it answers this
+abbrev pub Answered : {K : Type 0} {g : Ghosts K} → (History → Happening → Type 0) → Office K g → Office K g → EventAnswer → Type 0
+Answered {g = g} kind old new told =
+    g.is_clean (keeper_of new) → g.is_clean (keeper_of old)
+    × ((now : History) → Follows old now → (event : Happening) × kind now event × (answer_of now event ≡ told)
+    × Follows new (event ∷ now) × Within (MayLeave new) (LeftAfter (MayLeave old) (tables now) (tables (event ∷ now)) false))
+
+-- so one happened, to which it answers this query; or nothing did, and there is none
 abbrev pub Makes : {K : Type 0} {g : Ghosts K} → (History → Happening → Type 0) → Office K g → Office K g → Option Frame → Type 0
 Makes kind old new None = GoesAlong Nothing old new
-Makes {g = g} kind old new (Some query) =
-    g.is_clean (keeper_of new) → g.is_clean (keeper_of old)
-    × ((now : History) → Follows old now → (event : Happening) × kind now event × (answer_of now event ≡ Query query)
-    × Follows new (event ∷ now) × Within (MayLeave new) (LeftAfter (MayLeave old) (tables now) (tables (event ∷ now)) false))
+Makes kind old new (Some query) = Answered kind old new (Query query)
 
 -- nothing happened, or one event of the kind was refused
 abbrev pub Misses : {K : Type 0} {g : Ghosts K} → (History → Happening → Type 0) → Office K g → Office K g → Type 0

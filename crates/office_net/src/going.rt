@@ -7,7 +7,8 @@ ghost use Rattle.office_net.specs.Counting.{Learnt};
 ghost use Rattle.office_core.specs.Following.{Follows};
 ghost use Rattle.office_core.specs.Proceeding.{GoesAlong, Nothing};
 ghost use Rattle.office_net.specs.Kinds.{Asks, Hears, IsOldest, Opens, SendsUpTo};
-ghost use Rattle.office_net.specs.Querying.{Makes, Misses};
+ghost use Rattle.office_net.specs.Querying.{Answered, Makes, Misses};
+ghost use Rattle.office_core.specs.declared.event.EventAnswer.TheVariants as answer;
 
 use crate::turns::ask_lacking;
 use mb_mbap::Frame;
@@ -18,7 +19,7 @@ use read_planner::Read;
 
 /// Opens a line by its name, and closes its former connection. It refuses as `Office::open_line` does.
 pub fn open_line<K: Keeper>(office: &mut Office<K>, line: &str) -> Result<Conn, OfficeError>
-    ensures { GoesAlong (Opens line.now) office.old office.new }
+    ensures { MatchResult result (λ conn. Answered (Opens line.now) office.old office.new (answer.Opened conn)) (λ _. Misses (Opens line.now) office.old office.new) }
 {
     office.open_line(line)
 }
