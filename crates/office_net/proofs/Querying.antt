@@ -12,7 +12,7 @@ use Rattle.office_core.specs.Following.{Fails, Follows, Happens, MayLeave, Went}
 use Rattle.office_core.specs.History.{Happening, History, tables}
 use Rattle.office_core.specs.Leavings.{LeftAfter}
 use Rattle.office_core.specs.Offices.{keeper_of}
-use Rattle.office_core.specs.Proceeding.{AreOf, Did, GoesAlong, LeftBySteps, Missed, Nothing, Step, stepped}
+use Rattle.office_core.specs.Proceeding.{AreOf, Course, Did, GoesAlong, LeftBySteps, Missed, Nothing, Step, stepped}
 use Rattle.office_core.specs.Standing.{is_store}
 use Rattle.office_core.proofs.Following.{left_more, left_refused}
 use Rattle.office_core.proofs.Proceeding.{along_then, still}
@@ -202,3 +202,26 @@ module _ {K : Type 0} {g : Ghosts K} where
 pub told_err : {T E : Type 0} (told : Result T E) (fine : T → Type 0) (failed : Type 0) → IsErr told → failed → MatchResult told fine (λ _. failed)
 told_err (Ok value) fine failed is holds = absurd (cc)
 told_err (Err error) fine failed is holds = holds
+
+-- such a call goes along
+module _ {K : Type 0} {g : Ghosts K} (kind : History → Happening → Type 0) (old new : Office K g) where
+  pub answered_along : (told : EventAnswer) → Answered kind old new told → GoesAlong kind old new
+  answered_along told answered clean =
+      let went = answered clean in (
+        went.0,
+        λ now follows.
+            let made = went.1 now follows in
+            record { steps = Did made.0 ∷ []; are = (made.1, tt); follows = made.3; leaves = made.4 },
+      )
+
+  pub misses_along : Misses kind old new → GoesAlong kind old new
+  misses_along misses clean =
+      let went = misses clean in (
+        went.0,
+        λ now follows.
+            let missed = went.1 now follows in
+            elim missed.1 as (λ _. Course kind (Follows new) (MayLeave old) (MayLeave new) now) [
+              inl none ↦ record { steps = []; are = tt; follows = missed.0; leaves = none }
+              | inr some ↦ record { steps = Missed some.0 ∷ []; are = (some.1, tt); follows = missed.0; leaves = some.2 }
+            ],
+      )

@@ -11,10 +11,10 @@ use Rattle.office_run.specs.declared.caller.Mood.{Mood}
 use Rattle.office_run.specs.declared.caller.Mood.TheVariants as mood
 use Rattle.office_run.specs.declared.place.Place.{Place}
 use Rattle.office_run.specs.Callers.{AreEmpty, session_at, session_in, session_of}
-use Rattle.office_run.specs.Sessions.{Answering, AreServed, Exchanges, Free, Heard, Hearing, Session, Through}
+use Rattle.office_run.specs.Sessions.{Answering, AreServed, Exchanges, Free, Heard, Hearing, Moves, Session, Through}
 use Rattle.office_run.specs.Deeds.{GoesBy}
 use Rattle.office_run.proofs.Deeds.{goes_wider}
-use Rattle.office_run.proofs.Sessions.{acting_once, exchange_acting}
+use Rattle.office_run.proofs.Passing.{acting_once, part_acting}
 use Rattle.office_run.proofs.Staying.{Numbered, numbered_session}
 
 pub is_hearing : (caller : Caller) → caller.mood ≡ mood.Hearing → session_of caller ≡ Hearing (bytes_of caller.exchange)
@@ -28,15 +28,15 @@ module _ {K : Type 0} {g : Ghosts K} (source : Source) (office : Office K g) (ac
   pub hears : (bytes : List ℕ) → acted (Reads source bytes ∷ []) → Exchanges source office office acted (session_of caller) (Hearing (bytes_of caller.exchange ++ bytes))
   hears bytes acts =
       subst (λ (session : Session). Exchanges source office office acted session (Hearing (bytes_of caller.exchange ++ bytes))) (sym (is_hearing caller is))
-      (exchange_acting source office acted (Hearing (bytes_of caller.exchange)) (Hearing (bytes_of caller.exchange ++ bytes))
-      (acting_once source acted (Reads source bytes) (Hearing (bytes_of caller.exchange)) (Hearing (bytes_of caller.exchange ++ bytes)) acts refl (λ now. (caller.lacks is, refl))))
+      (part_acting Moves source office acted (Hearing (bytes_of caller.exchange)) (Hearing (bytes_of caller.exchange ++ bytes))
+      (acting_once Moves source acted (Reads source bytes) (Hearing (bytes_of caller.exchange)) (Hearing (bytes_of caller.exchange ++ bytes)) acts refl (λ now. (caller.lacks is, refl))))
 
   -- no more come
   pub heard : acted (Ends source ∷ []) → Exchanges source office office acted (session_of caller) (Heard (bytes_of caller.exchange))
   heard acts =
       subst (λ (session : Session). Exchanges source office office acted session (Heard (bytes_of caller.exchange))) (sym (is_hearing caller is))
-      (exchange_acting source office acted (Hearing (bytes_of caller.exchange)) (Heard (bytes_of caller.exchange))
-      (acting_once source acted (Ends source) (Hearing (bytes_of caller.exchange)) (Heard (bytes_of caller.exchange)) acts refl (λ now. (caller.lacks is, refl))))
+      (part_acting Moves source office acted (Hearing (bytes_of caller.exchange)) (Heard (bytes_of caller.exchange))
+      (acting_once Moves source acted (Ends source) (Hearing (bytes_of caller.exchange)) (Heard (bytes_of caller.exchange)) acts refl (λ now. (caller.lacks is, refl))))
 
 -- ---- places with nobody there
 

@@ -9,7 +9,8 @@ use Rattle.run_beat.specs.Acts.{Act}
 use Rattle.office_core.specs.declared.office.Office.{Office}
 use Rattle.office_core.specs.Following.{Follows, MayLeave}
 use Rattle.office_core.specs.History.{History}
-use Rattle.office_core.specs.Proceeding.{AreOf, Did, GoesAlong, LeftBySteps, Missed, Nothing, Step, stepped}
+use Rattle.office_core.specs.Proceeding.{AreOf, GoesAlong, LeftBySteps, Nothing, Step, stepped}
+use Rattle.office_net.proofs.Querying.{none_of}
 use Rattle.office_core.proofs.Proceeding.{are_then, left_by_more, left_by_then, stepped_then}
 use Rattle.office_run.specs.Doings.{Runs}
 use Rattle.office_run.specs.Deeds.{ActsOf, AllOf, Deed, Deeds, GoesBy, IsLine, OfLines, Over, acts_in, acts_of, source_of_act, steps_in, steps_of, with_all}
@@ -98,11 +99,6 @@ module _ {K : Type 0} {g : Ghosts K} where
 
 -- ---- only asked
 
-none_of : (now : History) (steps : List Step) → AreOf Nothing now steps → steps ≡ []
-none_of now [] of = refl
-none_of now (Did event ∷ steps) of = absurd of.0
-none_of now (Missed event ∷ steps) of = absurd of.0
-
 -- an office that was only asked goes on by nothing
 pub goes_asked : {K : Type 0} {g : Ghosts K} (old new : Office K g) (acted : List Act → Type 0) (kept : History → List Deed → Type 0)
     → GoesAlong Nothing old new → acted [] → ((now : History) → kept now []) → GoesBy old new acted kept
@@ -124,7 +120,7 @@ goes_asked old new acted kept along acts keeps clean =
 
 -- ---- a line's
 
-abbrev over_all : Source → List Step → List Deed
+abbrev pub over_all : Source → List Step → List Deed
 over_all source [] = []
 over_all source (step ∷ steps) = Over source step ∷ over_all source steps
 
@@ -140,15 +136,15 @@ pub with_their_sources : (of : Source → Type 0) (acts : List Act) → ActsOf o
 with_their_sources of [] all = tt
 with_their_sources of (act ∷ acts) all = (all.0, with_their_sources of acts all.1)
 
-over_its_steps : (source : Source) (steps : List Step) → steps_of (over_all source steps) ≡ steps
+pub over_its_steps : (source : Source) (steps : List Step) → steps_of (over_all source steps) ≡ steps
 over_its_steps source [] = refl
 over_its_steps source (step ∷ steps) = ap (λ (rest : List Step). step ∷ rest) (over_its_steps source steps)
 
-over_no_acts : (source : Source) (steps : List Step) → acts_of (over_all source steps) ≡ []
+pub over_no_acts : (source : Source) (steps : List Step) → acts_of (over_all source steps) ≡ []
 over_no_acts source [] = refl
 over_no_acts source (step ∷ steps) = over_no_acts source steps
 
-over_its_source : (of : Source → Type 0) (source : Source) → of source → (steps : List Step) → AllOf of (over_all source steps)
+pub over_its_source : (of : Source → Type 0) (source : Source) → of source → (steps : List Step) → AllOf of (over_all source steps)
 over_its_source of source is [] = tt
 over_its_source of source is (step ∷ steps) = (is, over_its_source of source is steps)
 

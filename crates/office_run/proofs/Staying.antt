@@ -10,9 +10,9 @@ use Rattle.run_beat.proofs.Along.{by_turn, by_turns}
 use Rattle.office_core.specs.declared.office.Office.{Office}
 use Rattle.office_core.specs.History.{History}
 use Rattle.office_run.specs.Deeds.{AllOf, Deed, GoesBy, Is, IsLine}
-use Rattle.office_run.specs.Sessions.{Exchanges, Free, Session, Through}
+use Rattle.office_run.specs.Sessions.{Exchanges, Free, Moves, Session, Through}
 use Rattle.office_run.proofs.Deeds.{goes_still, goes_then, goes_wider}
-use Rattle.office_run.proofs.Sessions.{through_others, through_then}
+use Rattle.office_run.proofs.Passing.{passes_others, passes_then}
 
 module _ {C : Type 0} (at_of : C → ℕ) (session_of : C → Session) where
   -- places are numbered from a first one on
@@ -80,7 +80,7 @@ module _ {K S M N L C W : Type 0} {g : Ghosts K} (office_of : W → Office K g) 
         goes_then (office_of one) (office_of two) (office_of three) (Acted one two) (Acted two three) (Acted one three) (Served cs cs') (Served cs' cs'') (Served cs cs'')
             (joins (sockets_of one) (sockets_of two) (sockets_of three))
             (λ now some more before after caller.
-            through_then (Caller caller) now more some (numbered_session at_of session_of cs caller) (numbered_session at_of session_of cs' caller) (numbered_session at_of session_of cs'' caller) (after caller) (before caller))
+            passes_then Moves (Caller caller) now more some (numbered_session at_of session_of cs caller) (numbered_session at_of session_of cs' caller) (numbered_session at_of session_of cs'' caller) (after caller) (before caller))
             earlier.3 later.3,
       )
 
@@ -99,7 +99,7 @@ module _ {K S M N L C W : Type 0} {g : Ghosts K} (office_of : W → Office K g) 
           went.0,
           went.1,
           goes_wider (office_of one) (office_of two) (Acted one two) (Acted one two) (λ now deeds. AllOf IsLine deeds) (Served cs cs) (λ some acted. acted)
-              (λ now deeds all caller. through_others (Caller caller) IsLine (λ some is same. absurd (cc (is.1, same))) now (numbered_session at_of session_of cs caller) deeds all)
+              (λ now deeds all caller. passes_others Moves (Caller caller) IsLine (λ some is same. absurd (cc (is.1, same))) now (numbered_session at_of session_of cs caller) deeds all)
               went.2,
         )
 
@@ -121,7 +121,7 @@ module _ {K S M N L C W : Type 0} {g : Ghosts K} (office_of : W → Office K g) 
                     (subst (λ (at : ℕ). Through (Caller at) now (session_of place) deeds (session_of place')) (omega (arith, here.2)) kept.1))
                 | inr there ↦
                     subst (λ (session : Session). Through (Caller caller) now (numbered_session at_of session_of (front ++ place ∷ back) caller) deeds session) there.0
-                    (through_others (Caller caller) (Is (Caller (at_of place))) (λ some is same. there.1 (another (at_of place) caller (sym is ∙ same))) now
+                    (passes_others Moves (Caller caller) (Is (Caller (at_of place))) (λ some is same. there.1 (another (at_of place) caller (sym is ∙ same))) now
                     (numbered_session at_of session_of (front ++ place ∷ back) caller) deeds kept.0)
               ])
               went.3,

@@ -1,5 +1,5 @@
 -- What an office that stays up does, deed by deed: with its store, and with its sockets.
-use Rattle.std.specs.Prelude.{◌≡◌, ⊤, ℕ, List, [], ◌∷◌, ◌++◌, Option, Some, None}
+use Rattle.std.specs.Prelude.{◌≡◌, ◌≢◌, ◌⊎◌, ⊤, ℕ, List, [], ◌∷◌, ◌++◌, Option, Some, None}
 use Rattle.poll_book.specs.declared.keeper.Neighbours.{Ghosts}
 use Rattle.poll_book.specs.Tables.{Tables, Within}
 use Rattle.run_beat.specs.declared.sockets.Source.{Source}
@@ -108,3 +108,22 @@ abbrev pub GoesBy : {K : Type 0} {g : Ghosts K} → Office K g → Office K g �
 GoesBy {g = g} old new acted kept =
     g.is_clean (keeper_of new) → g.is_clean (keeper_of old)
     × ((now : History) → Follows old now → Deeds (Follows new) (MayLeave old) (MayLeave new) acted (kept now) now)
+
+module _ {S : Type 0} (moves : History → S → Deed → S → Type 0) where
+  -- what a deed of a line or caller makes of how that stands; the deeds of others change nothing of it
+  abbrev pub Next : Source → History → S → Deed → S → Type 0
+  Next source now before deed after = ((source_of deed ≡ source) × moves now before deed after) ⊎ ((source_of deed ≢ source) × (after ≡ before))
+
+  -- deeds, the newest first, make that of it
+  abbrev pub Passes : Source → History → S → List Deed → S → Type 0
+  Passes source now before [] after = after ≡ before
+  Passes source now before (deed ∷ deeds) after =
+      (between : S) × Passes source now before deeds between × Next source (stepped now (steps_of deeds)) between deed after
+
+  -- what is done with its socket alone makes that of it
+  abbrev pub PassesBy : Source → (List Act → Type 0) → S → S → Type 0
+  PassesBy source acted before after = (acts : List Act) × acted acts × ActsOf (Is source) acts × ((now : History) → Passes source now before (with_all acts) after)
+
+  -- its part of a run
+  abbrev pub PartOf : {K : Type 0} {g : Ghosts K} → Source → Office K g → Office K g → (List Act → Type 0) → S → S → Type 0
+  PartOf source old new acted before after = GoesBy old new acted (λ now deeds. AllOf (Is source) deeds × Passes source now before deeds after)

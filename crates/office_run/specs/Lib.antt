@@ -8,6 +8,8 @@ pub mod Links
 pub mod Noises
 pub mod Outlooks
 pub mod Passes
+pub mod Rounds
 pub mod Sessions
 pub mod Shares
 pub mod Windows
+pub mod Wires

@@ -1,17 +1,16 @@
 -- What a caller's place goes through, deed by deed.
-use Rattle.std.specs.Prelude.{◌≡◌, ◌≢◌, ◌⊎◌, ℕ, List, [], ◌∷◌, ◌++◌}
+use Rattle.std.specs.Prelude.{◌≡◌, ◌⊎◌, ℕ, List, [], ◌∷◌, ◌++◌}
 use Rattle.poll_book.specs.declared.keeper.Neighbours.{Ghosts}
 use Rattle.run_beat.specs.declared.sockets.Source.{Source}
 use Rattle.run_beat.specs.declared.sockets.Source.TheVariants.{Caller}
 use Rattle.run_beat.specs.Acts.{Act, Begins, Reads, Ends, Writes, Finishes, Closes}
 use Rattle.office_core.specs.declared.office.Office.{Office}
 use Rattle.office_core.specs.History.{History}
-use Rattle.office_core.specs.Proceeding.{stepped}
 use Rattle.office_http.specs.Answers.{unavailable_text}
 use Rattle.office_http.specs.Deciding.{Decides, Lacks, Means}
 use Rattle.office_http.specs.Meanings.{Meaning}
 use Rattle.office_net.specs.Replies.{reply_text}
-use Rattle.office_run.specs.Deeds.{ActsOf, AllOf, Became, Deed, Done, GoesBy, Is, Replies, Undone, Untried, With, source_of, steps_of, with_all}
+use Rattle.office_run.specs.Deeds.{Became, Deed, Done, GoesBy, PartOf, Passes, PassesBy, Replies, Undone, Untried, With}
 
 pub data Session : Type 0 where
   -- nobody is there
@@ -46,26 +45,17 @@ Moves now Closing (With (Reads source bytes)) session' = session' ≡ Closing
 Moves now Closing (With (Ends source)) session' = session' ≡ Closing
 Moves now _ _ _ = ⊥
 
--- the deeds of others change nothing of it
-abbrev pub Next : Source → History → Session → Deed → Session → Type 0
-Next source now session deed session' =
-    ((source_of deed ≡ source) × Moves now session deed session') ⊎ ((source_of deed ≢ source) × (session' ≡ session))
-
--- deeds, the newest first, make that of it
+-- deeds, the newest first, make that of the session at a place
 abbrev pub Through : Source → History → Session → List Deed → Session → Type 0
-Through source now session [] session' = session' ≡ session
-Through source now session (deed ∷ deeds) session' =
-    (between : Session) × Through source now session deeds between × Next source (stepped now (steps_of deeds)) between deed session'
+Through = Passes Moves
 
--- what is done with a caller's socket alone makes that of it
+-- what is done with its socket alone
 abbrev pub Acting : Source → (List Act → Type 0) → Session → Session → Type 0
-Acting source acted session session' =
-    (acts : List Act) × acted acts × ActsOf (Is source) acts × ((now : History) → Through source now session (with_all acts) session')
+Acting = PassesBy Moves
 
 -- a caller's part of a run
 abbrev pub Exchanges : {K : Type 0} {g : Ghosts K} → Source → Office K g → Office K g → (List Act → Type 0) → Session → Session → Type 0
-Exchanges source old new acted session session' =
-    GoesBy old new acted (λ now deeds. AllOf (Is source) deeds × Through source now session deeds session')
+Exchanges source old new acted session session' = PartOf Moves source old new acted session session'
 
 -- what is asked for came to something, and these bytes are the answer
 abbrev pub Comes : {K : Type 0} {g : Ghosts K} → Office K g → Office K g → (Meaning → Type 0) → List ℕ → Type 0

@@ -1,8 +1,12 @@
 //! A connection to a line that stands, and the round that is under way over it.
-ghost use Rattle.std.specs.Prelude.{◌≡◌, ◌≤◌, ◌<◌, drop, length};
-ghost use Rattle.office_core.specs.Proceeding.{GoesAlong};
-ghost use Rattle.office_run.specs.Doings.{Runs};
-ghost use Rattle.office_run.specs.Links.{asked_in, waiting_in};
+ghost use Rattle.std.specs.Prelude.{◌≡◌, ◌≤◌, ◌<◌, ◌++◌, [], MatchResult, OnOk, drop, length};
+ghost use Rattle.mb_mbap.specs.Stream.{spelled};
+ghost use Rattle.run_beat.specs.declared.sockets.Source.{Source as ASource};
+ghost use Rattle.office_core.specs.Proceeding.{GoesAlong, Nothing};
+ghost use Rattle.office_net.specs.Querying.{Makes, Misses};
+ghost use Rattle.office_run.specs.Links.{asked_in, waiting_in, wire_of};
+ghost use Rattle.office_run.specs.Rounds.{query_of};
+ghost use Rattle.office_run.specs.Wires.{Queries, Up, Wire, Wired};
 
 use crate::journal::Journal;
 use crate::loss::{Loss, Stop};
@@ -58,7 +62,9 @@ fn size_of(frame: &Frame) -> usize {
 
 impl Link {
     /// A connection over which nothing was asked yet.
-    pub fn new(alloc: Global, conn: Conn, now: Moment) -> Link {
+    pub fn new(alloc: Global, conn: Conn, now: Moment) -> Link
+        ensures { wire_of result ≡ Up conn [] }
+    {
         Link {
             alloc,
             conn,
@@ -83,7 +89,7 @@ impl Link {
     /// So many of them were written.
     pub fn wrote(&mut self, count: usize)
         requires { count ≤ length (waiting_in self.old) }
-        ensures { waiting_in self.new ≡ drop count (waiting_in self.old) }
+        ensures { wire_of self.new ≡ Up self.old.conn (drop count (waiting_in self.old)) }
     {
         self.out.wrote(count);
     }
@@ -97,7 +103,8 @@ impl Link {
         kind: Kind,
         now: Moment,
     ) -> Result<(), OfficeError>
-        ensures { GoesAlong Runs office.old office.new }
+        ensures along { GoesAlong Nothing office.old office.new }
+        ensures wire { wire_of self.new ≡ wire_of self.old }
     {
         self.round = Some(Round::begin(self.alloc, office, devices, slot, kind, now)?);
         Ok(())
@@ -106,6 +113,7 @@ impl Link {
     /// A query was made: it waits to be written, and to be answered.
     fn send(&mut self, asked: &Asked, now: Moment) -> Result<(), AllocError>
         requires { length (asked_in self.old) < 16 }
+        ensures { OnOk result (wire_of self.new ≡ Up self.old.conn (waiting_in self.old ++ spelled asked.now.query)) }
     {
         let bytes = asked.query.encode();
         self.out.push(bytes.as_bytes())?;
@@ -123,8 +131,9 @@ impl Link {
         office: &mut Office<K>,
         stations: &Stations,
     ) -> Result<Option<Asked>, OfficeError>
-        ensures along { GoesAlong Runs office.old office.new }
+        ensures made { MatchResult result (λ asked. Makes (Queries self.old.conn) office.old office.new (query_of asked)) (λ _. Misses (Queries self.old.conn) office.old office.new) }
         ensures window { asked_in self.new ≡ asked_in self.old }
+        ensures wire { wire_of self.new ≡ wire_of self.old }
     {
         match &mut self.round {
             Some(round) => round.next(office, self.conn, stations, &self.window),
@@ -139,7 +148,9 @@ impl Link {
         stations: &Stations,
         now: Moment,
     ) -> Result<bool, Stop>
-        ensures { GoesAlong Runs office.old office.new }
+        ensures { (source : ASource) → MatchResult result
+            (λ _. Wired source office.old office.new (λ acts. acts ≡ []) (wire_of self.old) (wire_of self.new))
+            (λ _. (wire : Wire) × Wired source office.old office.new (λ acts. acts ≡ []) (wire_of self.old) wire) }
     {
         if self.window.len() >= MOST_WAITING {
             return Ok(false);
@@ -158,7 +169,9 @@ impl Link {
         stations: &Stations,
         now: Moment,
     ) -> Result<(), Stop>
-        ensures { GoesAlong Runs office.old office.new }
+        ensures { (source : ASource) → MatchResult result
+            (λ _. Wired source office.old office.new (λ acts. acts ≡ []) (wire_of self.old) (wire_of self.new))
+            (λ _. (wire : Wire) × Wired source office.old office.new (λ acts. acts ≡ []) (wire_of self.old) wire) }
     {
         for _ in 0..MOST_WAITING {
             let has_asked = self.ask_one(office, stations, now)?;
@@ -177,7 +190,9 @@ impl Link {
         frame: &Frame,
         arrival: Option<Arrival>,
         now: Moment,
-    ) {
+    )
+        ensures { wire_of self.new ≡ wire_of self.old }
+    {
         self.heard = now;
         let query = self.window.answer(frame.transaction);
         if let Some(round) = &self.round {
@@ -194,7 +209,9 @@ impl Link {
     }
 
     /// Cuts bytes that came into frames, which are taken later.
-    pub fn feed(&mut self, piece: &[u8]) -> Result<(), AllocError> {
+    pub fn feed(&mut self, piece: &[u8]) -> Result<(), AllocError>
+        ensures { wire_of self.new ≡ wire_of self.old }
+    {
         let fed = self.stream.feed(piece)?;
         for frame in fed.frames {
             self.frames.push_back(frame)?;
@@ -217,7 +234,7 @@ impl Link {
         frame: &Frame,
         now: Moment,
     ) -> Taken
-        ensures { GoesAlong Runs office.old office.new }
+        ensures { (source : ASource) → Wired source office.old office.new (λ acts. acts ≡ []) (wire_of self.old) (wire_of self.new) }
     {
         match take_late(office, self.conn, frame) {
             Ok(arrival) => {
@@ -241,7 +258,7 @@ impl Link {
         journal: &mut Journal,
         now: Moment,
     ) -> Result<Option<Taken>, Loss>
-        ensures { GoesAlong Runs office.old office.new }
+        ensures { (source : ASource) → Wired source office.old office.new (λ acts. acts ≡ []) (wire_of self.old) (wire_of self.new) }
     {
         match (self.frames.pop_front(), self.fault) {
             (Some(frame), _) => {
@@ -264,7 +281,9 @@ impl Link {
 
     /// Gives up all queries of the device whose query is the oldest, and passes it over in the round that is under
     /// way; tells where it is.
-    pub fn give_up(&mut self) -> Option<usize> {
+    pub fn give_up(&mut self) -> Option<usize>
+        ensures { wire_of self.new ≡ wire_of self.old }
+    {
         let device = self.window.oldest()?.device;
         self.window.give_up(device);
         if let Some(round) = &mut self.round {
@@ -279,7 +298,8 @@ impl Link {
         office: &mut Office<K>,
         stations: &Stations,
     ) -> Result<(), OfficeError>
-        ensures { GoesAlong Runs office.old office.new }
+        ensures along { GoesAlong Nothing office.old office.new }
+        ensures wire { wire_of self.new ≡ wire_of self.old }
     {
         match &mut self.round {
             Some(round) => round.wake(office, stations),
@@ -307,7 +327,9 @@ impl Link {
     }
 
     /// Ends the round that is under way. What is still answered to it counts as late.
-    pub fn end_round(&mut self) {
+    pub fn end_round(&mut self)
+        ensures { wire_of self.new ≡ wire_of self.old }
+    {
         self.round = None;
     }
 }

@@ -1,7 +1,9 @@
 //! A round of a line: of each of its devices the orders that waited as it began, and then its reads.
-ghost use Rattle.std.specs.Prelude.{◌≡◌};
-ghost use Rattle.office_core.specs.Proceeding.{GoesAlong};
-ghost use Rattle.office_run.specs.Doings.{Runs};
+ghost use Rattle.std.specs.Prelude.{MatchResult};
+ghost use Rattle.office_core.specs.Proceeding.{GoesAlong, Nothing};
+ghost use Rattle.office_net.specs.Querying.{Makes, Misses};
+ghost use Rattle.office_run.specs.Rounds.{query_of};
+ghost use Rattle.office_run.specs.Wires.{Queries};
 
 use crate::share::Share;
 use crate::station::{Station, Stations};
@@ -57,7 +59,7 @@ impl Round {
         kind: Kind,
         now: Moment,
     ) -> Result<Round, OfficeError>
-        ensures { GoesAlong Runs office.old office.new }
+        ensures { GoesAlong Nothing office.old office.new }
     {
         let last = last_order(office)?;
         Ok(Round {
@@ -100,7 +102,7 @@ impl Round {
         at: usize,
         station: &Station,
     ) -> Result<Option<Frame>, OfficeError>
-        ensures { GoesAlong Runs office.old office.new }
+        ensures { MatchResult result (Makes (Queries conn) office.old office.new) (λ _. Misses (Queries conn) office.old office.new) }
     {
         let Some(share) = self.shares.get_mut(at) else {
             return Ok(None);
@@ -126,7 +128,7 @@ impl Round {
         station: &Station,
         window: &Window,
     ) -> Result<Option<Frame>, OfficeError>
-        ensures { GoesAlong Runs office.old office.new }
+        ensures { MatchResult result (Makes (Queries conn) office.old office.new) (λ _. Misses (Queries conn) office.old office.new) }
     {
         if station.is_silent && window.has(at) {
             return Ok(None);
@@ -155,7 +157,7 @@ impl Round {
         conn: Conn,
         stations: &[Station],
     ) -> Result<Option<Asked>, OfficeError>
-        ensures { GoesAlong Runs office.old office.new }
+        ensures { MatchResult result (λ asked. Makes (Queries conn) office.old office.new (query_of asked)) (λ _. Misses (Queries conn) office.old office.new) }
     {
         for (device, station) in stations.iter().enumerate() {
             if let Some(query) = self.order_of(office, conn, device, station)? {
@@ -177,7 +179,7 @@ impl Round {
         stations: &[Station],
         window: &Window,
     ) -> Result<Option<Asked>, OfficeError>
-        ensures { GoesAlong Runs office.old office.new }
+        ensures { MatchResult result (λ asked. Makes (Queries conn) office.old office.new (query_of asked)) (λ _. Misses (Queries conn) office.old office.new) }
     {
         for (device, station) in stations.iter().enumerate() {
             if let Some(query) = self.read_of(office, conn, device, station, window)? {
@@ -199,7 +201,7 @@ impl Round {
         stations: &[Station],
         window: &Window,
     ) -> Result<Option<Asked>, OfficeError>
-        ensures { GoesAlong Runs office.old office.new }
+        ensures { MatchResult result (λ asked. Makes (Queries conn) office.old office.new (query_of asked)) (λ _. Misses (Queries conn) office.old office.new) }
     {
         let order = self.next_order(office, conn, stations)?;
         if order.is_some() || self.kind == Kind::OrdersAlone {
@@ -216,7 +218,7 @@ impl Round {
         stations: &Stations,
         window: &Window,
     ) -> Result<Option<Asked>, OfficeError>
-        ensures { GoesAlong Runs office.old office.new }
+        ensures { MatchResult result (λ asked. Makes (Queries conn) office.old office.new (query_of asked)) (λ _. Misses (Queries conn) office.old office.new) }
     {
         let asked = self.next_asked(office, conn, stations.as_slice(), window)?;
         self.is_idle = asked.is_none();
@@ -263,7 +265,7 @@ impl Round {
         office: &mut Office<K>,
         stations: &Stations,
     ) -> Result<(), OfficeError>
-        ensures { GoesAlong Runs office.old office.new }
+        ensures { GoesAlong Nothing office.old office.new }
     {
         let last = last_order(office)?;
         for (place, station) in stations.as_slice().iter().enumerate() {

@@ -1,15 +1,16 @@
 use Rattle.std.proofs.Common.{◌∷◌, [], List, ℕ, take, ◌∙◌, sym, subst}
 use Rattle.run_beat.specs.Acts.{Act, Writes}
-use Rattle.office_run.specs.Sessions.{Acting, Closing, Session}
+use Rattle.office_run.specs.Sessions.{Acting, Closing, Moves, Session}
 use Rattle.office_run.proofs.Callers.{is_answering}
-use Rattle.office_run.proofs.Sessions.{acting_still, writes_last}
+use Rattle.office_run.proofs.Passing.{acting_still}
+use Rattle.office_run.proofs.Sessions.{writes_last}
 use Rattle.office_run.proofs.caller.Caller.write.Goals as goal
 
 pub returns-then-is_empty : goal.returns-then-is_empty
-returns-then-is_empty g c = (_, acting_still c.args.source (λ acts. g.S.Sockets.acts c.args.sockets.now acts c.args.sockets.now) _ (g.S.Sockets.rests c.args.sockets.now))
+returns-then-is_empty g c = (_, acting_still Moves c.args.source (λ acts. g.S.Sockets.acts c.args.sockets.now acts c.args.sockets.now) _ (g.S.Sockets.rests c.args.sockets.now))
 
 pub returns-in-Failed : goal.returns-in-Failed
-returns-in-Failed g c = (_, acting_still c.args.source (λ acts. g.S.Sockets.acts c.args.sockets.now acts c.write.new.self) _ c.in-Failed.ensures.acts)
+returns-in-Failed g c = (_, acting_still Moves c.args.source (λ acts. g.S.Sockets.acts c.args.sockets.now acts c.write.new.self) _ c.in-Failed.ensures.acts)
 
 pub returns-then-is_empty-2 : goal.returns-then-is_empty-2
 returns-then-is_empty-2 g c =

@@ -1,6 +1,8 @@
-use Rattle.office_core.specs.Proceeding.{GoesAlong}
-use Rattle.office_run.specs.Doings.{Runs}
+use Rattle.std.proofs.Common.{◌≡◌, []}
+use Rattle.run_beat.specs.declared.sockets.Source.{Source}
+use Rattle.office_run.specs.Links.{wire_of}
+use Rattle.office_run.specs.Wires.{Wired}
 use Rattle.office_run.proofs.link.Link.ask.Given as goal
 
 abbrev pub invariant-loop : goal.invariant-loop
-invariant-loop g l = GoesAlong Runs l.fn.office l.office
+invariant-loop g l = (source : Source) → Wired source l.fn.office l.office (λ acts. acts ≡ []) (wire_of l.fn.self) (wire_of l.self)

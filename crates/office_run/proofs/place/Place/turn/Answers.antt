@@ -3,8 +3,8 @@ use Rattle.run_beat.specs.declared.sockets.Source.TheVariants as source
 use Rattle.run_beat.specs.Acts.{Act, Begins, Closes}
 use Rattle.office_run.specs.declared.caller.Caller.{Caller}
 use Rattle.office_run.specs.Callers.{session_at, session_of, session_with}
-use Rattle.office_run.specs.Sessions.{Exchanges, Free, Hearing, Session}
-use Rattle.office_run.proofs.Sessions.{acting_once, exchange_acting, exchange_then}
+use Rattle.office_run.specs.Sessions.{Exchanges, Free, Hearing, Moves, Session}
+use Rattle.office_run.proofs.Passing.{acting_once, part_acting, part_then}
 use Rattle.office_run.proofs.place.Place.turn.Goals as goal
 
 pub returns-then-is_taken-clause-goes : goal.returns-then-is_taken-clause-goes
@@ -13,7 +13,7 @@ returns-then-is_taken-clause-goes g c =
     let acted = λ (acts : List Act). g.S.Sockets.acts c.args.sockets.now acts c.accept-is_taken.new.self in
     subst (λ (caller : Option Caller). Exchanges here c.args.office.now c.args.office.now acted (session_with caller) (session_of c.new.result)) (sym c.in_default.is)
     (subst (λ (session : Session). Exchanges here c.args.office.now c.args.office.now acted Free session) (sym c.new.ensures)
-    (exchange_acting here c.args.office.now acted Free (Hearing []) (acting_once here acted (Begins here) Free (Hearing []) c.if-is_taken.ensures.acts refl (λ now. refl))))
+    (part_acting Moves here c.args.office.now acted Free (Hearing []) (acting_once Moves here acted (Begins here) Free (Hearing []) c.if-is_taken.ensures.acts refl (λ now. refl))))
 
 pub returns-in-Err-clause-goes : goal.returns-in-Err-clause-goes
 returns-in-Err-clause-goes g c =
@@ -24,6 +24,6 @@ returns-in-Err-clause-goes g c =
     let before = c.in-Err.ensures in
     subst (λ (caller : Option Caller). Exchanges here c.args.office.now c.go_on.new.office acted (session_with caller) (session_at c.clear.new.self)) (sym c.in-Some.is)
     (subst (λ (session : Session). Exchanges here c.args.office.now c.go_on.new.office acted (session_of c.in-Some.caller) session) (sym c.clear.ensures.free)
-    (exchange_then here c.args.office.now c.go_on.new.office c.go_on.new.office went closed acted (session_of c.in-Some.caller) before.0 Free
+    (part_then Moves here c.args.office.now c.go_on.new.office c.go_on.new.office went closed acted (session_of c.in-Some.caller) before.0 Free
     (g.S.Sockets.joins c.args.sockets.now c.go_on.new.sockets c.clear.new.sockets) before.1
-    (exchange_acting here c.go_on.new.office closed before.0 Free (acting_once here closed (Closes here) before.0 Free c.clear.ensures.acts refl (λ now. refl)))))
+    (part_acting Moves here c.go_on.new.office closed before.0 Free (acting_once Moves here closed (Closes here) before.0 Free c.clear.ensures.acts refl (λ now. refl)))))

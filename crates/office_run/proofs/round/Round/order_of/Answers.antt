@@ -1,8 +1,11 @@
-use Rattle.office_run.proofs.Widening.{sent_one}
+use Rattle.office_net.proofs.Querying.{told_err}
+use Rattle.office_run.proofs.Wires.{sends_made, sends_missed}
 use Rattle.office_run.proofs.round.Round.order_of.Goals as goal
 
 pub returns-in_err-query : goal.returns-in_err-query
-returns-in_err-query g c = sent_one c.args.office.now c.send_among.new.office c.in-Some-order.last c.args.conn c.as_str.result.now c.send_among.ensures
+returns-in_err-query g c =
+    told_err c.from_residual.result _ _ c.from_residual.ensures.0
+    (sends_missed c.args.office.now c.send_among.new.office c.args.conn c.as_str.result.now c.in-Some-order.last c.in_err-query.ensures)
 
 pub returns : goal.returns
-returns g c = sent_one c.args.office.now c.send_among.new.office c.in-Some-order.last c.args.conn c.as_str.result.now c.send_among.ensures
+returns g c = sends_made c.args.office.now c.send_among.new.office c.args.conn c.as_str.result.now c.in-Some-order.last _ c.in_ok-query.ensures

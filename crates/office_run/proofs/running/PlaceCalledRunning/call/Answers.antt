@@ -1,8 +1,8 @@
 use Rattle.std.proofs.Common.{◌≡◌, [], ℕ, ◌∙◌, ap, refl, sym, subst}
 use Rattle.run_beat.specs.declared.sockets.Source.TheVariants as source
 use Rattle.office_run.specs.Callers.{session_at}
-use Rattle.office_run.specs.Sessions.{Acting, Exchanges, Session}
-use Rattle.office_run.proofs.Sessions.{exchange_acting, exchange_asked, exchange_then, then_office}
+use Rattle.office_run.specs.Sessions.{Acting, Exchanges, Moves, Session}
+use Rattle.office_run.proofs.Passing.{part_acting, part_asked, part_then, then_office}
 use Rattle.office_run.proofs.running.PlaceCalledRunning.call.Goals as goal
 
 pub returns : goal.returns
@@ -27,10 +27,10 @@ returns g c =
     subst (λ some. Exchanges here some.now c.turn-is_more.new.office (λ acts. g.S.Sockets.acts roomy acts turned) between after) same_office
     (subst (λ (place : ℕ). Exchanges (source.Caller place) c.make_room.new.self.office.now c.turn-is_more.new.office (λ acts. g.S.Sockets.acts roomy acts turned) between after) same_at
     c.turn-is_more.ensures.goes) in
-    let went = exchange_then here office office c.turn-is_more.new.office (λ acts. g.S.Sockets.acts old acts roomy) (λ acts. g.S.Sockets.acts roomy acts turned) (λ acts. g.S.Sockets.acts old acts turned)
-    before between after (g.S.Sockets.joins old roomy turned) (exchange_acting here office (λ acts. g.S.Sockets.acts old acts roomy) before between room) turn in
-    let noted = then_office here office c.turn-is_more.new.office c.note_place.new.self.office.now (λ acts. g.S.Sockets.acts old acts turned) before after after went
-    (exchange_asked here c.turn-is_more.new.office c.note_place.new.self.office.now (λ acts. acts ≡ []) after c.note_place.ensures.along.1 refl) in (
+    let went = part_then Moves here office office c.turn-is_more.new.office (λ acts. g.S.Sockets.acts old acts roomy) (λ acts. g.S.Sockets.acts roomy acts turned) (λ acts. g.S.Sockets.acts old acts turned)
+    before between after (g.S.Sockets.joins old roomy turned) (part_acting Moves here office (λ acts. g.S.Sockets.acts old acts roomy) before between room) turn in
+    let noted = then_office Moves here office c.turn-is_more.new.office c.note_place.new.self.office.now (λ acts. g.S.Sockets.acts old acts turned) before after after went
+    (part_asked Moves here c.turn-is_more.new.office c.note_place.new.self.office.now (λ acts. acts ≡ []) after c.note_place.ensures.along.1 refl) in (
       c.note_place.ensures.along.0 ∙ ap (λ some. some.ghost_name) same_office,
       ap (λ some. some.ghost_name) c.note_place.ensures.sockets ∙ c.make_room.ensures.name ∙ ap (λ some. some.ghost_name) c.admit.ensures.same.1,
       c.note_place.ensures.place.0 ∙ c.turn-is_more.ensures.at ∙ same_at,
