@@ -75,9 +75,9 @@ module _ {K : Type 0} {g : Ghosts K} where
                 missed.0,
                 elim missed.1 as (λ _. Within (MayLeave three) (MayLeave one)
                     ⊎ ((event : Happening) × kind now event × Within (MayLeave three) (LeftAfter (MayLeave one) (tables now) (tables (event ∷ now)) true))) [
-                  inl none ↦ inl (λ left may_be. stays.1 left (none left may_be))
-                  | inr some ↦ inr (some.0, some.1, λ left may_be. left_more (MayLeave two) (MayLeave one) (tables now) (tables (some.0 ∷ now)) true stays.1 left (some.2 left may_be))
-                ],
+                      | inl none ↦ inl (λ left may_be. stays.1 left (none left may_be))
+                      | inr some ↦ inr (some.0, some.1, λ left may_be. left_more (MayLeave two) (MayLeave one) (tables now) (tables (some.0 ∷ now)) true stays.1 left (some.2 left may_be))
+                    ],
               ),
         )
 
@@ -99,9 +99,9 @@ module _ {K : Type 0} {g : Ghosts K} where
                 missed.0,
                 elim missed.1 as (λ _. Within (MayLeave new) (MayLeave old)
                     ⊎ ((event : Happening) × wider now event × Within (MayLeave new) (LeftAfter (MayLeave old) (tables now) (tables (event ∷ now)) true))) [
-                  inl none ↦ inl none
-                  | inr some ↦ inr (some.0, is now some.0 some.1, some.2)
-                ],
+                      | inl none ↦ inl none
+                      | inr some ↦ inr (some.0, is now some.0 some.1, some.2)
+                    ],
               ),
         )
 
@@ -186,16 +186,16 @@ module _ {K : Type 0} {g : Ghosts K} where
     before clean,
     λ now follows. elim (turned clean) as (λ _. Follows new now × (Within (MayLeave new) (MayLeave old)
         ⊎ ((event : Happening) × Turn conn slot job now event × Within (MayLeave new) (LeftAfter (MayLeave old) (tables now) (tables (event ∷ now)) true)))) [
-      inl unasked ↦ (unasked.0.follows now follows, inl unasked.0.leaves)
-      | inr asked ↦ (
-        asked.1.follows now follows,
-        inr (
-          turn_of conn slot now job,
-          turn_is conn slot now job (asked.0 now follows),
-          λ left may_be. left_refused (MayLeave old) (tables now) (tables (turn_of conn slot now job ∷ now)) (is_store (Refused e)) left (asked.1.leaves now follows left may_be),
-        ),
-      )
-    ],
+          | inl unasked ↦ (unasked.0.follows now follows, inl unasked.0.leaves)
+          | inr asked ↦ (
+            asked.1.follows now follows,
+            inr (
+              turn_of conn slot now job,
+              turn_is conn slot now job (asked.0 now follows),
+              λ left may_be. left_refused (MayLeave old) (tables now) (tables (turn_of conn slot now job ∷ now)) (is_store (Refused e)) left (asked.1.leaves now follows left may_be),
+            ),
+          )
+        ],
   )
 
 -- what holds where a call failed
@@ -221,7 +221,7 @@ module _ {K : Type 0} {g : Ghosts K} (kind : History → Happening → Type 0) (
         λ now follows.
             let missed = went.1 now follows in
             elim missed.1 as (λ _. Course kind (Follows new) (MayLeave old) (MayLeave new) now) [
-              inl none ↦ record { steps = []; are = tt; follows = missed.0; leaves = none }
+              | inl none ↦ record { steps = []; are = tt; follows = missed.0; leaves = none }
               | inr some ↦ record { steps = Missed some.0 ∷ []; are = (some.1, tt); follows = missed.0; leaves = some.2 }
             ],
       )
