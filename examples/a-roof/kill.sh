@@ -3,8 +3,8 @@
 #
 #     bash examples/a-roof/kill.sh [PATH-OF-OFFICE]
 #
-# and looks each time, when it is up again, whether all is there that it had answered: every order that it accepted, done
-# where it was done, and every reading that it told, as it told it. Without a path it proves and builds the program
+# and looks each time, when it is up again, whether all is there that it had answered: every order that it accepted,
+# done where it was done, and every reading that it told, as it told it. Without a path it proves and builds the program
 # first. It takes three minutes, works in a new folder of its own, which it leaves, and needs curl, Python 3 and the
 # ports 15020, 15021 and 18080. Where something is missing, or it can't go on, it says so and ends with status 1.
 set -Eeuo pipefail
@@ -33,7 +33,8 @@ look_at_orders() {
     local key now
     for ((key = 1; key <= orders; key++)); do
         now=$(get "callers/ann/orders/k$key") || stop "order k$key, which was accepted, isn't there in round $round"
-        [[ $now != *'"waiting"'* || ${told[key]} != *'"done"'* ]] || stop "order k$key was done and waits in round $round"
+        [[ $now != *'"waiting"'* || ${told[key]} != *'"done"'* ]] ||
+            stop "order k$key was done and waits in round $round"
         told[key]=$now
     done
 }
