@@ -1,11 +1,8 @@
 -- What each step keeps, turns keep.
-use Rattle.std.proofs.Common.{◌≡◌, ℕ, zero, suc, Bool, List, [], ◌∷◌, ◌++◌, Result, Ok, refl, sym, subst}
+use Rattle.std.proofs.Common.{ℕ, zero, suc, Bool, List, [], ◌∷◌, ◌++◌, Result, Ok, sym, subst}
+use Rattle.std.proofs.Math.Seq.{append_snoc}
 use Rattle.run_beat.specs.declared.sockets.SocketFault.{SocketFault}
 use Rattle.run_beat.specs.Turns.{EachSteps, Turn, Turns}
-
-pub push_front : {M : Type 0} (front : List M) (member : M) (back : List M) → front ++ member ∷ back ≡ (front ++ member ∷ []) ++ back
-push_front [] member back = refl
-push_front (first ∷ front) member back = subst (λ (members : List _). first ∷ (front ++ member ∷ back) ≡ first ∷ members) (push_front front member back) refl
 
 module _ {L C W : Type 0} (of_line : L → W → Bool → L → W → Type 0) (of_caller : C → W → Bool → C → W → Type 0)
     (waits : W → Bool → Result (Unit {0}) SocketFault → W → Type 0)
@@ -27,8 +24,8 @@ module _ {L C W : Type 0} (of_line : L → W → Bool → L → W → Type 0) (o
   by_lines front (line ∷ ls) cs one (more ∷ mores) (line' ∷ ls') two stepped =
       chains (front ++ line ∷ ls) (front ++ line' ∷ ls) (front ++ line' ∷ ls') cs cs cs one stepped.0 two
       (by_line front line ls cs one more line' stepped.0 stepped.1)
-      (subst (λ (members : List L). Goes members cs stepped.0 (front ++ line' ∷ ls') cs two) (sym (push_front front line' ls))
-      (subst (λ (members : List L). Goes ((front ++ line' ∷ []) ++ ls) cs stepped.0 members cs two) (sym (push_front front line' ls'))
+      (subst (λ (members : List L). Goes members cs stepped.0 (front ++ line' ∷ ls') cs two) (append_snoc front line' ls)
+      (subst (λ (members : List L). Goes ((front ++ line' ∷ []) ++ ls) cs stepped.0 members cs two) (append_snoc front line' ls')
       (by_lines (front ++ line' ∷ []) ls cs stepped.0 mores ls' two stepped.2)))
 
   by_callers : (ls : List L) (front cs : List C) (one : W) (mores : List Bool) (cs' : List C) (two : W)
@@ -41,8 +38,8 @@ module _ {L C W : Type 0} (of_line : L → W → Bool → L → W → Type 0) (o
   by_callers ls front (caller ∷ cs) one (more ∷ mores) (caller' ∷ cs') two stepped =
       chains ls ls ls (front ++ caller ∷ cs) (front ++ caller' ∷ cs) (front ++ caller' ∷ cs') one stepped.0 two
       (by_caller ls front caller cs one more caller' stepped.0 stepped.1)
-      (subst (λ (members : List C). Goes ls members stepped.0 ls (front ++ caller' ∷ cs') two) (sym (push_front front caller' cs))
-      (subst (λ (members : List C). Goes ls ((front ++ caller' ∷ []) ++ cs) stepped.0 ls members two) (sym (push_front front caller' cs'))
+      (subst (λ (members : List C). Goes ls members stepped.0 ls (front ++ caller' ∷ cs') two) (append_snoc front caller' cs)
+      (subst (λ (members : List C). Goes ls ((front ++ caller' ∷ []) ++ cs) stepped.0 ls members two) (append_snoc front caller' cs')
       (by_callers ls (front ++ caller' ∷ []) cs stepped.0 mores cs' two stepped.2)))
 
   pub by_turn : (ls : List L) (cs : List C) (one : W) (result : Result (Unit {0}) SocketFault) (ls' : List L) (cs' : List C) (two : W)

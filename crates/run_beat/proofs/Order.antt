@@ -1,8 +1,8 @@
 -- Slots that calls begin, one behind another.
-use Rattle.std.proofs.Common.{◌≡◌, ◌≤◌, ℕ, List, [], ◌∷◌, Option, None, Some, arith}
+use Rattle.std.proofs.Common.{◌≤◌, ℕ, List, [], ◌∷◌, Option, None, Some, arith}
 use Rattle.std.specs.Prelude.{⊤}
 use Rattle.run_beat.specs.declared.beat.Beat.{Beat}
-use Rattle.run_beat.specs.Beats.{Begins, Calls, NeverFall, begun_by}
+use Rattle.run_beat.specs.Beats.{Calls, NeverFall, begun_by}
 
 -- the last one that was begun is at most this one
 abbrev pub IsUpTo : ℕ → List ℕ → Type 0

@@ -1,6 +1,6 @@
 -- Whether the clock on the wall can be followed: what both clocks showed again and again, the newest first, in
 -- milliseconds, and slots of so many seconds.
-use Rattle.std.specs.Prelude.{◌≡◌, ℕ, ◌+◌, ◌-◌, ◌*◌, Bool, true, false, nat_lt, if◌then◌else◌, List, [], ◌∷◌, Option, Some, None}
+use Rattle.std.specs.Prelude.{◌≡◌, ℕ, ◌+◌, ◌-◌, ◌*◌, Bool, false, nat_lt, if◌then◌else◌, List, [], ◌∷◌, Option, Some, None}
 use Rattle.run_beat.specs.Times.{later}
 use Rattle.run_beat.specs.declared.watch.Sight.{Sight}
 use Rattle.run_beat.specs.declared.watch.Watch.{Watch}
