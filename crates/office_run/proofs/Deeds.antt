@@ -1,6 +1,8 @@
 -- Deeds one behind the other, whoever does them.
 use Rattle.std.proofs.Common.{◌≡◌, ℕ, List, [], ◌∷◌, ◌++◌, refl, sym, ◌∙◌, ap, subst}
-use Rattle.std.proofs.lemmas.List.{append_assoc, append-nil}
+use Rattle.std.specs.Prelude.{map}
+use Rattle.std.proofs.lemmas.Grind.{flat_map-append}
+use Rattle.std.proofs.lemmas.List.{append-nil}
 use Rattle.poll_book.specs.declared.keeper.Neighbours.{Ghosts}
 use Rattle.poll_book.specs.Tables.{Tables, Within}
 use Rattle.run_beat.specs.declared.sockets.Source.{Source}
@@ -18,14 +20,10 @@ use Rattle.office_run.specs.Deeds.{ActsOf, AllOf, Deed, Deeds, GoesBy, IsLine, O
 -- ---- lists of deeds
 
 pub steps_then : (second first : List Deed) → steps_of (second ++ first) ≡ steps_of second ++ steps_of first
-steps_then [] first = refl
-steps_then (deed ∷ second) first =
-    ap (λ (steps : List Step). steps_in deed ++ steps) (steps_then second first) ∙ sym (append_assoc (steps_in deed) (steps_of second) (steps_of first))
+steps_then = flat_map-append steps_in
 
 acts_then : (second first : List Deed) → acts_of (second ++ first) ≡ acts_of second ++ acts_of first
-acts_then [] first = refl
-acts_then (deed ∷ second) first =
-    ap (λ (acts : List Act). acts_in deed ++ acts) (acts_then second first) ∙ sym (append_assoc (acts_in deed) (acts_of second) (acts_of first))
+acts_then = flat_map-append acts_in
 
 pub stepped_by : (now : History) (second first : List Deed) → stepped now (steps_of (second ++ first)) ≡ stepped (stepped now (steps_of first)) (steps_of second)
 stepped_by now second first = ap (λ (steps : List Step). stepped now steps) (steps_then second first) ∙ stepped_then now (steps_of second) (steps_of first)
@@ -121,8 +119,7 @@ goes_asked old new acted kept along acts keeps clean =
 -- ---- a line's
 
 abbrev pub over_all : Source → List Step → List Deed
-over_all source [] = []
-over_all source (step ∷ steps) = Over source step ∷ over_all source steps
+over_all source = map (Over source)
 
 pub with_no_steps : (acts : List Act) → steps_of (with_all acts) ≡ []
 with_no_steps [] = refl

@@ -1,6 +1,7 @@
 -- What stands for a line or caller, deed by deed.
-use Rattle.std.proofs.Common.{◌≡◌, ◌≢◌, inl, inr, List, [], ◌∷◌, ◌++◌, Result, Ok, Err, refl, sym, ap, subst}
+use Rattle.std.proofs.Common.{◌≡◌, ◌≢◌, inl, inr, List, [], ◌∷◌, ◌++◌, Result, Ok, Err, refl, sym, subst}
 use Rattle.std.specs.Prelude.{Bool, MatchResult}
+use Rattle.std.proofs.lemmas.List.{map-append}
 use Rattle.poll_book.specs.declared.keeper.Neighbours.{Ghosts}
 use Rattle.poll_book.specs.Tables.{Within}
 use Rattle.run_beat.specs.declared.sockets.Source.{Source}
@@ -12,10 +13,6 @@ use Rattle.office_core.specs.Proceeding.{AreOf, GoesAlong, LeftBySteps, Nothing,
 use Rattle.office_run.specs.Doings.{Runs}
 use Rattle.office_run.specs.Deeds.{AllOf, Deed, Is, Next, PartOf, Passes, PassesBy, With, source_of, source_of_act, steps_of, with_all}
 use Rattle.office_run.proofs.Deeds.{acts_of_then, all_then, goes_asked, goes_still, goes_then, stepped_by, with_its_acts, with_no_steps, with_their_sources}
-
-with_all_then : (second first : List Act) → with_all (second ++ first) ≡ with_all second ++ with_all first
-with_all_then [] first = refl
-with_all_then (act ∷ second) first = ap (λ (deeds : List Deed). With act ∷ deeds) (with_all_then second first)
 
 module _ {S : Type 0} (moves : History → S → Deed → S → Type 0) where
   pub passes_then : (source : Source) (now : History) (second first : List Deed) (before between after : S)
@@ -51,7 +48,7 @@ module _ {S : Type 0} (moves : History → S → Deed → S → Type 0) where
     acts first.0 second.0 first.1 second.1,
     acts_of_then (Is source) second.0 first.0 second.2 first.2,
     λ now.
-        subst (λ (deeds : List Deed). Passes moves source now before deeds after) (sym (with_all_then second.0 first.0))
+        subst (λ (deeds : List Deed). Passes moves source now before deeds after) (sym (map-append With second.0 first.0))
         (passes_then source now (with_all second.0) (with_all first.0) before between after
         (second.3 (stepped now (steps_of (with_all first.0)))) (first.3 now)),
   )

@@ -1,5 +1,5 @@
 -- What an office that stays up does, deed by deed: with its store, and with its sockets.
-use Rattle.std.specs.Prelude.{◌≡◌, ◌≢◌, ◌⊎◌, ⊤, ℕ, List, [], ◌∷◌, ◌++◌, Option, Some, None}
+use Rattle.std.specs.Prelude.{◌≡◌, ◌≢◌, ◌⊎◌, ⊤, ℕ, List, [], ◌∷◌, Option, Some, None, map, flat_map}
 use Rattle.poll_book.specs.declared.keeper.Neighbours.{Ghosts}
 use Rattle.poll_book.specs.Tables.{Tables, Within}
 use Rattle.run_beat.specs.declared.sockets.Source.{Source}
@@ -58,8 +58,7 @@ steps_in (Replies source (Undone meaning) text) = steps_made Missed (event_of me
 steps_in (Replies source Untried text) = []
 
 abbrev pub steps_of : List Deed → List Step
-steps_of [] = []
-steps_of (deed ∷ deeds) = steps_in deed ++ steps_of deeds
+steps_of = flat_map steps_in
 
 -- what is done with sockets
 abbrev pub acts_in : Deed → List Act
@@ -67,8 +66,7 @@ acts_in (With act) = act ∷ []
 acts_in _ = []
 
 abbrev pub acts_of : List Deed → List Act
-acts_of [] = []
-acts_of (deed ∷ deeds) = acts_in deed ++ acts_of deeds
+acts_of = flat_map acts_in
 
 abbrev pub Is : Source → Source → Type 0
 Is source some = some ≡ source
@@ -86,8 +84,7 @@ ActsOf of [] = ⊤
 ActsOf of (act ∷ acts) = of (source_of_act act) × ActsOf of acts
 
 abbrev pub with_all : List Act → List Deed
-with_all [] = []
-with_all (act ∷ acts) = With act ∷ with_all acts
+with_all = map With
 
 -- what was done with sockets is this, and it was lines' alone
 abbrev pub OfLines : (List Act → Type 0) → Type 0
