@@ -51,7 +51,7 @@ histories_on_literals = tt
 abbrev roof : Site
 roof =
     record {
-      lines = record { name = codes "roof"; address = codes "127.0.0.1:502" } ∷ [];
+      lines = record { name = codes "roof"; address = codes "127.0.0.1:502"; outstanding = 16 } ∷ [];
       devices = record { name = codes "m1"; line = 0; unit = 17; gap = 8; models = [] } ∷ [];
     }
 
@@ -407,7 +407,7 @@ far_gauge = codes "name,device,table,address,type,length,scale,role,roll\nb,m2,h
 abbrev wider_roof : Site
 wider_roof =
     record {
-      lines = record { name = codes "roof"; address = codes "127.0.0.1:502" } ∷ [];
+      lines = record { name = codes "roof"; address = codes "127.0.0.1:502"; outstanding = 16 } ∷ [];
       devices = record { name = codes "m1"; line = 0; unit = 17; gap = 8; models = [] } ∷ record { name = codes "m2"; line = 0; unit = 18; gap = 8; models = [] } ∷ [];
     }
 

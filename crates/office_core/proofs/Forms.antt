@@ -204,7 +204,7 @@ point_so r point ends e = by (table_in r) (address_in r) (type_in r) (scale_in r
     by (Some table) (Some address) (Some kind) (Some scale) (Some role) None w t e g end f = absurd (none-some point f)
 
 -- the site in force is sound
-site_sound : (before : History) → Legal before → IsSound (site_of before)
+pub site_sound : (before : History) → Legal before → IsSound (site_of before)
 unfolding all_differ
 site_sound [] legal = refl
 site_sound (Restart site ∷ before) legal = legal.0.0

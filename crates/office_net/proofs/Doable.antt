@@ -1,5 +1,5 @@
 -- The jobs of a line can be done.
-use Rattle.std.proofs.Common.{◌≡◌, ◌+◌, ℕ, Bool, true, false, cond, not, leb, List, [], ◌∷◌, length, get_or, Option, Some, Result, Ok, Err, refl, sym, ap, ◌∙◌, subst}
+use Rattle.std.proofs.Common.{◌≡◌, ◌+◌, ℕ, Bool, true, false, cond, not, List, [], ◌∷◌, get_or, Option, Some, Result, Ok, Err, refl, sym, ap, ◌∙◌, subst}
 use Rattle.std.specs.Prelude.{All, MatchResult, find, map, option_map, ◌||◌, ◌==◌}
 use Rattle.std.specs.List.{list_any}
 use Rattle.std.specs.Str.{bytes_eq}
@@ -8,7 +8,8 @@ use Rattle.std.proofs.lemmas.List.Elements.{All-nil, All-cons, All-head, All-tai
 use Rattle.std.proofs.lemmas.Slice.Eq.{bytes_eq-Decides}
 use Rattle.point_list.specs.declared.site.Device.{Device}
 use Rattle.point_list.specs.declared.site.Site.{Site}
-use Rattle.point_list.specs.Sites.{IsSound, all_differ, same_device_name, same_line_name}
+use Rattle.point_list.specs.Sites.{IsSound, all_differ, same_device_name}
+use Rattle.point_list.proofs.Sound.{sound_keeps}
 use Rattle.read_planner.specs.declared.Read.{Read as AskedRead}
 use Rattle.read_planner.specs.Place.{CanBeRead}
 use Rattle.poll_book.specs.declared.rows.PointRow.{PointRow}
@@ -68,11 +69,7 @@ all_on before conn line sound opened =
     (filter_passes (λ (x : Device). x.line == line) (site_of before).devices k d lt)
   where
     differ : all_differ same_device_name (site_of before).devices ≡ true
-    differ =
-        let a = and_parts (leb (length (site_of before).lines) 64) _ sound in
-        let b = and_parts (leb (length (site_of before).devices) 256) _ a.1 in
-        let c = and_parts (all_differ same_line_name (site_of before).lines) _ b.1 in
-        (and_parts (all_differ same_device_name (site_of before).devices) _ c.1).0
+    differ = (sound_keeps (site_of before) sound).names
 
     on : (x : Device) → find (λ (y : Device). bytes_eq y.name x.name) (site_of before).devices ≡ Some x → (x.line == line) ≡ true → IsOnLine before conn x.name
     on x named is = ap (option_map (λ (d : Device). d.line)) named ∙ ap Some (eqb-true x.line line is) ∙ sym opened

@@ -28,7 +28,7 @@ device_of line = device_of_words (words_of line)
 
 -- a script's line is reached nowhere
 abbrev pub line_named : List ℕ → Line
-line_named name = record { name = name; address = [] }
+line_named name = record { name = name; address = []; outstanding = 16 }
 
 -- a line that a device names is one of the site's, or a new one behind them
 abbrev pub lines_with : List Line → List ℕ → Option ℕ → List Line

@@ -11,6 +11,7 @@ pub mod RecordsRead
 pub mod DeviceNames
 pub mod Models
 pub mod Rows
+pub mod Sound
 pub mod Placing
 pub mod Header
 pub mod OneMeaning

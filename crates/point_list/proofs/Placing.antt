@@ -1,5 +1,5 @@
 -- Points by model: the models of a sound site have room, and so do the points that they place.
-use Rattle.std.proofs.Common.{◌≡◌, ◌≤◌, ◌+◌, ℕ, Bool, true, false, cond, leb, ◌&&◌, List, [], ◌∷◌, length, Option, Some, None, refl, sym, ap, ◌∙◌, subst, arith}
+use Rattle.std.proofs.Common.{◌≡◌, ◌≤◌, ◌+◌, ℕ, Bool, true, false, cond, leb, List, [], ◌∷◌, Option, Some, None, refl, sym, ap, ◌∙◌, subst, arith}
 use Rattle.std.specs.Prelude.{All, IfSome, is_some, ◌==◌}
 use Rattle.std.specs.List.{find, list_all}
 use Rattle.std.proofs.lemmas.Bool.{and_parts, leb-true}
@@ -9,7 +9,8 @@ use Rattle.sunspec.specs.PointType.{row}
 use Rattle.sunspec.specs.declared.chain.Model.{Model}
 use Rattle.point_list.specs.Columns.{◌then◌}
 use Rattle.point_list.specs.Resolving.{address_by, address_in_model, first_misplaced, misplaced, misplaced_by, misplaced_in, model_at, point_placed}
-use Rattle.point_list.specs.Sites.{IsSound, all_differ, device_named, has_room, have_lines, have_room, same_device_name, same_line_name, same_place}
+use Rattle.point_list.specs.Sites.{IsSound, device_named, has_room}
+use Rattle.point_list.proofs.Sound.{sound_keeps}
 use Rattle.point_list.specs.declared.error.ListError.{ListError}
 use Rattle.point_list.specs.declared.point.ListRow.{ListRow}
 use Rattle.point_list.specs.declared.site.Device.{Device}
@@ -27,28 +28,14 @@ all_found p q (y ∷ ys) x all is = by (p y) is (all_found p q ys x parts.1)
     by true e later = subst (λ z. q z ≡ true) (same_Some y x e) parts.0
     by false e later = later e
 
--- the models of a sound site's devices end before the last address
-sound_room : (site : Site) → IsSound site → have_room site.devices ≡ true
-sound_room site sound =
-    let room : Bool = have_room site.devices in
-    let places : Bool = all_differ same_place site.devices in
-    let lines : Bool = have_lines (length site.lines) site.devices in
-    let names : Bool = all_differ same_device_name site.devices in
-    let a = and_parts (leb (length site.lines) 64) (leb (length site.devices) 256 && (all_differ same_line_name site.lines && (names && (lines && (places && room))))) sound in
-    let b = and_parts (leb (length site.devices) 256) (all_differ same_line_name site.lines && (names && (lines && (places && room)))) a.1 in
-    let c = and_parts (all_differ same_line_name site.lines) (names && (lines && (places && room))) b.1 in
-    let d = and_parts names (lines && (places && room)) c.1 in
-    let e = and_parts lines (places && room) d.1 in
-    (and_parts places room e.1).1
-
--- and so does the model that a point is placed by
+-- the model that a point is placed by ends before the last address
 pub has_room_at : (site : Site) (device : List ℕ) (id : ℕ) (m : Model) → IsSound site → model_at site device id ≡ Some m → m.address + 2 + m.length ≤ 65535
 has_room_at site device id m sound is = by (device_named site device) refl is
   where
     by : (o : Option Device) → device_named site device ≡ o → (o then (λ (d : Device). find (λ (x : Model). x.id == id) d.models)) ≡ Some m → m.address + 2 + m.length ≤ 65535
     by None named e = absurd (none-some m e)
     by (Some d) named e =
-        let room = all_found _ (λ (x : Device). list_all has_room x.models) site.devices d (sound_room site sound) named in
+        let room = all_found _ (λ (x : Device). list_all has_room x.models) site.devices d (sound_keeps site sound).room named in
         leb-true (m.address + 2 + m.length) 65535 (all_found (λ (x : Model). x.id == id) has_room d.models m room e)
 
 -- the same of a model that may be found

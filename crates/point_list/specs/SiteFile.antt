@@ -1,6 +1,6 @@
 -- What a document of TOML says of a site.
 use Rattle.std.specs.Prelude.{◌≡◌, ℕ, List, Option, Some, None, Result, Ok, Err, if◌then◌else◌, nat_le, length, codes, ⊤}
-use Rattle.toml.specs.Data.{Data, Items, Members, as_array, as_table, item, no_items}
+use Rattle.toml.specs.Data.{Data, Items, Members, as_array, as_table, get_member, item, no_items}
 use Rattle.toml_members.specs.Members.{◌>>=◌, each, entries_at, number_at, number_in, optional_at, optional_entries_at, text_at}
 use Rattle.sunspec.specs.declared.chain.Model.{Model}
 use Rattle.point_list.specs.declared.site.Site.{Site}
@@ -47,13 +47,24 @@ name_at key t = do
   name ← text_at key t
   if is_name name then Some name else None
 
--- a line: a name and an address
+-- how many queries of a line may wait: 1 to 16, and 16 where it isn't said
+abbrev pub outstanding_in : Option Data → Option ℕ
+outstanding_in None = Some 16
+outstanding_in (Some value) = do
+  count ← number_in 16 value
+  if nat_le 1 count then Some count else None
+
+unfoldable pub outstanding_at : Members → Option ℕ
+outstanding_at t = outstanding_in (get_member (codes "outstanding") t)
+
+-- a line: a name, an address, and how many of its queries may wait
 unfoldable pub line_in : Data → Option Line
 line_in d = do
   t ← as_table d
   name ← name_at (codes "name") t
   address ← text_at (codes "address") t
-  Some (record { name = name; address = address })
+  outstanding ← outstanding_at t
+  Some (record { name = name; address = address; outstanding = outstanding })
 
 -- a model: identifier, address and length; the identifier 65,535 is that of the end
 abbrev pub model_of : Items → Option Model

@@ -1,13 +1,14 @@
 //! Whether the parts of a site agree, and where they don't.
 ghost use Rattle.std.specs.Prelude.{◌≡◌, ◌≢◌, ◌+◌, ◌<◌, ◌^◌, ◌&&◌, ◌==◌, length, IfSome, is_none, slice_get};
 ghost use Rattle.std.specs.List.{list_all, position};
-ghost use Rattle.point_list.specs.Sites.{all_differ, have_lines, have_room, has_room, is_sound, same_device_name, same_line_name, same_place};
+ghost use Rattle.point_list.specs.Sites.{all_differ, have_lines, have_room, has_room, is_limited, is_sound, same_device_name, same_line_name, same_place};
 ghost use Rattle.point_list.specs.declared.site_error.SiteFault.TheVariants.{Memory};
 
 use crate::site::{Device, Line, MOST_DEVICES, MOST_LINES};
 use crate::site_error::{Quoted, SiteError, SiteFault, SitePlace};
 use crate::text::Text;
 use sunspec::Model;
+use toml_members::MemberFault;
 
 /// What keeps lines and devices from being a site, if anything does.
 pub(crate) fn disagreement(lines: &[Line], devices: &[Device]) -> Option<SiteError>
@@ -22,6 +23,9 @@ pub(crate) fn disagreement(lines: &[Line], devices: &[Device]) -> Option<SiteErr
     }
     if let Some(index) = repeated_line(lines) {
         return Some(name_twice(SitePlace::line(index), &lines[index].name));
+    }
+    if let Some(error) = unlimited(lines) {
+        return Some(error);
     }
     if let Some(index) = repeated_device(devices) {
         return Some(name_twice(SitePlace::device(index), &devices[index].name));
@@ -62,6 +66,20 @@ fn repeated_line(lines: &[Line]) -> Option<usize>
         Some(index) => Some(index + 1),
         None => Some(repeated_line(rest)? + 1),
     }
+}
+
+/// What is wrong with the first line that lets no query wait, or too many.
+fn unlimited(lines: &[Line]) -> Option<SiteError>
+    ensures none { is_none result ≡ list_all is_limited lines.now }
+    ensures memory { IfSome result (λ e. e.fault ≢ Memory) }
+{
+    for (index, line) in lines.iter().enumerate() {
+        if !line.is_limited() {
+            let fault = SiteFault::of_outstanding(MemberFault::OutOfRange);
+            return Some(SiteError::new(SitePlace::line(index), fault));
+        }
+    }
+    None
 }
 
 /// The place of a device whose name an earlier one has.

@@ -31,7 +31,7 @@ pub use name::{Name, NoName};
 pub use naming::is_same_name;
 pub use point::{ListRow, NoRole, Point, Role};
 pub use resolving::{read_points, resolve};
-pub use site::{Device, Line, MOST_DEVICES, MOST_LINES, Site};
+pub use site::{Device, Line, MOST_DEVICES, MOST_LINES, MOST_OUTSTANDING, Site};
 pub use site_error::{Quoted, SiteError, SiteFault, SitePlace};
 pub use site_file::read_site;
 pub use text::Text;

@@ -1,7 +1,7 @@
-ghost use Rattle.std.specs.Prelude.{[], ◌≡◌, option_map};
+ghost use Rattle.std.specs.Prelude.{[], ◌≡◌, ◌≤◌, option_map};
 ghost use Rattle.std.specs.List.{list_any};
 ghost use Rattle.std.specs.Str.{bytes_eq};
-ghost use Rattle.point_list.specs.Sites.{device_of, line_of};
+ghost use Rattle.point_list.specs.Sites.{IsSound, device_of, is_limited, line_of};
 
 use crate::agreeing::disagreement;
 use crate::items::Items;
@@ -15,19 +15,44 @@ pub const MOST_LINES: usize = 64;
 /// The most devices of a site.
 pub const MOST_DEVICES: usize = 256;
 
+/// The most queries of a line that may wait for their replies at once.
+pub const MOST_OUTSTANDING: u8 = 16;
+
 /// A line: a TCP connection behind which devices answer.
 #[derive(Debug, Drop)]
 pub struct Line {
     pub name: Text,
     /// Where it is reached, as `host:port`. Whether it can be shows when the line is opened.
     pub address: Text,
+    /// How many of its queries may wait for their replies at once, 1 to `MOST_OUTSTANDING`.
+    pub outstanding: u8,
 }
 
 impl Line {
+    /// A line of which `MOST_OUTSTANDING` queries may wait.
     pub fn new(name: Text, address: Text) -> Line
-        ensures { result ≡ record { name = name; address = address } }
+        ensures { result ≡ record { name = name; address = address; outstanding = 16 } }
     {
-        Line { name, address }
+        Line {
+            name,
+            address,
+            outstanding: MOST_OUTSTANDING,
+        }
+    }
+
+    /// The same line, of which so many queries may wait.
+    pub fn with_outstanding(mut self, outstanding: u8) -> Line
+        ensures { result ≡ record self { outstanding = outstanding } }
+    {
+        self.outstanding = outstanding;
+        self
+    }
+
+    /// Whether 1 to `MOST_OUTSTANDING` of its queries may wait.
+    pub(crate) fn is_limited(&self) -> bool
+        ensures { result ≡ is_limited self.now }
+    {
+        (1..=MOST_OUTSTANDING).contains(&self.outstanding)
     }
 
     /// The place of the line of this name.
@@ -112,8 +137,9 @@ impl Site {
     }
 
     /// Whether its parts agree: at most `MOST_LINES` lines and `MOST_DEVICES` devices, names that
-    /// differ, a line for each device, no two devices that share line and unit identifier, and models
-    /// that end before the last address. A site that `from_toml` gives is so.
+    /// differ, 1 to `MOST_OUTSTANDING` queries of each line that may wait, a line for each device, no
+    /// two devices that share line and unit identifier, and models that end before the last address. A
+    /// site that `from_toml` gives is so.
     pub fn is_sound(&self) -> bool
         ensures { result ≡ sites.is_sound self.now.lines self.now.devices }
     {
@@ -125,6 +151,18 @@ impl Site {
         ensures { option_map (λ line. line.now) result ≡ sites.line_named self.now name.now }
     {
         self.lines.iter().find(|line| line.name.as_str() == name)
+    }
+
+    /// How many queries of the line at this place may wait for their replies at once; where the site
+    /// has no such line, `MOST_OUTSTANDING`.
+    pub fn outstanding(&self, line: u16) -> u8
+        ensures value { result ≡ sites.outstanding_on self.now line }
+        ensures within { IsSound self.now → (1 ≤ result) × (result ≤ 16) }
+    {
+        match self.lines.as_slice().get(line as usize) {
+            Some(line) => line.outstanding,
+            None => MOST_OUTSTANDING,
+        }
     }
 
     /// The device of this name.

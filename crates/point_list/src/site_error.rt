@@ -1,5 +1,5 @@
 //! Why a text is no site file, and where.
-ghost use Rattle.std.specs.Prelude.{◌≡◌, ◌+◌, ◌<◌, ◌^◌, ◌↔◌, IsTrue};
+ghost use Rattle.std.specs.Prelude.{◌≡◌, ◌≢◌, ◌+◌, ◌<◌, ◌^◌, ◌↔◌, IsTrue};
 ghost use Rattle.point_list.specs.declared.site_error.SiteFault.TheVariants.{Member, Memory};
 ghost use Rattle.point_list.specs.SiteFile.{placed};
 ghost use Rattle.point_list.specs.declared.site_error.SitePlace.TheVariants.{Device, Line, Whole};
@@ -9,7 +9,7 @@ use std::alloc::{AllocError, AllocFailed};
 use std::fmt;
 use sunspec::printable;
 use thiserror::Error;
-use toml_members::MemberError;
+use toml_members::{MemberError, MemberFault};
 
 const SHOWN: usize = 64;
 
@@ -105,6 +105,18 @@ pub enum SiteFault {
     /// A device's line is no place among those of the site.
     #[error("a device without a line")]
     WithoutLine,
+}
+
+impl SiteFault {
+    /// What is wrong with a line's `outstanding`.
+    pub(crate) fn of_outstanding(fault: MemberFault) -> SiteFault
+        ensures { result ≢ Memory }
+    {
+        SiteFault::Member(MemberError {
+            key: "outstanding",
+            fault,
+        })
+    }
 }
 
 impl From<AllocError> for SiteFault {

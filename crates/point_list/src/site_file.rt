@@ -4,21 +4,21 @@ ghost use Rattle.toml.specs.Data.{Members};
 ghost use Rattle.toml.specs.View.{table_view, view, items_view};
 ghost use Rattle.point_list.specs.Sites.{IsSound, line_of};
 ghost use Rattle.toml_members.specs.Members.{IsDocument, each, text_at};
-ghost use Rattle.point_list.specs.SiteFile.{Gives, GivesAt, bad_site, no_memory, device_in, devices_of, line_in, lines_of, model_in, model_of, models_of, name_at, site_of};
+ghost use Rattle.point_list.specs.SiteFile.{Gives, GivesAt, bad_site, no_memory, device_in, devices_of, line_in, lines_of, model_in, model_of, models_of, name_at, outstanding_at, site_of};
 
 use crate::agreeing::disagreement;
 use crate::error::{ListError, ListFault};
 use crate::items::Items;
 use crate::name::is_name;
-use crate::site::{Device, Line, MOST_LINES, Site};
+use crate::site::{Device, Line, MOST_LINES, MOST_OUTSTANDING, Site};
 use crate::site_error::{Quoted, SiteError, SiteFault, SitePlace, placed};
 use crate::text::Text;
 use std::alloc::{AllocError, Global};
 use sunspec::Model;
 use toml::{Table, Value};
 use toml_members::{
-    DocumentError, document, entries_at, number_at, number_in, optional_at, optional_entries_at,
-    text_at,
+    DocumentError, MemberFault, document, entries_at, member, number_at, number_in, optional_at,
+    optional_entries_at, text_at,
 };
 
 /// A text of its own.
@@ -47,6 +47,21 @@ fn address_at(alloc: Global, table: &Table, key: &'static str) -> Result<Text, S
     Ok(copied(alloc, text)?)
 }
 
+/// How many queries of a line may wait, which may be missing.
+#[tactic(auto, unfolding(crate::specs::SiteFile::outstanding_at))]
+fn outstanding_at(table: &Table) -> Result<u8, SiteFault>
+    ensures { Gives (λ n. n) result (outstanding_at (table_view table.now)) }
+{
+    let Some(value) = member(table, "outstanding") else {
+        return Ok(MOST_OUTSTANDING);
+    };
+    match number_in(value, MOST_OUTSTANDING as u32) {
+        Ok(0) => Err(SiteFault::of_outstanding(MemberFault::OutOfRange)),
+        Ok(count) => Ok(count as u8),
+        Err(fault) => Err(SiteFault::of_outstanding(fault)),
+    }
+}
+
 #[tactic(auto, unfolding(crate::specs::SiteFile::line_in))]
 fn line_in(alloc: Global, entry: &Value) -> Result<Line, SiteFault>
     ensures { Gives (λ line. line) result (line_in (view entry.now)) }
@@ -54,7 +69,8 @@ fn line_in(alloc: Global, entry: &Value) -> Result<Line, SiteFault>
     let table = entry.as_table().ok_or(SiteFault::NoTable)?;
     let name = name_at(alloc, table, "name")?;
     let address = address_at(alloc, table, "address")?;
-    Ok(Line::new(name, address))
+    let outstanding = outstanding_at(table)?;
+    Ok(Line::new(name, address).with_outstanding(outstanding))
 }
 
 fn lines_in(alloc: Global, entries: &[Value]) -> Result<Vec<Line>, SiteError>
@@ -198,10 +214,10 @@ fn site_in(alloc: Global, document: &Table) -> Result<Site, SiteError>
 }
 
 impl Site {
-    /// Reads a site file: TOML with the tables `[[line]]` (`name`, `address`) and `[[device]]`
-    /// (`name`, `line`, `unit` 0 to 255, `gap` 0 to 124, which is 0 if missing, and `models`, which
-    /// may be missing: of each model its identifier 0 to 65,534, its address and its length). Other
-    /// members are ignored. It is refused where the text is no TOML, a member is missing or ill-typed,
+    /// Reads a site file: TOML with the tables `[[line]]` (`name`, `address`, and `outstanding` 1 to 16,
+    /// which is 16 if missing) and `[[device]]` (`name`, `line`, `unit` 0 to 255, `gap` 0 to 124, which
+    /// is 0 if missing, and `models`, which may be missing: of each model its identifier 0 to 65,534,
+    /// its address and its length). Other members are ignored. It is refused where the text is no TOML, a member is missing or ill-typed,
     /// a name is used twice, a line is unknown, two devices share line and unit identifier, a model
     /// passes the last address but one, or there are more than `MOST_LINES` lines or `MOST_DEVICES`
     /// devices. `docs/FORMATS.md` has an example.

@@ -1,5 +1,5 @@
 //! Sites as values: their lists and texts, and one whose parts don't agree.
-use point_list::{Site, read_site};
+use point_list::{Line, MOST_OUTSTANDING, Site, Text, read_site};
 use std::alloc::{AllocError, Global};
 use std::test::Fail;
 use telling::{Trial, twice};
@@ -47,9 +47,39 @@ fn without_lines(trial: &Trial<'_>) -> Result<(), AllocError> {
     Ok(())
 }
 
+/// So many queries may wait, and whether a site with such a line is sound.
+const LIMITS: &[(u8, bool)] = &[(0, false), (1, true), (MOST_OUTSTANDING, true), (17, false)];
+
+/// A site of one line, of which so many queries may wait.
+fn site_with(alloc: Global, outstanding: u8) -> Result<Site, AllocError> {
+    let name = Text::from_string(String::from_str(alloc, "roof")?);
+    let address = Text::from_string(String::new(alloc));
+    let mut lines = Vec::new(alloc);
+    lines.push(Line::new(name, address).with_outstanding(outstanding))?;
+    Ok(Site::new(lines, Vec::new(alloc)))
+}
+
+/// 1 to 16 queries of a line may wait, and 16 where nothing is said.
+fn limits(trial: &Trial<'_>) -> Result<(), AllocError> {
+    let alloc = trial.alloc();
+    let said = site_of(alloc)?;
+    trial.told(
+        &"said",
+        &(said.outstanding(0), said.outstanding(1)),
+        &(16, 16),
+    );
+    for (count, is_sound) in LIMITS {
+        let site = site_with(alloc, *count)?;
+        let told = (site.outstanding(0), site.is_sound());
+        trial.told(count, &told, &(*count, *is_sound));
+    }
+    Ok(())
+}
+
 fn values(trial: &Trial<'_>) -> Result<(), AllocError> {
     lists_and_texts(trial)?;
-    without_lines(trial)
+    without_lines(trial)?;
+    limits(trial)
 }
 
 #[test]
