@@ -15,7 +15,7 @@ pub mod Rounding
 pub mod Planned
 pub mod Chosen
 pub mod Doable
-pub mod Sixteen
+pub mod Outstanding
 pub mod Lacked
 pub mod Settling
 pub mod Turned

@@ -33,7 +33,7 @@ use Rattle.office_net.proofs.Waiting.{waits_after, same_unanswered}
 waits_so : (start : Start) (moves : List Move) (poll : Poll) → IsAfter start moves poll → IsWaiting poll → HasToWait start moves
 waits_so start moves poll after (inl all) =
     inl (after.turned ∙ ap (λ k. take k start.jobs) (all ∙ ap length after.jobs) ∙ take_all (length start.jobs) start.jobs (omega arith))
-waits_so start moves poll after (inr full) = inr (sym after.waiting ∙ full)
+waits_so start moves poll after (inr full) = inr (sym after.waiting ∙ full ∙ after.most)
 
 -- a frame came, and was answered so
 pub came_on : {K : Type 0} {g : Ghosts K} (office office' : Office K g) (old new : Poll) (frame : Frame) (answer : EventAnswer) → IsWaiting old
@@ -51,6 +51,7 @@ came_on office office' old new frame answer waits came took start moves follows 
       after = record {
         conn = took.same.conn ∙ after.conn;
         slot = took.same.slot ∙ after.slot;
+        most = took.same.most ∙ after.most;
         jobs = took.same.jobs ∙ after.jobs;
         turned = after.turned ∙ ap (λ k. take k start.jobs) (sym took.turned);
         run = (waits_so start moves old after waits, after.run);
@@ -128,7 +129,7 @@ first_made old transaction from k all named all_is count (inl none) false is = a
     off e = absurd (cc)
 
 -- the job at the turn made a query
-pub asked_on : {K : Type 0} {g : Ghosts K} (office office' : Office K g) (old new : Poll) (job : LineJob) (query : Frame) → IsNextJob old job → old.waiting < 16
+pub asked_on : {K : Type 0} {g : Ghosts K} (office office' : Office K g) (old new : Poll) (job : LineJob) (query : Frame) → IsNextJob old job → old.waiting < old.most
     → ((now : History) → Follows office now → is_due old.slot now job ≡ true)
     → Happens (Follows office) (Follows office') (MayLeave office) (MayLeave office') (λ now. turn_of old.conn old.slot now job) (answer.Query query)
     → Asked old query.transaction new → GoesOn office old office' new [] (query ∷ [])
@@ -151,12 +152,13 @@ asked_on office office' old new job query next room due made noted start moves f
       after = record {
         conn = noted.same.conn ∙ after.conn;
         slot = noted.same.slot ∙ after.slot;
+        most = noted.same.most ∙ after.most;
         jobs = noted.same.jobs ∙ after.jobs;
         turned = turned_on start moves old new job after next noted.turned;
         run = (
           subst (λ s. is_due s now job ≡ true) after.slot (due now follows),
           ap is_query (sym is),
-          subst (λ w. w < 16) after.waiting room,
+          omega (arith, after.waiting, after.most, room),
           after.run,
         );
         counts = record {
@@ -187,6 +189,7 @@ passed_on office office' old new job next due stays noted start moves follows af
       after = record {
         conn = noted.same.conn ∙ after.conn;
         slot = noted.same.slot ∙ after.slot;
+        most = noted.same.most ∙ after.most;
         jobs = noted.same.jobs ∙ after.jobs;
         turned = turned_on start moves old new job after next noted.turned;
         run = (subst (λ s. is_due s now job ≡ false) after.slot (due now follows), after.run);

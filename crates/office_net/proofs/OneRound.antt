@@ -10,7 +10,7 @@ use Rattle.office_net.specs.Stages.{IsSame}
 use Rattle.office_core.proofs.Proceeding.{along_wider}
 
 pub same_then : (one two three : Poll) → IsSame one two → IsSame two three → IsSame one three
-same_then one two three first second = record { conn = second.conn ∙ first.conn; slot = second.slot ∙ first.slot; jobs = second.jobs ∙ first.jobs }
+same_then one two three first second = record { conn = second.conn ∙ first.conn; slot = second.slot ∙ first.slot; most = second.most ∙ first.most; jobs = second.jobs ∙ first.jobs }
 
 turn_same : (old new : Poll) → IsSame old new → (now : History) (event : Happening) → TurnIn new now event → TurnIn old now event
 turn_same old new same now event turn = (

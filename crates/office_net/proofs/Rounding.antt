@@ -8,10 +8,12 @@ use Rattle.mb_mbap.specs.declared.frame.Frame.{Frame}
 use Rattle.mb_mbap.specs.Stream.{Splits}
 use Rattle.mb_mbap.specs.Feeding.{StandsFor}
 use Rattle.mb_mbap.proofs.Rests.{open_empty}
+use Rattle.point_list.specs.declared.site.Site.{Site}
+use Rattle.point_list.specs.Sites.{outstanding_on}
 use Rattle.poll_book.specs.declared.keeper.Neighbours.{Ghosts}
 use Rattle.poll_book.specs.Tables.{Tables, Within}
 use Rattle.office_core.specs.declared.office.Office.{Office}
-use Rattle.office_core.specs.History.{History}
+use Rattle.office_core.specs.History.{History, open_line, site_of}
 use Rattle.office_net.specs.declared.round.Round.{Round}
 use Rattle.office_net.specs.declared.fault.PollFault.{PollFault}
 use Rattle.office_net.specs.declared.job.LineJob.{LineJob}
@@ -21,17 +23,18 @@ use Rattle.office_core.specs.Following.{Follows, MayLeave}
 use Rattle.office_net.specs.Jobs.{AreJobs, CanBeDone}
 use Rattle.office_net.specs.Moves.{Start, Move, told, frames_in, queries_in, LeftIn, LeftTrying}
 use Rattle.office_net.specs.Stages.{Ends, IsAfter, IsDone, IsNew, IsNext, Leads, LeftSince, counts_of}
-use Rattle.office_net.specs.Rounds.{start_of, query_bytes, Handles, Breaks, Cuts, Takes, Underway, IsWhole, IsCut}
+use Rattle.office_net.specs.Rounds.{most_of, most_on, start_of, query_bytes, Handles, Breaks, Cuts, Takes, Underway, IsWhole, IsCut}
 use Rattle.office_net.proofs.Crashing.{since_begun, trying_more}
 use Rattle.office_net.proofs.Pieces.{handles_then, breaks_after}
 
 -- ---- the beginning
 
 -- a new round has made no move
-begins : (conn slot : ℕ) (jobs : List LineJob) (first : Poll) (before : History) → IsNew conn slot jobs first → IsAfter (start_of conn slot jobs before) [] first
-begins conn slot jobs first before new = record {
+pub begins : (conn slot most : ℕ) (jobs : List LineJob) (first : Poll) (before : History) → IsNew conn slot most jobs first → most ≡ most_of before conn → IsAfter (start_of conn slot jobs before) [] first
+begins conn slot most jobs first before new most_is = record {
   conn = new.conn_is;
   slot = new.slot_is;
+  most = new.most_is ∙ most_is;
   jobs = new.jobs_are;
   turned = ap (λ k. take k jobs) (sym new.turned);
   run = tt;
@@ -45,6 +48,10 @@ begins conn slot jobs first before new = record {
   first = inl refl;
   made = omega arith;
 }
+
+-- of an open connection as many queries may wait as the site says of its line
+pub most_said : (before : History) (conn line : ℕ) (site : Site) → open_line before conn ≡ Some line → site ≡ site_of before → outstanding_on site line ≡ most_of before conn
+most_said before conn line site opened is = λ i. most_on (is i) (sym opened i)
 
 empty_splits : Splits [] [] []
 empty_splits = record { whole = refl; each = λ k d below. absurd (omega (arith, below)); rest_ok = inl open_empty }
@@ -124,55 +131,53 @@ module _ (stands : History → Type 0) (might may : Tables → Type 0) (start : 
 
 -- ---- a round under way
 
-module _ {K : Type 0} {g : Ghosts K} (office between office' : Office K g) (conn slot : ℕ) (jobs : List LineJob) (poll new : Poll) (stream : Option (List ℕ)) (read : ℕ)
+module _ {K : Type 0} {g : Ghosts K} (office between office' : Office K g) (first poll new : Poll) (stream : Option (List ℕ)) (read : ℕ)
     (unread left left' wrote writes writes' : Option (List ℕ)) (clean clean' : Type 0) where
   -- a piece more
-  pub one_more : (stream' : Option (List ℕ)) (read' : ℕ) → (way : Underway (λ first came. clean → Handles office first between poll came wrote writes) conn slot jobs poll stream read unread left) → (clean' → clean)
+  pub one_more : (stream' : Option (List ℕ)) (read' : ℕ) → (way : Underway (λ came. clean → Handles office first between poll came wrote writes) poll stream read unread left) → (clean' → clean)
       → Takes (λ came. clean' → Handles between poll office' new came writes writes') new stream' read' way.bytes way.frames left left'
-      → Underway (λ first came. clean' → Handles office first office' new came wrote writes') conn slot jobs new stream' read' unread left'
+      → Underway (λ came. clean' → Handles office first office' new came wrote writes') new stream' read' unread left'
   one_more stream' read' way cleans takes = record {
-    first = way.first;
-    is_new = way.is_new;
     bytes = way.bytes ++ takes.piece;
     frames = way.frames ++ takes.came;
     fed = takes.fed;
     consumed = Consumes-trans unread left left' way.bytes takes.piece way.consumed takes.consumed;
-    handled = λ is_clean. handles_then office between office' way.first poll new way.frames takes.came wrote writes writes' (way.handled (cleans is_clean)) (takes.handled is_clean);
+    handled = λ is_clean. handles_then office between office' first poll new way.frames takes.came wrote writes writes' (way.handled (cleans is_clean)) (takes.handled is_clean);
   }
 
   -- it breaks off in a piece
-  pub broke_off : (calm calm' : Type 0) (e : PollFault) (before : History) → (way : Underway (λ first came. clean → Handles office first between poll came wrote writes) conn slot jobs poll stream read unread left)
+  pub broke_off : (calm calm' : Type 0) (e : PollFault) (start : Start) → (way : Underway (λ came. clean → Handles office first between poll came wrote writes) poll stream read unread left)
       → clean → (calm → calm') → Cuts (λ came coming. Breaks between poll office' new came coming calm' writes writes' e) way.bytes way.frames left left' e
-      → Follows office before → AreJobs before conn jobs → All (CanBeDone before conn) jobs
-      → IsCut (Follows office') (MayLeave office) (MayLeave office') (start_of conn slot jobs before) unread left' calm wrote writes' e
-  broke_off calm calm' e before way is_clean quiet cuts follows are can =
-      let breaks = breaks_after office between office' way.first poll new way.frames cuts.came cuts.coming calm calm' wrote writes writes' e (way.handled is_clean) quiet cuts.broken in
-      cut_by (Follows office') (MayLeave office) (MayLeave office') (start_of conn slot jobs before) new (way.frames ++ cuts.came) cuts.coming breaks.0 e
-      (breaks.1 (start_of conn slot jobs before) [] can follows (begins conn slot jobs way.first before way.is_new))
+      → IsAfter start [] first → Follows office start.before → AreJobs start.before start.conn start.jobs → All (CanBeDone start.before start.conn) start.jobs
+      → IsCut (Follows office') (MayLeave office) (MayLeave office') start unread left' calm wrote writes' e
+  broke_off calm calm' e start way is_clean quiet cuts after follows are can =
+      let breaks = breaks_after office between office' first poll new way.frames cuts.came cuts.coming calm calm' wrote writes writes' e (way.handled is_clean) quiet cuts.broken in
+      cut_by (Follows office') (MayLeave office) (MayLeave office') start new (way.frames ++ cuts.came) cuts.coming breaks.0 e
+      (breaks.1 start [] can follows after)
       unread left' wrote writes' calm (way.bytes ++ cuts.piece) cuts.unfed cuts.rest are
       (subst (Consumes unread left') (sym (append_assoc way.bytes cuts.piece cuts.unfed)) (Consumes-trans unread left left' way.bytes (cuts.piece ++ cuts.unfed) way.consumed cuts.consumed))
       cuts.splits breaks.2
       (subst (λ l. IsOfStream l cuts.rest e) (sym (append_assoc way.bytes cuts.piece cuts.unfed)) cuts.of_stream)
 
 -- the first queries couldn't be sent
-pub broke_first : {K : Type 0} {g : Ghosts K} (office office' : Office K g) (conn slot : ℕ) (jobs : List LineJob) (first new : Poll) (unread wrote writes : Option (List ℕ)) (calm : Type 0) (e : PollFault) (before : History)
-    → IsNew conn slot jobs first → Breaks office first office' new [] [] calm wrote writes e → IsOfStream [] [] e
-    → Follows office before → AreJobs before conn jobs → All (CanBeDone before conn) jobs
-    → IsCut (Follows office') (MayLeave office) (MayLeave office') (start_of conn slot jobs before) unread unread calm wrote writes e
-broke_first office office' conn slot jobs first new unread wrote writes calm e before is_new breaks of_stream follows are can =
-    cut_by (Follows office') (MayLeave office) (MayLeave office') (start_of conn slot jobs before) new [] [] breaks.0 e
-    (breaks.1 (start_of conn slot jobs before) [] can follows (begins conn slot jobs first before is_new))
+pub broke_first : {K : Type 0} {g : Ghosts K} (office office' : Office K g) (first new : Poll) (unread wrote writes : Option (List ℕ)) (calm : Type 0) (e : PollFault) (start : Start)
+    → Breaks office first office' new [] [] calm wrote writes e → IsOfStream [] [] e
+    → IsAfter start [] first → Follows office start.before → AreJobs start.before start.conn start.jobs → All (CanBeDone start.before start.conn) start.jobs
+    → IsCut (Follows office') (MayLeave office) (MayLeave office') start unread unread calm wrote writes e
+broke_first office office' first new unread wrote writes calm e start breaks of_stream after follows are can =
+    cut_by (Follows office') (MayLeave office) (MayLeave office') start new [] [] breaks.0 e
+    (breaks.1 start [] can follows after)
     unread unread wrote writes calm [] [] [] are (Consumes-nil unread) empty_splits breaks.2 of_stream
 
 -- it is done
-pub is_whole : {K : Type 0} {g : Ghosts K} (office office' : Office K g) (conn slot : ℕ) (jobs : List LineJob) (poll : Poll) (stream : Option (List ℕ)) (read : ℕ) (unread left wrote writes : Option (List ℕ)) (clean : Type 0) (before : History)
-    → Underway (λ first came. clean → Handles office first office' poll came wrote writes) conn slot jobs poll stream read unread left → clean → Follows office before → IsDone poll
-    → IsWhole (Follows office') (MayLeave office) (MayLeave office') (start_of conn slot jobs before) unread left wrote writes (counts_of poll)
-is_whole office office' conn slot jobs poll stream read unread left wrote writes clean before way is_clean follows done =
+pub is_whole : {K : Type 0} {g : Ghosts K} (office office' : Office K g) (first poll : Poll) (stream : Option (List ℕ)) (read : ℕ) (unread left wrote writes : Option (List ℕ)) (clean : Type 0) (start : Start)
+    → Underway (λ came. clean → Handles office first office' poll came wrote writes) poll stream read unread left → clean → IsAfter start [] first → Follows office start.before → IsDone poll
+    → IsWhole (Follows office') (MayLeave office) (MayLeave office') start unread left wrote writes (counts_of poll)
+is_whole office office' first poll stream read unread left wrote writes clean start way is_clean after follows done =
     let handles = way.handled is_clean in
     let (rest, splits, _) = way.fed.frames_are in
-    whole_by (Follows office') (MayLeave office) (MayLeave office') (start_of conn slot jobs before) poll way.frames handles.0 None
-    (handles.1 (start_of conn slot jobs before) [] follows (begins conn slot jobs way.first before way.is_new))
+    whole_by (Follows office') (MayLeave office) (MayLeave office') start poll way.frames handles.0 None
+    (handles.1 start [] follows after)
     unread left wrote writes way.bytes rest refl done way.consumed splits handles.2
 
 -- nothing was done

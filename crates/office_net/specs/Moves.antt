@@ -15,10 +15,12 @@ use Rattle.office_core.specs.Messages.{arriving}
 use Rattle.office_net.specs.declared.job.LineJob.{LineJob}
 use Rattle.office_net.specs.declared.job.LineJob.TheVariants.{Order, Read}
 
--- how a round starts: over which connection, for which slot, with which jobs in their order, and after which history
+-- how a round starts: over which connection, for which slot, how many of its queries may wait, with which jobs in their order, and
+-- after which history
 pub record Start : Type 0 where
   pub conn : ℕ
   pub slot : ℕ
+  pub most : ℕ
   pub jobs : List LineJob
   pub before : History
 
@@ -116,17 +118,17 @@ waiting_in start moves = unanswered (told start moves) start.conn (length (asked
 
 -- ---- the moves are a round's
 
--- no query can be made: each job had its turn, or 16 queries wait
+-- no query can be made: each job had its turn, or as many queries wait as may
 abbrev pub HasToWait : Start → List Move → Type 0
-HasToWait start moves = (jobs_in moves ≡ start.jobs) ⊎ (waiting_in start moves ≡ 16)
+HasToWait start moves = (jobs_in moves ≡ start.jobs) ⊎ (waiting_in start moves ≡ start.most)
 
--- Each job is judged at its turn: where it is due it makes a query, while fewer than 16 wait, and else it is passed over.
+-- Each job is judged at its turn: where it is due it makes a query, while fewer wait than may, and else it is passed over.
 -- A frame is waited for only where no query can be made
 abbrev pub IsRun : Start → List Move → Type 0
 IsRun start [] = ⊤
 IsRun start (Asks job ∷ moves) =
     (is_due start.slot (told start moves) job ≡ true) × (is_query (turn_answer start moves job) ≡ true)
-    × (waiting_in start moves < 16) × IsRun start moves
+    × (waiting_in start moves < start.most) × IsRun start moves
 IsRun start (Passes job ∷ moves) = (is_due start.slot (told start moves) job ≡ false) × IsRun start moves
 IsRun start (Comes frame ∷ moves) = HasToWait start moves × IsRun start moves
 

@@ -1,14 +1,16 @@
 -- A round over a reader and a writer.
-use Rattle.std.specs.Prelude.{◌≡◌, ◌⊎◌, ℕ, List, [], ◌++◌, length, Option}
+use Rattle.std.specs.Prelude.{◌≡◌, ◌⊎◌, ℕ, List, [], ◌++◌, length, Option, Some, None}
 use Rattle.std.specs.List.{flat_map}
 use Rattle.std.specs.Io.KnownBytes.{Appends, Consumes}
 use Rattle.mb_mbap.specs.declared.frame.Frame.{Frame}
 use Rattle.mb_mbap.specs.Stream.{Splits, spelled}
 use Rattle.mb_mbap.specs.Feeding.{StandsFor}
+use Rattle.point_list.specs.declared.site.Site.{Site}
+use Rattle.point_list.specs.Sites.{outstanding_on}
 use Rattle.poll_book.specs.declared.keeper.Neighbours.{Ghosts}
 use Rattle.poll_book.specs.Tables.{Tables, Within}
 use Rattle.office_core.specs.declared.office.Office.{Office}
-use Rattle.office_core.specs.History.{History}
+use Rattle.office_core.specs.History.{History, open_line, site_of}
 use Rattle.office_net.specs.declared.round.Round.{Round}
 use Rattle.office_net.specs.declared.fault.PollFault.{PollFault}
 use Rattle.office_net.specs.declared.job.LineJob.{LineJob}
@@ -16,10 +18,19 @@ use Rattle.office_net.specs.declared.machine.Poll.{Poll}
 use Rattle.office_net.specs.Faults.{ClosedBy, IsOfStream}
 use Rattle.office_net.specs.Jobs.{AreJobs}
 use Rattle.office_net.specs.Moves.{Start, Move, told, jobs_in, frames_in, queries_in, waiting_in, IsRun, LeftIn, LeftTrying}
-use Rattle.office_net.specs.Stages.{BreaksOff, Counts, GoesOn, IsNew, IsNext, taken_of}
+use Rattle.office_net.specs.Stages.{BreaksOff, Counts, GoesOn, IsNext, taken_of}
 
+-- how many queries of a connection may wait: as many as the site says of its line, and 16 where it isn't open
+abbrev pub most_on : Site → Option ℕ → ℕ
+most_on site None = 16
+most_on site (Some line) = outstanding_on site line
+
+abbrev pub most_of : History → ℕ → ℕ
+most_of before conn = most_on (site_of before) (open_line before conn)
+
+-- how the round of a connection's slot starts, with these jobs
 abbrev pub start_of : ℕ → ℕ → List LineJob → History → Start
-start_of conn slot jobs before = record { conn = conn; slot = slot; jobs = jobs; before = before }
+start_of conn slot jobs before = record { conn = conn; slot = slot; most = most_of before conn; jobs = jobs; before = before }
 
 -- ---- parts of a round
 
@@ -67,15 +78,13 @@ pub record Cuts (breaks : List Frame → List Frame → Type 0) (bytes : List �
   pub of_stream : IsOfStream (bytes ++ (piece ++ unfed)) rest fault
   pub broken : breaks came coming
 
--- a round under way: these jobs of a connection's slot began it, so much was read, every frame of it was taken, and its queries were written
-pub record Underway (handles : Poll → List Frame → Type 0) (conn slot : ℕ) (jobs : List LineJob) (poll : Poll) (stream : Option (List ℕ)) (read : ℕ) (unread left : Option (List ℕ)) : Type 0 where
-  pub first : Poll
-  pub is_new : IsNew conn slot jobs first
+-- a round under way: so much was read, every frame of it was taken, and its queries were written
+pub record Underway (handles : List Frame → Type 0) (poll : Poll) (stream : Option (List ℕ)) (read : ℕ) (unread left : Option (List ℕ)) : Type 0 where
   pub bytes : List ℕ
   pub frames : List Frame
   pub fed : Fed stream poll read bytes frames
   pub consumed : Consumes unread left bytes
-  pub handled : handles first frames
+  pub handled : handles frames
 
 -- ---- a whole round
 

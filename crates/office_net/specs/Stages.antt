@@ -33,12 +33,13 @@ taken_of poll = poll.taken
 -- a job has its turn
 pub record HasTurn (poll : Poll) : Type 0 where
   pub left : poll.turned < length poll.jobs.items
-  pub room : poll.waiting < 16
+  pub room : poll.waiting < poll.most
 
 -- a round that begins
-pub record IsNew (conn slot : ℕ) (jobs : List LineJob) (poll : Poll) : Type 0 where
+pub record IsNew (conn slot most : ℕ) (jobs : List LineJob) (poll : Poll) : Type 0 where
   pub conn_is : poll.conn ≡ conn
   pub slot_is : poll.slot ≡ slot
+  pub most_is : poll.most ≡ most
   pub jobs_are : poll.jobs.items ≡ jobs
   pub turned : poll.turned ≡ 0
   pub waiting : poll.waiting ≡ 0
@@ -50,9 +51,9 @@ pub record IsDone (poll : Poll) : Type 0 where
   pub turned : poll.turned ≡ length poll.jobs.items
   pub waiting : poll.waiting ≡ 0
 
--- all jobs had their turn, or 16 queries wait
+-- all jobs had their turn, or as many queries wait as may
 abbrev pub IsWaiting : Poll → Type 0
-IsWaiting poll = (poll.turned ≡ length poll.jobs.items) ⊎ (poll.waiting ≡ 16)
+IsWaiting poll = (poll.turned ≡ length poll.jobs.items) ⊎ (poll.waiting ≡ poll.most)
 
 -- ---- what a move changes
 
@@ -60,6 +61,7 @@ IsWaiting poll = (poll.turned ≡ length poll.jobs.items) ⊎ (poll.waiting ≡ 
 pub record IsSame (old new : Poll) : Type 0 where
   pub conn : new.conn ≡ old.conn
   pub slot : new.slot ≡ old.slot
+  pub most : new.most ≡ old.most
   pub jobs : new.jobs.items ≡ old.jobs.items
 
 -- the job at the turn is passed over
@@ -111,6 +113,7 @@ pub record Counts (start : Start) (moves : List Move) (round : Round) : Type 0 w
 pub record IsAfter (start : Start) (moves : List Move) (poll : Poll) : Type 0 where
   pub conn : poll.conn ≡ start.conn
   pub slot : poll.slot ≡ start.slot
+  pub most : poll.most ≡ start.most
   pub jobs : poll.jobs.items ≡ start.jobs
   pub turned : jobs_in moves ≡ take poll.turned start.jobs
   pub run : IsRun start moves

@@ -15,14 +15,13 @@ use office_core::{Arrival, Office};
 use poll_book::Keeper;
 use poll_match::Conn;
 
-/// So many queries are outstanding at most.
-const MOST_WAITING: u8 = 16;
-
 /// A round under way.
 #[derive(Drop)]
 pub struct Poll {
     conn: Conn,
     slot: u32,
+    // So many of its queries may be outstanding.
+    most: u8,
     jobs: Vec<LineJob>,
     // So many jobs had their turn.
     turned: usize,
@@ -36,7 +35,7 @@ pub struct Poll {
     ghost few: { length jobs.items < 2 ^ 64 },
     ghost within: { turned ≤ length jobs.items },
     ghost asked: { round.asked ≤ turned },
-    ghost waits: { waiting ≤ 16 },
+    ghost waits: { waiting ≤ most },
     ghost recorded: { round.recorded ≤ taken * 4294967295 },
     ghost excepted: { round.excepted ≤ taken },
     ghost refused: { round.refused ≤ taken },
@@ -46,14 +45,16 @@ impl Poll {
     ghost use Rattle.office_net.specs.Kinds.{HearsIn, TurnIn};
     ghost use Rattle.office_net.specs.Stages.{Asked, BreaksOff, GoesOn, HasTurn, IsDone, IsNew, IsSame, IsWaiting, Passed, Took, as_list, counts_of, left_of, own, taken_of};
 
-    /// A round of these jobs, in this order, over a connection.
-    pub fn new(conn: Conn, slot: u32, jobs: Vec<LineJob>) -> Poll
-        ensures { IsNew conn slot jobs.items result }
+    /// A round of these jobs, in this order, over a connection. So many of its queries may be outstanding; where that
+    /// is 0 none is sent.
+    pub fn new(conn: Conn, slot: u32, most: u8, jobs: Vec<LineJob>) -> Poll
+        ensures { IsNew conn slot most jobs.items result }
     {
         let _few = jobs.len();
         Poll {
             conn,
             slot,
+            most,
             jobs,
             turned: 0,
             first: 0,
@@ -75,11 +76,11 @@ impl Poll {
         self.turned == self.jobs.len() && self.waiting == 0
     }
 
-    /// Whether no query can be sent: no job is left, or 16 queries are outstanding.
+    /// Whether no query can be sent: no job is left, or as many are outstanding as may be.
     pub fn is_waiting(&self) -> bool
         ensures { IsTrue result ↔ IsWaiting self.now }
     {
-        self.turned == self.jobs.len() || self.waiting == MOST_WAITING
+        self.turned == self.jobs.len() || self.waiting == self.most
     }
 
     /// How many frames it took.
@@ -145,7 +146,7 @@ impl Poll {
         }
     }
 
-    /// The next query to send, if fewer than 16 are outstanding and a job is left that has something
+    /// The next query to send, if fewer are outstanding than may be and a job is left that has something
     /// to do. Each job is judged at its turn.
     pub fn next<K: Keeper>(&mut self, office: &mut Office<K>) -> Result<Option<Frame>, PollFault>
         ensures goes { K.is_clean (keeper_of office.new) → MatchResult result
@@ -157,7 +158,7 @@ impl Poll {
         ensures left { IfOk result (λ query. IsSome query → left_of self.new < left_of self.old) }
         ensures taken { taken_of self.new ≡ taken_of self.old }
     {
-        while self.turned < self.jobs.len() && self.waiting < MOST_WAITING {
+        while self.turned < self.jobs.len() && self.waiting < self.most {
             if let Some(query) = self.next_turn(office)? {
                 return Ok(Some(query));
             }

@@ -8,11 +8,11 @@ ghost use Rattle.office_core.specs.Offices.{AccountsFor, keeper_of};
 ghost use Rattle.office_net.specs.Faults.{HasCause, IsCaused, LineFailed, NoneFailed};
 ghost use Rattle.office_core.specs.Following.{Follows, MayLeave};
 ghost use Rattle.office_net.specs.Jobs.{AreJobs, CanBeDone};
-ghost use Rattle.office_net.specs.Rounds.{Breaks, BreaksIn, Cuts, Fed, Handles, IsCut, IsWhole, Polls, Stops, Takes, start_of};
-ghost use Rattle.office_net.specs.Stages.{IsDone, IsWaiting, taken_of};
+ghost use Rattle.office_net.specs.Moves.{Start};
+ghost use Rattle.office_net.specs.Rounds.{Breaks, BreaksIn, Cuts, Fed, Handles, IsCut, IsWhole, Polls, Stops, Takes};
+ghost use Rattle.office_net.specs.Stages.{IsAfter, IsDone, IsWaiting, taken_of};
 
 use crate::fault::PollFault;
-use crate::job::LineJob;
 use crate::machine::Poll;
 use crate::planning::jobs_of;
 use crate::round::Round;
@@ -126,26 +126,25 @@ fn read_on<K: Keeper, R: Read, W: Write>(
     Ok(read + count)
 }
 
-/// Does these jobs in their order, and takes every frame that comes until all queries are settled.
+/// Does the jobs of a round that begins, and takes every frame that comes until all queries are settled.
 fn poll_jobs<K: Keeper, R: Read, W: Write>(
     alloc: Global,
     office: &mut Office<K>,
-    conn: Conn,
-    slot: u32,
-    jobs: Vec<LineJob>,
+    mut poll: Poll,
     reader: &mut Counted<R>,
     writer: &mut Counted<W>,
 ) -> Result<Round, PollFault>
+    requires { taken_of poll ≡ 0 }
     ensures goes { K.is_clean (keeper_of office.new)
-        → (before : History) → Follows office.old before → AreJobs before conn jobs.items → All (CanBeDone before conn) jobs.items → MatchResult result
-        (λ round. IsWhole (Follows office.new) (MayLeave office.old) (MayLeave office.new) (start_of conn slot jobs.items before)
+        → (start : Start) → IsAfter start [] poll → Follows office.old start.before
+        → AreJobs start.before start.conn start.jobs → All (CanBeDone start.before start.conn) start.jobs → MatchResult result
+        (λ round. IsWhole (Follows office.new) (MayLeave office.old) (MayLeave office.new) start
         (R.remaining (inner_of reader.old)) (R.remaining (inner_of reader.new)) (W.contents (inner_of writer.old)) (W.contents (inner_of writer.new)) round)
-        (λ fault. IsCut (Follows office.new) (MayLeave office.old) (MayLeave office.new) (start_of conn slot jobs.items before)
+        (λ fault. IsCut (Follows office.new) (MayLeave office.old) (MayLeave office.new) start
         (R.remaining (inner_of reader.old)) (R.remaining (inner_of reader.new)) (NoneFailed writer.old writer.new)
         (W.contents (inner_of writer.old)) (W.contents (inner_of writer.new)) fault) }
     ensures accounts { AccountsFor (HasCause (LineFailed reader.old reader.new writer.old writer.new)) office.old office.new result }
 {
-    let mut poll = Poll::new(conn, slot, jobs);
     let mut stream = FrameReader::new(alloc);
     let mut read = 0;
     send(&mut poll, office, writer)?;
@@ -158,9 +157,10 @@ fn poll_jobs<K: Keeper, R: Read, W: Write>(
 /// A poll round of a slot over a connection, which is open or the fault is `Closed`. It goes through
 /// the devices of the connection's line in the site's order. Of each it sends the oldest order that
 /// waits, and then asks the planned reads that cover a point without a reading in the slot, each
-/// judged at its turn. At most 16 queries are outstanding, and the next is written as soon as fewer
-/// are. Every frame that comes is taken, until all queries are settled; what is read past the last
-/// whole frame is dropped, so each round takes a new connection.
+/// judged at its turn. At most as many queries are outstanding as the site says of the line
+/// (`Line::outstanding`), and the next is written as soon as fewer are. Every frame that comes is
+/// taken, until all queries are settled; what is read past the last whole frame is dropped, so each
+/// round takes a new connection.
 pub fn poll_round<K: Keeper, R: Read, W: Write>(
     alloc: Global,
     office: &mut Office<K>,
@@ -181,6 +181,8 @@ pub fn poll_round<K: Keeper, R: Read, W: Write>(
     let Some(line) = office.line_of(conn) else {
         return Err(PollFault::Closed);
     };
-    let jobs = jobs_of(alloc, office.site(), office.points(), line)?;
-    poll_jobs(alloc, office, conn, slot, jobs, reader, writer)
+    let site = office.site();
+    let jobs = jobs_of(alloc, site, office.points(), line)?;
+    let poll = Poll::new(conn, slot, site.outstanding(line), jobs);
+    poll_jobs(alloc, office, poll, reader, writer)
 }

@@ -7,8 +7,8 @@ use Rattle.office_net.proofs.polling.poll_jobs.Given as goal
 
 abbrev pub invariant-pieces : goal.invariant-pieces
 invariant-pieces g l = record {
-  way : Underway (λ first came. g.K.Neighbours.is_clean (keeper_of l.office) → Handles l.fn.office first l.office l.poll came (g.W.Write.contents (inner_of l.fn.writer)) (g.W.Write.contents (inner_of l.writer)))
-      l.fn.conn l.fn.slot l.fn.jobs.items l.poll l.stream l.read (g.R.Read.remaining (inner_of l.fn.reader)) (g.R.Read.remaining (inner_of l.reader));
+  way : Underway (λ came. g.K.Neighbours.is_clean (keeper_of l.office) → Handles l.fn.office l.fn.poll l.office l.poll came (g.W.Write.contents (inner_of l.fn.writer)) (g.W.Write.contents (inner_of l.writer)))
+      l.poll l.stream l.read (g.R.Read.remaining (inner_of l.fn.reader)) (g.R.Read.remaining (inner_of l.reader));
   counted : g.K.Neighbours.refused (keeper_of l.fn.office) ≤ g.K.Neighbours.refused (keeper_of l.office);
   clean : g.K.Neighbours.is_clean (keeper_of l.office) → g.K.Neighbours.is_clean (keeper_of l.fn.office);
   limit : l.read ≤ 16777216;

@@ -23,7 +23,7 @@ returns-in-Some-clause-goes g c = λ clean.
     let turned = subst (Turns (Follows old) (Follows new) (MayLeave old) (MayLeave new) poll.conn poll.slot job) c.in-Some.is (c.in_ok-query.ensures.turned clean) in
     let asked = c.note_query.ensures.asked in
     asked_on old new poll c.note_query.new.self job c.in-Some.query next c.requires.room turned.0 turned.1
-    (record { same = record { conn = asked.same.conn; slot = asked.same.slot; jobs = asked.same.jobs }; turned = asked.turned; first = asked.first; waiting = asked.waiting; round = asked.round })
+    (record { same = record { conn = asked.same.conn; slot = asked.same.slot; most = asked.same.most; jobs = asked.same.jobs }; turned = asked.turned; first = asked.first; waiting = asked.waiting; round = asked.round })
 
 pub returns-in-None-clause-goes : goal.returns-in-None-clause-goes
 returns-in-None-clause-goes g c = λ clean.
@@ -35,7 +35,7 @@ returns-in-None-clause-goes g c = λ clean.
     let turned = subst (Turns (Follows old) (Follows new) (MayLeave old) (MayLeave new) poll.conn poll.slot job) c.in-None.is (c.in_ok-query.ensures.turned clean) in
     let passed = c.pass.ensures.passed in
     passed_on old new poll c.pass.new.self job next turned.0 turned.1
-    (record { same = record { conn = passed.same.conn; slot = passed.same.slot; jobs = passed.same.jobs }; turned = passed.turned; first = passed.first; waiting = passed.waiting; round = passed.round })
+    (record { same = record { conn = passed.same.conn; slot = passed.same.slot; most = passed.same.most; jobs = passed.same.jobs }; turned = passed.turned; first = passed.first; waiting = passed.waiting; round = passed.round })
 
 pub returns-in_err-query-clause-goes : goal.returns-in_err-query-clause-goes
 returns-in_err-query-clause-goes g c = λ clean.
@@ -47,7 +47,7 @@ returns-in_err-query-clause-goes g c = λ clean.
     let e = c.in_err-query.field-0.0 in
     err_so c.from_residual.result _ _ (fault_by e) c.from_residual.ensures.1
     (turn_breaks old new poll _ job e (fault_by e) next
-    (λ start moves after. record { conn = after.conn; slot = after.slot; jobs = after.jobs; turned = after.turned; run = after.run; counts = after.counts; waiting = after.waiting; first = after.first; made = after.made })
+    (λ start moves after. record { conn = after.conn; slot = after.slot; most = after.most; jobs = after.jobs; turned = after.turned; run = after.run; counts = after.counts; waiting = after.waiting; first = after.first; made = after.made })
     (c.in_err-query.ensures.turned clean) refl)
 
 pub returns-in-Some-clause-along : goal.returns-in-Some-clause-along
