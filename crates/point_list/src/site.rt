@@ -40,7 +40,8 @@ impl Line {
         }
     }
 
-    /// The same line, of which so many queries may wait.
+    /// The same line, of which so many queries may wait. A site that has one with another number than 1
+    /// to `MOST_OUTSTANDING` isn't sound.
     pub fn with_outstanding(mut self, outstanding: u8) -> Line
         ensures { result ≡ record self { outstanding = outstanding } }
     {
