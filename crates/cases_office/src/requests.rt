@@ -76,7 +76,7 @@ fn told(alloc: Global, asked: &Heard) -> Result<String, AllocError> {
     }
 }
 
-/// More bytes than these don't come one by one, since all that came so far is judged anew with each piece.
+/// More bytes than these don't come one by one, since a head is judged anew with each piece.
 const MOST_ONE_BY_ONE: usize = 1000;
 
 /// What bytes ask for that come cut in some way, and then end.

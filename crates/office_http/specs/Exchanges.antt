@@ -1,9 +1,9 @@
 -- The bytes of a connection so far.
 use Rattle.std.specs.Prelude.{ℕ, List}
-use Rattle.office_http.specs.declared.exchange.Exchange.{Exchange}
 
-abbrev pub bytes_of : Exchange → List ℕ
-bytes_of exchange = exchange.bytes.items
+-- what contracts see of an exchange
+pub record Arrived : Type 0 where
+  pub bytes : List ℕ
 
-abbrev pub due_of : Exchange → ℕ
-due_of exchange = exchange.due
+abbrev pub bytes_of : Arrived → List ℕ
+bytes_of arrived = arrived.bytes

@@ -1,5 +1,5 @@
 -- What is known of a request of which a front came.
-use Rattle.std.specs.Prelude.{ℕ, ◌<◌, ◌≤◌, ⊤, List, ◌++◌, length, Option, Some, None}
+use Rattle.std.specs.Prelude.{ℕ, ◌<◌, ⊤, List, length, Option, Some, None}
 use Rattle.office_http.specs.declared.heard.Heard.{Heard}
 use Rattle.office_http.specs.Heard.{meaning_of}
 use Rattle.office_http.specs.Deciding.{Decides, Lacks}
@@ -13,13 +13,3 @@ Judges input None = Lacks input
 abbrev pub IsShort : List ℕ → Option Heard → Type 0
 IsShort input (Some asked) = ⊤
 IsShort input None = length input < 270336
-
--- no whole request is there before so many bytes are
-abbrev pub Waits : List ℕ → ℕ → Type 0
-Waits input until = (more : List ℕ) → length (input ++ more) < until → Lacks (input ++ more)
-
--- the same, of bytes that are fewer, and never more than a whole head and a whole body have together
-pub record IsDue (input : List ℕ) (until : ℕ) : Type 0 where
-  pub waits : Waits input until
-  pub ahead : length input < until
-  pub near : until ≤ 270336

@@ -1,30 +1,37 @@
 //! A request, of which pieces come.
-ghost use Rattle.std.specs.Prelude.{◌≡◌, ◌++◌, ◌<◌, ◌≤◌, ◌↔◌, [], IfOk, IsTrue, OnErr, OnOk, length};
+ghost use Rattle.std.specs.Prelude.{◌≡◌, ◌++◌, ◌↔◌, [], IfOk, IsTrue, OnErr, OnOk};
 ghost use Rattle.office_http.specs.Deciding.{Lacks, Means};
+ghost use Rattle.office_http.specs.Exchanges.{bytes_of};
 ghost use Rattle.office_http.specs.Head.{BeginsWithHead};
 ghost use Rattle.office_http.specs.Heard.{meaning_of};
-ghost use Rattle.office_http.specs.Judging.{IsShort, Judges, Waits};
+ghost use Rattle.office_http.specs.Judging.{IsShort, Judges};
 
-use crate::head::begins_with_head;
 use crate::heard::{Heard, Refusal};
-use crate::verdict::{Verdict, judge};
+use crate::stage::{Stage, go_on};
 use std::alloc::{AllocError, Global};
+use std::marker::Model;
 
-/// A connection's request, of which pieces come.
+/// A connection's request, of which pieces come. Contracts see the bytes that came.
 #[derive(Drop)]
 pub struct Exchange {
     alloc: Global,
     bytes: Vec<u8>,
-    /// No whole request is there before so many bytes are.
-    due: usize,
-    ghost some: { 0 < due },
-    ghost near: { due ≤ 270336 },
-    ghost waits: { Waits bytes.items due },
+    stage: Stage,
+}
+
+impl Model for Exchange {
+    ghost use Rattle.office_http.specs.Exchanges.{Arrived};
+
+    ghost Value = { Arrived };
+
+    ghost use Rattle.office_http.specs.Stages.{IsAt};
+
+    ghost view = { λ e. record { bytes = e.bytes.items } };
+
+    ghost invariant = { λ e. IsAt e.bytes.items e.stage };
 }
 
 impl Exchange {
-    ghost use Rattle.office_http.specs.Exchanges.{bytes_of, due_of};
-
     pub fn new(alloc: Global) -> Exchange
         ensures bytes { bytes_of result ≡ [] }
         ensures lacks { Lacks (bytes_of result) }
@@ -32,25 +39,7 @@ impl Exchange {
         Exchange {
             alloc,
             bytes: Vec::new(alloc),
-            due: 1,
-        }
-    }
-
-    /// Judges the bytes. Where a request lacks some, there is room for them then.
-    fn judge(&mut self) -> Result<Option<Heard>, AllocError>
-        requires { due_of self.old ≤ length (bytes_of self.old) }
-        ensures same { bytes_of self.new ≡ bytes_of self.old }
-        ensures asked { IfOk result (Judges (bytes_of self.old)) }
-        ensures short { IfOk result (IsShort (bytes_of self.old)) }
-        ensures memory { OnErr result (due_of self.new ≡ due_of self.old) }
-    {
-        match judge(self.alloc, &self.bytes)? {
-            Verdict::Known(asked) => Ok(Some(asked)),
-            Verdict::Lacks { until } => {
-                self.bytes.reserve(until - self.bytes.len())?;
-                self.due = until;
-                Ok(None)
-            }
+            stage: Stage::Headless,
         }
     }
 
@@ -64,10 +53,10 @@ impl Exchange {
     {
         let count = self.bytes.len();
         self.bytes.extend_from_slice(piece)?;
-        if self.bytes.len() < self.due {
+        if self.bytes.is_empty() {
             return Ok(None);
         }
-        let asked = self.judge();
+        let asked = go_on(self.alloc, &mut self.bytes, &mut self.stage);
         if asked.is_err() {
             self.bytes.truncate(count);
         }
@@ -78,7 +67,11 @@ impl Exchange {
     pub fn has_head(&self) -> bool
         ensures { IsTrue result ↔ BeginsWithHead (bytes_of self.now) }
     {
-        begins_with_head(&self.bytes)
+        match self.stage {
+            Stage::Headless => false,
+            Stage::Headed => true,
+            Stage::InBody { .. } => true,
+        }
     }
 
     /// What is asked for where no more bytes come, and no whole request is there.

@@ -61,8 +61,6 @@ impl From<AllocError> for Gone {
 pub(crate) struct Caller {
     alloc: Global,
     exchange: Exchange,
-    // Whether its head is whole.
-    has_head: bool,
     mood: Mood,
     out: Outbox,
     // It came at this moment.
@@ -143,7 +141,6 @@ impl Caller {
         Caller {
             alloc,
             exchange: Exchange::new(alloc),
-            has_head: false,
             mood: Mood::Hearing,
             out: Outbox::new(alloc),
             since: now,
@@ -183,7 +180,7 @@ impl Caller {
 
     /// Whether its head isn't whole.
     fn is_in_head(&self) -> bool {
-        self.mood == Mood::Hearing && !self.has_head
+        self.mood == Mood::Hearing && !self.exchange.has_head()
     }
 
     /// What became of what it asked for since this was asked last.
@@ -255,10 +252,7 @@ impl Caller {
             (λ _. (session : Session) × Exchanges source office.old office.new (λ acts. acts ≡ []) (HearingOf (bytes_of self.old.exchange ++ piece.now)) session) }
     {
         match self.exchange.take(piece) {
-            Ok(None) => {
-                self.has_head = self.has_head || self.exchange.has_head();
-                Ok(())
-            }
+            Ok(None) => Ok(()),
             Ok(Some(heard)) => {
                 self.mood = Mood::Answering;
                 self.answer(office, &heard)
