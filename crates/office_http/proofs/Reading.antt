@@ -9,6 +9,7 @@ use Rattle.httparse.specs.declared.spans.HeaderSpan.{HeaderSpan}
 use Rattle.httparse.specs.declared.spans.RequestSpans.{RequestSpans}
 use Rattle.httparse.proofs.GrammarLemmas.{ReadsRequest-append, request_unique}
 use Rattle.office_http.specs.declared.heard.Refusal.TheVariants.{BadRequest}
+use Rattle.office_http.specs.declared.routes.Routes.{Routes}
 use Rattle.office_http.specs.Head.{BeginsWithHead, HasHead}
 use Rattle.office_http.specs.Heads.{IsAsked}
 use Rattle.office_http.specs.Meanings.{Meaning, refused, asked_of, with_body}
@@ -57,13 +58,13 @@ has_more : (bytes more : List ℕ) (h : RequestHead) (rest : List ℕ) → HasHe
 has_more bytes more h rest has = record { reads = ReadsRequest-append bytes h rest more has.reads; short = has.short; few = has.few }
 
 -- whatever a whole head asks for, another head that reads the same asks for too
-pub asked_once : (input : List ℕ) (h g : RequestHead) (rest more : List ℕ) (a b : Option Meaning) → ReadsRequest input h rest → ReadsRequest input g more → IsAsked h rest a → IsAsked g more b → a ≡ b
-asked_once input h g rest more a b reads others one two =
+pub asked_once : (routes : Routes) (input : List ℕ) (h g : RequestHead) (rest more : List ℕ) (a b : Option Meaning) → ReadsRequest input h rest → ReadsRequest input g more → IsAsked routes h rest a → IsAsked routes g more b → a ≡ b
+asked_once routes input h g rest more a b reads others one two =
     let same = request_unique input h g rest more reads others in
-    let P : RequestHead → Type 0 = λ k. IsAsked k more b in
-    let Q : List ℕ → Type 0 = λ r. IsAsked h r b in
+    let P : RequestHead → Type 0 = λ k. IsAsked routes k more b in
+    let Q : List ℕ → Type 0 = λ r. IsAsked routes h r b in
     let it = subst Q (sym same.1) (subst P (sym same.0) two) in
-    let place = names_once h.target one.place it.place one.names it.names in
+    let place = names_once routes h.target one.place it.place one.names it.names in
     sym one.is ∙ ap (λ p. asked_of p h.method (map name_and_value h.fields) rest) place ∙ it.is
 
 head_not_empty : (h : RequestHead) → 0 < length h.target → 0 < length (print_request h)
@@ -80,32 +81,32 @@ headless_empty begins =
     omega (arith, n, l, e)
 
 -- bytes that begin with no head hold no whole request
-pub lacks_headless : (bytes : List ℕ) → (BeginsWithHead bytes → ⊥) → Lacks bytes
-lacks_headless bytes none = λ m w. none (w.head, w.rest, w.has)
+pub lacks_headless : (routes : Routes) (bytes : List ℕ) → (BeginsWithHead bytes → ⊥) → Lacks routes bytes
+lacks_headless routes bytes none = λ m w. none (w.head, w.rest, w.has)
 
-pub lacks_none : (bytes : List ℕ) → length bytes ≡ 0 → Lacks bytes
-lacks_none [] none = lacks_headless [] headless_empty
-lacks_none (byte ∷ bytes) none = absurd (omega (arith, none))
+pub lacks_none : (routes : Routes) (bytes : List ℕ) → length bytes ≡ 0 → Lacks routes bytes
+lacks_none routes [] none = lacks_headless routes [] headless_empty
+lacks_none routes (byte ∷ bytes) none = absurd (omega (arith, none))
 
 -- ---- what a head at the front asks for
 
 -- a front that has one
-pub asks_in : (bytes : List ℕ) (n : ℕ) (headers : List HeaderSpan) (spans : RequestSpans) (asked : List ℕ → Option Meaning) → n ≤ 8192 → length headers ≤ 32
+pub asks_in : (routes : Routes) (bytes : List ℕ) (n : ℕ) (headers : List HeaderSpan) (spans : RequestSpans) (asked : List ℕ → Option Meaning) → n ≤ 8192 → length headers ≤ 32
     → IsRequestOf (take n bytes) headers spans → IsRequestWithin (take n bytes) headers spans
-    → ((h : RequestHead) → IsRequestAt (take n bytes) headers spans h → (rest : List ℕ) → IsAsked h rest (asked rest)) → Asks bytes spans.len asked
-asks_in bytes n headers spans asked limit few of within asks = record {
+    → ((h : RequestHead) → IsRequestAt (take n bytes) headers spans h → (rest : List ℕ) → IsAsked routes h rest (asked rest)) → Asks routes bytes spans.len asked
+asks_in routes bytes n headers spans asked limit few of within asks = record {
   inside = let fits = within.section.len_fits in omega (arith, fits, length-take n bytes);
   head = of.0;
   has = has_head_in bytes n headers spans of.0 limit few of.1 within;
   asks = asks of.0 of.1;
 }
 
-module _ (bytes : List ℕ) (len : ℕ) (asked : List ℕ → Option Meaning) (asks : Asks bytes len asked) where
+module _ (routes : Routes) (bytes : List ℕ) (len : ℕ) (asked : List ℕ → Option Meaning) (asks : Asks routes bytes len asked) where
   pub asks_headed : BeginsWithHead bytes
   asks_headed = (asks.head, drop len bytes, asks.has)
 
   -- more bytes change nothing of it
-  pub asks_more : (more : List ℕ) → Asks (bytes ++ more) len asked
+  pub asks_more : (more : List ℕ) → Asks routes (bytes ++ more) len asked
   asks_more more = record {
     inside = let inside = asks.inside in omega (arith, inside, length-append bytes more);
     head = asks.head;
@@ -113,38 +114,38 @@ module _ (bytes : List ℕ) (len : ℕ) (asked : List ℕ → Option Meaning) (a
     asks = asks.asks;
   }
 
-  asks_whole : (m : Meaning) → asked (drop len bytes) ≡ Some m → IsWhole bytes m
+  asks_whole : (m : Meaning) → asked (drop len bytes) ≡ Some m → IsWhole routes bytes m
   asks_whole m is = record {
     head = asks.head;
     rest = drop len bytes;
     has = asks.has;
-    asked = subst (IsAsked asks.head (drop len bytes)) is (asks.asks (drop len bytes));
+    asked = subst (IsAsked routes asks.head (drop len bytes)) is (asks.asks (drop len bytes));
   }
 
-  asks_none : asked (drop len bytes) ≡ None → Lacks bytes
+  asks_none : asked (drop len bytes) ≡ None → Lacks routes bytes
   asks_none is = λ m w.
-      let none = subst (IsAsked asks.head (drop len bytes)) is (asks.asks (drop len bytes)) in
-      none-some m (asked_once bytes asks.head w.head (drop len bytes) w.rest None (Some m) asks.has.reads w.has.reads none w.asked)
+      let none = subst (IsAsked routes asks.head (drop len bytes)) is (asks.asks (drop len bytes)) in
+      none-some m (asked_once routes bytes asks.head w.head (drop len bytes) w.rest None (Some m) asks.has.reads w.has.reads none w.asked)
 
 -- what is asked for whatever stands behind the head
-pub decides_known : (bytes : List ℕ) (len : ℕ) (asked : List ℕ → Option Meaning) (m : Meaning) → ((rest : List ℕ) → asked rest ≡ Some m) → Asks bytes len asked → Decides bytes m
-decides_known bytes len asked m is asks = λ more. inl (asks_whole (bytes ++ more) len asked (asks_more bytes len asked asks more) m (is (drop len (bytes ++ more))))
+pub decides_known : (routes : Routes) (bytes : List ℕ) (len : ℕ) (asked : List ℕ → Option Meaning) (m : Meaning) → ((rest : List ℕ) → asked rest ≡ Some m) → Asks routes bytes len asked → Decides routes bytes m
+decides_known routes bytes len asked m is asks = λ more. inl (asks_whole routes (bytes ++ more) len asked (asks_more routes bytes len asked asks more) m (is (drop len (bytes ++ more))))
 
-module _ (bytes : List ℕ) (start count : ℕ) (make : List ℕ → Meaning) (asks : Asks bytes start (λ rest. with_body make rest (Of count))) where
+module _ (routes : Routes) (bytes : List ℕ) (start count : ℕ) (make : List ℕ → Meaning) (asks : Asks routes bytes start (λ rest. with_body make rest (Of count))) where
   -- a body that is there
-  pub decides_body : start + count ≤ length bytes → Decides bytes (make (take count (drop start bytes)))
+  pub decides_body : start + count ≤ length bytes → Decides routes bytes (make (take count (drop start bytes)))
   decides_body enough = λ more.
       let behind : count ≤ length (drop start bytes) = omega (arith, enough, length-drop start bytes) in
       let asked : List ℕ → Option Meaning = λ rest. with_body make rest (Of count) in
       let is = ap asked (drop_front start bytes more asks.inside) ∙ body_whole make count (drop start bytes) more behind in
-      inl (asks_whole (bytes ++ more) start asked (asks_more bytes start asked asks more) (make (take count (drop start bytes))) is)
+      inl (asks_whole routes (bytes ++ more) start asked (asks_more routes bytes start asked asks more) (make (take count (drop start bytes))) is)
 
   -- and one that lacks bytes
-  pub lacks_body : length bytes < start + count → Lacks bytes
+  pub lacks_body : length bytes < start + count → Lacks routes bytes
   lacks_body few =
       let inside = asks.inside in
       let behind : length (drop start bytes) < count = omega (arith, few, inside, length-drop start bytes) in
-      asks_none bytes start (λ rest. with_body make rest (Of count)) asks (body_lacks make count (drop start bytes) behind)
+      asks_none routes bytes start (λ rest. with_body make rest (Of count)) asks (body_lacks make count (drop start bytes) behind)
 
 -- ---- what a front without a head is
 
@@ -197,15 +198,15 @@ pub headless_over : (bytes : List ℕ) (n : ℕ) → RequestOverflows 32 (take n
 headless_over bytes n over begins = headless_refused (take n bytes) (drop n bytes) begins.0 begins.1 over (in_front bytes n begins.0 begins.1 begins.2)
 
 -- a full front without a head: whatever follows, the request is bad
-pub decided_full : (bytes : List ℕ) (n : ℕ) → 0 < length bytes → length (take n bytes) ≡ 8192 → HasNoRequest (take n bytes) → Decides bytes (refused BadRequest)
-decided_full bytes n some full none = λ more. inr (
+pub decided_full : (routes : Routes) (bytes : List ℕ) (n : ℕ) → 0 < length bytes → length (take n bytes) ≡ 8192 → HasNoRequest (take n bytes) → Decides routes bytes (refused BadRequest)
+decided_full routes bytes n some full none = λ more. inr (
   λ m w. headless_full (take n bytes) (drop n bytes ++ more) w.head w.rest full none (in_more bytes n more w.head w.rest w.has),
   inr (some_bytes bytes more some, refl),
 )
 
 -- a front that no head within the limits begins: the same
-pub decided_refused : (bytes : List ℕ) (n : ℕ) → 0 < length bytes → RequestOverflows 32 (take n bytes) → Decides bytes (refused BadRequest)
-decided_refused bytes n some over = λ more. inr (
+pub decided_refused : (routes : Routes) (bytes : List ℕ) (n : ℕ) → 0 < length bytes → RequestOverflows 32 (take n bytes) → Decides routes bytes (refused BadRequest)
+decided_refused routes bytes n some over = λ more. inr (
   λ m w. headless_refused (take n bytes) (drop n bytes ++ more) w.head w.rest over (in_more bytes n more w.head w.rest w.has),
   inr (some_bytes bytes more some, refl),
 )

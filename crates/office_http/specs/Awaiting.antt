@@ -7,6 +7,7 @@ use Rattle.office_http.specs.declared.asked.Awaited.{Awaited}
 use Rattle.office_http.specs.declared.asked.Purpose.{Purpose}
 use Rattle.office_http.specs.declared.asked.Purpose.TheVariants as purpose
 use Rattle.office_http.specs.declared.fields.Length.TheVariants.{Of}
+use Rattle.office_http.specs.declared.routes.Routes.{Routes}
 use Rattle.office_http.specs.Head.{HasHead}
 use Rattle.office_http.specs.Heads.{IsAsked}
 use Rattle.office_http.specs.Heard.{meaning_of}
@@ -28,9 +29,9 @@ abbrev pub asked_with : Head → List ℕ → Option Meaning
 asked_with (Known heard) rest = Some (meaning_of heard)
 asked_with (Awaits awaited) rest = with_body (made_by awaited) rest (Of awaited.count)
 
--- the bytes begin with a head of so many bytes, within the limits, which asks for that with the bytes behind it
-pub record Asks (input : List ℕ) (len : ℕ) (asked : List ℕ → Option Meaning) : Type 0 where
+-- the bytes begin with a head of so many bytes, within the limits, which asks for that of these routes with the bytes behind it
+pub record Asks (routes : Routes) (input : List ℕ) (len : ℕ) (asked : List ℕ → Option Meaning) : Type 0 where
   pub inside : len ≤ length input
   pub head : RequestHead
   pub has : HasHead input head (drop len input)
-  pub asks : (rest : List ℕ) → IsAsked head rest (asked rest)
+  pub asks : (rest : List ℕ) → IsAsked routes head rest (asked rest)

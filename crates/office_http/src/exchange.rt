@@ -1,20 +1,23 @@
 //! A request, of which pieces come.
 ghost use Rattle.std.specs.Prelude.{◌≡◌, ◌++◌, ◌↔◌, [], IfOk, IsTrue, OnErr, OnOk};
 ghost use Rattle.office_http.specs.Deciding.{Lacks, Means};
-ghost use Rattle.office_http.specs.Exchanges.{bytes_of};
+ghost use Rattle.office_http.specs.Exchanges.{bytes_of, routes_of};
 ghost use Rattle.office_http.specs.Head.{BeginsWithHead};
 ghost use Rattle.office_http.specs.Heard.{meaning_of};
 ghost use Rattle.office_http.specs.Judging.{IsShort, Judges};
 
 use crate::heard::{Heard, Refusal};
+use crate::routes::Routes;
 use crate::stage::{Stage, go_on};
 use std::alloc::{AllocError, Global};
 use std::marker::Model;
 
-/// A connection's request, of which pieces come. Contracts see the bytes that came.
+/// A connection's request, of which pieces come. Contracts see the routes that it offers, and the
+/// bytes that came.
 #[derive(Drop)]
 pub struct Exchange {
     alloc: Global,
+    routes: Routes,
     bytes: Vec<u8>,
     stage: Stage,
 }
@@ -26,18 +29,21 @@ impl Model for Exchange {
 
     ghost use Rattle.office_http.specs.Stages.{IsAt};
 
-    ghost view = { λ e. record { bytes = e.bytes.items } };
+    ghost view = { λ e. record { routes = e.routes; bytes = e.bytes.items } };
 
-    ghost invariant = { λ e. IsAt e.bytes.items e.stage };
+    ghost invariant = { λ e. IsAt e.routes e.bytes.items e.stage };
 }
 
 impl Exchange {
-    pub fn new(alloc: Global) -> Exchange
+    /// Of which nothing came, where these routes are offered.
+    pub fn new(alloc: Global, routes: Routes) -> Exchange
+        ensures routes { routes_of result ≡ routes }
         ensures bytes { bytes_of result ≡ [] }
-        ensures lacks { Lacks (bytes_of result) }
+        ensures lacks { Lacks (routes_of result) (bytes_of result) }
     {
         Exchange {
             alloc,
+            routes,
             bytes: Vec::new(alloc),
             stage: Stage::Headless,
         }
@@ -46,8 +52,9 @@ impl Exchange {
     /// Takes a piece, and tells what is asked for, as soon as that is known whatever follows; `None`
     /// while no whole request is there: then fewer than 270,336 bytes came.
     pub fn take(&mut self, piece: &[u8]) -> Result<Option<Heard>, AllocError>
+        ensures same { routes_of self.new ≡ routes_of self.old }
         ensures taken { OnOk result (bytes_of self.new ≡ bytes_of self.old ++ piece.now) }
-        ensures asked { IfOk result (Judges (bytes_of self.new)) }
+        ensures asked { IfOk result (Judges (routes_of self.new) (bytes_of self.new)) }
         ensures short { IfOk result (IsShort (bytes_of self.new)) }
         ensures memory { OnErr result (bytes_of self.new ≡ bytes_of self.old) }
     {
@@ -56,7 +63,7 @@ impl Exchange {
         if self.bytes.is_empty() {
             return Ok(None);
         }
-        let asked = go_on(self.alloc, &mut self.bytes, &mut self.stage);
+        let asked = go_on(self.alloc, self.routes, &mut self.bytes, &mut self.stage);
         if asked.is_err() {
             self.bytes.truncate(count);
         }
@@ -76,7 +83,7 @@ impl Exchange {
 
     /// What is asked for where no more bytes come, and no whole request is there.
     pub fn end(&self) -> Heard
-        ensures { Lacks (bytes_of self.now) → Means (bytes_of self.now) (meaning_of result) }
+        ensures { Lacks (routes_of self.now) (bytes_of self.now) → Means (routes_of self.now) (bytes_of self.now) (meaning_of result) }
     {
         if self.bytes.is_empty() {
             Heard::Nothing

@@ -8,7 +8,7 @@ ghost use Rattle.office_http.specs.Heard.{meaning_of};
 ghost use Rattle.office_http.specs.Found.{place_of};
 ghost use Rattle.office_http.specs.declared.heard.Methods.TheVariants.{Put};
 ghost use Rattle.office_http.specs.declared.heard.Refusal.TheVariants.{BadRequest, NotAllowed};
-ghost use Rattle.office_http.specs.Meanings.{are_words, asked_at, asked_of, in_range, is_get, is_put, order_under, refused, total_of, with_body};
+ghost use Rattle.office_http.specs.Meanings.{are_words, asked_at, asked_of, in_range, is_get, is_put, order_under, readings_of, refused, report_of, total_of, with_body};
 ghost use Rattle.office_http.specs.Numbers.{range_of, slot_of};
 ghost use Rattle.office_http.specs.Places as place;
 
@@ -108,12 +108,24 @@ fn get_order(caller: &str, key: &str) -> Heard
 }
 
 fn get_readings(alloc: Global, point: &str, from: &str, to: &str) -> Result<Heard, AllocError>
-    ensures { IfOk result (λ asked. meaning_of asked ≡ in_range point.now (range_of (slot_of from.now) (slot_of to.now))) }
+    ensures { IfOk result (λ asked. meaning_of asked ≡ in_range (readings_of point.now) (range_of (slot_of from.now) (slot_of to.now))) }
 {
     match range_of(from, to) {
         Some((from, to)) => {
             let point = String::from_str(alloc, point)?;
             Ok(Heard::Readings { point, from, to })
+        }
+        None => Ok(Heard::Refused(Refusal::BadRequest)),
+    }
+}
+
+fn get_report(alloc: Global, point: &str, from: &str, to: &str) -> Result<Heard, AllocError>
+    ensures { IfOk result (λ asked. meaning_of asked ≡ in_range (report_of point.now) (range_of (slot_of from.now) (slot_of to.now))) }
+{
+    match range_of(from, to) {
+        Some((from, to)) => {
+            let point = String::from_str(alloc, point)?;
+            Ok(Heard::Report { point, from, to })
         }
         None => Ok(Heard::Refused(Refusal::BadRequest)),
     }
@@ -181,5 +193,8 @@ pub(crate) fn asked_at(
             Ok(Asked::Known(get_readings(alloc, point, from, to)?))
         }
         Place::Total { point } => Ok(Asked::Known(get_total(alloc, point)?)),
+        Place::Report { point, from, to } => {
+            Ok(Asked::Known(get_report(alloc, point, from, to)?))
+        }
     }
 }

@@ -27,4 +27,5 @@ mod void;
 pub use exchange::Exchange;
 pub use heard::{Heard, Methods, Refusal};
 pub use reading_body::Shown;
+pub use routes::Routes;
 pub use status::Status;

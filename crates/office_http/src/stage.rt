@@ -4,10 +4,12 @@ ghost use Rattle.office_http.specs.Awaiting.{Asks, asked_with};
 ghost use Rattle.office_http.specs.Judging.{IsShort, Judges};
 ghost use Rattle.office_http.specs.Stages.{IsAt, IsPast};
 ghost use Rattle.office_http.specs.declared.asked.Asked.TheVariants.{Awaits};
+ghost use Rattle.office_http.specs.declared.routes.Routes.{Routes as Offered};
 
 use crate::asked::Awaited;
 use crate::body::heard_in;
 use crate::heard::{Heard, Refusal};
+use crate::routes::Routes;
 use crate::verdict::{Verdict, judge};
 use std::alloc::{AllocError, Global};
 
@@ -29,10 +31,9 @@ fn judge_body(
     start: usize,
     awaited: &Awaited,
 ) -> Result<Option<Heard>, AllocError>
-    requires limit { start ≤ 8192 }
-    requires asks { Asks bytes.old.items start (asked_with (Awaits awaited.now)) }
+    requires { start ≤ 8192 }
     ensures same { bytes.new.items ≡ bytes.old.items }
-    ensures asked { IfOk result (Judges bytes.old.items) }
+    ensures asked { IfOk result (λ asked. (routes : Offered) → Asks routes bytes.old.items start (asked_with (Awaits awaited.now)) → Judges routes bytes.old.items asked) }
     ensures short { IfOk result (IsShort bytes.old.items) }
 {
     let end = start + awaited.count;
@@ -47,17 +48,18 @@ fn judge_body(
 /// Judges a request from its head on.
 fn judge_head(
     alloc: Global,
+    routes: Routes,
     bytes: &mut Vec<u8>,
     stage: &mut Stage,
 ) -> Result<Option<Heard>, AllocError>
     requires { 0 < length bytes.old.items }
     ensures same { bytes.new.items ≡ bytes.old.items }
-    ensures at { OnOk result (IsAt bytes.old.items stage.new) }
+    ensures at { OnOk result (IsAt routes bytes.old.items stage.new) }
     ensures memory { OnErr result (stage.new ≡ stage.old) }
-    ensures asked { IfOk result (Judges bytes.old.items) }
+    ensures asked { IfOk result (Judges routes bytes.old.items) }
     ensures short { IfOk result (IsShort bytes.old.items) }
 {
-    match judge(alloc, bytes)? {
+    match judge(alloc, routes, bytes)? {
         Verdict::Partial => {
             *stage = Stage::Headless;
             Ok(None)
@@ -81,19 +83,20 @@ fn judge_head(
 /// Judges the bytes, of which some are new: the head once it is whole, then the body once it is.
 pub(crate) fn go_on(
     alloc: Global,
+    routes: Routes,
     bytes: &mut Vec<u8>,
     stage: &mut Stage,
 ) -> Result<Option<Heard>, AllocError>
     requires some { 0 < length bytes.old.items }
-    requires past { IsPast bytes.old.items stage.old }
+    requires past { IsPast routes bytes.old.items stage.old }
     ensures same { bytes.new.items ≡ bytes.old.items }
-    ensures at { OnOk result (IsAt bytes.old.items stage.new) }
+    ensures at { OnOk result (IsAt routes bytes.old.items stage.new) }
     ensures memory { OnErr result (stage.new ≡ stage.old) }
-    ensures asked { IfOk result (Judges bytes.old.items) }
+    ensures asked { IfOk result (Judges routes bytes.old.items) }
     ensures short { IfOk result (IsShort bytes.old.items) }
 {
     match stage {
         Stage::InBody { start, awaited } => judge_body(alloc, bytes, *start, awaited),
-        Stage::Headless | Stage::Headed => judge_head(alloc, bytes, stage),
+        Stage::Headless | Stage::Headed => judge_head(alloc, routes, bytes, stage),
     }
 }

@@ -11,7 +11,7 @@ use crate::head::{Judged, MOST_FIELDS, MOST_HEAD, judge_head};
 use crate::heard::{Heard, Refusal};
 use crate::judge::{Head, asked_at};
 use crate::place::place_of;
-use crate::routes::routes;
+use crate::routes::{Routes, router_of};
 use httparse::spans::{EMPTY_HEADER_SPAN, HeaderSpan, RequestSpans};
 use std::alloc::{AllocError, Global};
 use std::str;
@@ -32,6 +32,7 @@ pub(crate) enum Verdict {
 /// What a whole head at the front of the bytes asks for.
 fn asked_by_head(
     alloc: Global,
+    routes: Routes,
     front: &[u8],
     fields: &[HeaderSpan],
     spans: RequestSpans,
@@ -39,9 +40,9 @@ fn asked_by_head(
     requires reads { IsRequestOf front.now fields.now spans }
     requires within { IsRequestWithin front.now fields.now spans }
     ensures { IfOk result (λ asked. (head : RequestHead) → IsRequestAt front.now fields.now spans head
-        → (rest : List ℕ) → IsAsked head rest (asked_with asked rest)) }
+        → (rest : List ℕ) → IsAsked routes head rest (asked_with asked rest)) }
 {
-    let router = routes(alloc)?;
+    let router = router_of(alloc, routes)?;
     let Ok(target) = str::from_utf8(spans.path.of(front)) else {
         return Ok(Asked::Known(Heard::Refused(Refusal::NotFound)));
     };
@@ -54,14 +55,14 @@ fn asked_by_head(
 }
 
 /// What is known of the bytes so far by their head.
-pub(crate) fn judge(alloc: Global, bytes: &[u8]) -> Result<Verdict, AllocError>
+pub(crate) fn judge(alloc: Global, routes: Routes, bytes: &[u8]) -> Result<Verdict, AllocError>
     requires { 0 < length bytes.now }
-    ensures { IfOk result (IsJudged bytes.now) }
+    ensures { IfOk result (IsJudged routes bytes.now) }
 {
     let mut fields = [EMPTY_HEADER_SPAN; MOST_FIELDS];
     let front = &bytes[..bytes.len().min(MOST_HEAD)];
     match judge_head(front, &mut fields) {
-        Judged::Whole(spans) => match asked_by_head(alloc, front, &fields, spans)? {
+        Judged::Whole(spans) => match asked_by_head(alloc, routes, front, &fields, spans)? {
             Asked::Known(heard) => Ok(Verdict::Known(heard)),
             Asked::Awaits(awaited) => {
                 let start = spans.len;

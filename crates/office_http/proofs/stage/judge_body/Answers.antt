@@ -9,7 +9,7 @@ pub returns-then-len-end-clause-asked : goal.returns-then-len-end-clause-asked
 returns-then-len-end-clause-asked c =
     let few = c.if-len-end.true in
     let len = c.len.ensures in
-    lacks_body c.args.bytes.now.items c.args.start c.args.awaited.now.count (made_by c.args.awaited.now) c.requires.asks (omega (arith, few, len))
+    λ routes asks. lacks_body routes c.args.bytes.now.items c.args.start c.args.awaited.now.count (made_by c.args.awaited.now) asks (omega (arith, few, len))
 
 pub returns-clause-asked : goal.returns-clause-asked
 returns-clause-asked c =
@@ -20,5 +20,5 @@ returns-clause-asked c =
     let len = c.len.ensures in
     let span : start + count - start ≡ count = omega arith in
     let body = ap (λ (bytes : List ℕ). slice_range bytes start (start + count)) c.deref.ensures.value ∙ ap (λ (n : ℕ). take n (drop start c.args.bytes.now.items)) span in
-    subst (Decides c.args.bytes.now.items) (sym (c.in_ok-heard.ensures ∙ ap make body))
-    (decides_body c.args.bytes.now.items start count make c.requires.asks (omega (arith, enough, len)))
+    λ routes asks. subst (Decides routes c.args.bytes.now.items) (sym (c.in_ok-heard.ensures ∙ ap make body))
+    (decides_body routes c.args.bytes.now.items start count make asks (omega (arith, enough, len)))

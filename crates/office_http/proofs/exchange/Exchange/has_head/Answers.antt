@@ -7,10 +7,10 @@ use Rattle.office_http.proofs.exchange.Exchange.has_head.Goals as goal
 
 pub returns-in-Headed : goal.returns-in-Headed
 returns-in-Headed c =
-    let at = subst (IsAt c.self.inside.bytes.items) c.in-Headed.is c.self.invariant in
+    let at = subst (IsAt c.self.inside.routes c.self.inside.bytes.items) c.in-Headed.is c.self.invariant in
     (λ _. subst BeginsWithHead (ap bytes_of c.self.view_is) at, λ _. refl)
 
 pub returns-in-InBody : goal.returns-in-InBody
 returns-in-InBody c =
-    let at = subst (IsAt c.self.inside.bytes.items) c.in-InBody.is c.self.invariant in
-    (λ _. subst BeginsWithHead (ap bytes_of c.self.view_is) (asks_headed c.self.inside.bytes.items c.in-InBody.start _ at.1), λ _. refl)
+    let at = subst (IsAt c.self.inside.routes c.self.inside.bytes.items) c.in-InBody.is c.self.invariant in
+    (λ _. subst BeginsWithHead (ap bytes_of c.self.view_is) (asks_headed c.self.inside.routes c.self.inside.bytes.items c.in-InBody.start _ at.1), λ _. refl)

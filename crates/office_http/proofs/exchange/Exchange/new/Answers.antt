@@ -8,4 +8,4 @@ pub invariant_of-result : goal.invariant_of-result
 invariant_of-result c = subst (λ (bytes : List ℕ). BeginsWithHead bytes → ⊥) (sym c.new.ensures.items) headless_empty
 
 pub returns-clause-lacks : goal.returns-clause-lacks
-returns-clause-lacks c = subst Lacks (sym c.new.ensures.items) (lacks_headless [] headless_empty)
+returns-clause-lacks c = subst (Lacks c.args.routes) (sym c.new.ensures.items) (lacks_headless c.args.routes [] headless_empty)
