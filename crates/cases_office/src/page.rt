@@ -4,6 +4,7 @@ use crate::wire::Devices;
 use crate::world::{Play, World};
 use crate::{console, excerpts, exchanges, peers, requests, sources, words};
 use case_pages::{Block, Outcomes, Player, Tally, Trouble, play_rows};
+use office_http::Routes;
 use std::alloc::Global;
 use std::cell::RefCell;
 
@@ -23,7 +24,8 @@ impl Outcomes for Rows<'_> {
     fn outcome(&mut self, input: &str) -> Result<String, Trouble> {
         match self.kind {
             "words" => words::job(self.alloc, input),
-            "requests" => requests::request(self.alloc, input),
+            "requests" => requests::request(self.alloc, Routes::Basic, input),
+            "requests of run" => requests::request(self.alloc, Routes::Extended, input),
             "beginnings" => requests::beginnings(self.alloc, input),
             "source" => sources::reads(self.alloc, input),
             _ => Err(Trouble::Page("no rows of this kind")),

@@ -2,7 +2,7 @@
 use crate::cut::Cut;
 use crate::shell::text_of;
 use case_pages::{Trouble, bytes_of};
-use office_http::{Exchange, Heard, Methods, Refusal};
+use office_http::{Exchange, Heard, Methods, Refusal, Routes};
 use poll_book::{Caller, Key};
 use std::alloc::{AllocError, Global};
 
@@ -73,20 +73,21 @@ fn told(alloc: Global, asked: &Heard) -> Result<String, AllocError> {
         }
         Heard::Readings { point, from, to } => { format!(in alloc; "readings {point} {from} {to}") }
         Heard::Total { point } => format!(in alloc; "total {point}"),
+        Heard::Report { point, from, to } => { format!(in alloc; "report {point} {from} {to}") }
     }
 }
 
-/// More bytes than these don't come one by one, since all that came so far is judged anew with each piece.
+/// More bytes than these don't come one by one, since a head is judged anew with each piece.
 const MOST_ONE_BY_ONE: usize = 1000;
 
-/// What bytes ask for that come cut in some way, and then end.
-fn taken(alloc: Global, bytes: &[u8], cut: Cut) -> Result<Heard, AllocError> {
+/// What bytes ask for of these routes that come cut in some way, and then end.
+fn taken(alloc: Global, routes: Routes, bytes: &[u8], cut: Cut) -> Result<Heard, AllocError> {
     let least = if bytes.len() > MOST_ONE_BY_ONE {
         MOST_ONE_BY_ONE
     } else {
         1
     };
-    let mut exchange = Exchange::new(alloc);
+    let mut exchange = Exchange::new(alloc, routes);
     let mut rest = bytes;
     for _ in 0..bytes.len() {
         let (part, behind) = rest.split_at(cut.next(rest.len()).max(least).min(rest.len()));
@@ -101,12 +102,12 @@ fn taken(alloc: Global, bytes: &[u8], cut: Cut) -> Result<Heard, AllocError> {
     Ok(exchange.end())
 }
 
-/// What is asked for, in words, by bytes that are whole, and cut.
-pub(crate) fn request(alloc: Global, input: &str) -> Result<String, Trouble> {
+/// What is asked for of these routes, in words, by bytes that are whole, and cut.
+pub(crate) fn request(alloc: Global, routes: Routes, input: &str) -> Result<String, Trouble> {
     let bytes = bytes_of(alloc, input)?;
-    let whole = told(alloc, &taken(alloc, &bytes, Cut::Whole)?)?;
+    let whole = told(alloc, &taken(alloc, routes, &bytes, Cut::Whole)?)?;
     for cut in [Cut::Halves, Cut::Bytes] {
-        let asked = told(alloc, &taken(alloc, &bytes, cut)?)?;
+        let asked = told(alloc, &taken(alloc, routes, &bytes, cut)?)?;
         if asked.as_str() != whole.as_str() {
             return Ok(format!(in alloc; "{whole}, but cut {asked}")?);
         }
@@ -121,7 +122,7 @@ pub(crate) fn beginnings(alloc: Global, input: &str) -> Result<String, Trouble> 
     let mut last = String::new(alloc);
     for length in 0..bytes.len() {
         let beginning = bytes.get(..length).unwrap_or(&[]);
-        let now = told(alloc, &taken(alloc, beginning, Cut::Whole)?)?;
+        let now = told(alloc, &taken(alloc, Routes::Basic, beginning, Cut::Whole)?)?;
         if now.as_str() != last.as_str() {
             write!(all, "; from {length} {now}")?;
             last = now;

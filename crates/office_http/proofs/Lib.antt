@@ -1,11 +1,10 @@
 mod Slashes
 mod Finding
-mod More
 mod OnePlace
-mod Lacking
-mod Worded
+mod Lengths
+mod WholeBodies
 mod Reading
-mod Judged
+mod Staging
 mod OneMeaning
 mod Utf8
 mod Readings

@@ -1,5 +1,6 @@
 -- All the bytes of a connection mean one thing.
 use Rattle.std.proofs.Common.{◌≡◌, inl, inr, ℕ, List, Option, Some, None, sym, ap, ◌∙◌}
+use Rattle.office_http.specs.declared.routes.Routes.{Routes}
 use Rattle.office_http.specs.Meanings.{Meaning, nothing}
 use Rattle.office_http.specs.Deciding.{IsWhole, Means, EndsAs}
 use Rattle.office_http.proofs.Reading.{asked_once}
@@ -8,8 +9,8 @@ abbrev or_nothing : Option Meaning → Meaning
 or_nothing None = nothing
 or_nothing (Some m) = m
 
-whole_once : (input : List ℕ) (a b : Meaning) → IsWhole input a → IsWhole input b → a ≡ b
-whole_once input a b x y = ap or_nothing (asked_once input x.head y.head x.rest y.rest (Some a) (Some b) x.has.reads y.has.reads x.asked y.asked)
+whole_once : (routes : Routes) (input : List ℕ) (a b : Meaning) → IsWhole routes input a → IsWhole routes input b → a ≡ b
+whole_once routes input a b x y = ap or_nothing (asked_once routes input x.head y.head x.rest y.rest (Some a) (Some b) x.has.reads y.has.reads x.asked y.asked)
 
 ends_once : (input : List ℕ) (a b : Meaning) → EndsAs input a → EndsAs input b → a ≡ b
 ends_once input a b x y = elim x [
@@ -23,10 +24,10 @@ ends_once input a b x y = elim x [
   ]
 ]
 
-pub one_meaning : (input : List ℕ) (a b : Meaning) → Means input a → Means input b → a ≡ b
-one_meaning input a b x y = elim x [
+pub one_meaning : (routes : Routes) (input : List ℕ) (a b : Meaning) → Means routes input a → Means routes input b → a ≡ b
+one_meaning routes input a b x y = elim x [
   | inl p ↦ elim y [
-    | inl q ↦ whole_once input a b p q
+    | inl q ↦ whole_once routes input a b p q
     | inr q ↦ absurd (q.0 a p)
   ]
   | inr p ↦ elim y [

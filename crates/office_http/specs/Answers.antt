@@ -24,14 +24,25 @@ status_text LengthRequired = codes "411 Length Required"
 status_text TooLarge = codes "413 Content Too Large"
 status_text Unprocessable = codes "422 Unprocessable Content"
 
+-- the type of a body (RFC 9110, section 8.3)
+abbrev pub json_type : List ℕ
+json_type = codes "application/json"
+
+abbrev pub text_type : List ℕ
+text_type = codes "text/plain; charset=utf-8"
+
 -- the whole answer of its parts; `allow` is a line of its own, or nothing
-abbrev pub answer_of_parts : List ℕ → ℕ → List ℕ → List ℕ → List ℕ
-answer_of_parts status len allow body =
-    codes "HTTP/1.1 " ++ status ++ codes "\r\nContent-Type: application/json\r\nContent-Length: " ++ decimal len
+abbrev pub answer_of_parts : List ℕ → List ℕ → ℕ → List ℕ → List ℕ → List ℕ
+answer_of_parts status kind len allow body =
+    codes "HTTP/1.1 " ++ status ++ codes "\r\nContent-Type: " ++ kind ++ codes "\r\nContent-Length: " ++ decimal len
     ++ codes "\r\nConnection: close\r\n" ++ allow ++ codes "\r\n" ++ body
 
 abbrev pub answer_text : Status → List ℕ → List ℕ → List ℕ
-answer_text status allow body = answer_of_parts (status_text status) (length body) allow body
+answer_text status allow body = answer_of_parts (status_text status) json_type (length body) allow body
+
+-- a text as it stands
+abbrev pub plain_answer : List ℕ → List ℕ
+plain_answer body = answer_of_parts (status_text Done) text_type (length body) [] body
 
 -- ---- bodies
 

@@ -1,25 +1,16 @@
 -- What is known of a request of which a front came.
-use Rattle.std.specs.Prelude.{ℕ, ◌<◌, ◌≤◌, ⊤, List, ◌++◌, length, Option, Some, None}
+use Rattle.std.specs.Prelude.{ℕ, ◌<◌, ⊤, List, length, Option, Some, None}
 use Rattle.office_http.specs.declared.heard.Heard.{Heard}
+use Rattle.office_http.specs.declared.routes.Routes.{Routes}
 use Rattle.office_http.specs.Heard.{meaning_of}
 use Rattle.office_http.specs.Deciding.{Decides, Lacks}
 
 -- it is known what is asked for, whatever follows; or no whole request is there
-abbrev pub Judges : List ℕ → Option Heard → Type 0
-Judges input (Some asked) = Decides input (meaning_of asked)
-Judges input None = Lacks input
+abbrev pub Judges : Routes → List ℕ → Option Heard → Type 0
+Judges routes input (Some asked) = Decides routes input (meaning_of asked)
+Judges routes input None = Lacks routes input
 
 -- where it isn't known what is asked for, the bytes are fewer than a whole head and a whole body have together
 abbrev pub IsShort : List ℕ → Option Heard → Type 0
 IsShort input (Some asked) = ⊤
 IsShort input None = length input < 270336
-
--- no whole request is there before so many bytes are
-abbrev pub Waits : List ℕ → ℕ → Type 0
-Waits input until = (more : List ℕ) → length (input ++ more) < until → Lacks (input ++ more)
-
--- the same, of bytes that are fewer, and never more than a whole head and a whole body have together
-pub record IsDue (input : List ℕ) (until : ℕ) : Type 0 where
-  pub waits : Waits input until
-  pub ahead : length input < until
-  pub near : until ≤ 270336

@@ -11,12 +11,13 @@ pub mod Documents
 pub mod Orders
 pub mod Voids
 pub mod Meanings
-pub mod Bodies
 pub mod Heads
 pub mod Deciding
 pub mod Heard
+pub mod Awaiting
 pub mod Judging
 pub mod Verdicts
+pub mod Stages
 pub mod Exchanges
 pub mod Answers
 pub mod Shown

@@ -10,7 +10,7 @@ use Rattle.office_http.specs.declared.heard.Refusal.TheVariants.{BadRequest, Not
 use Rattle.office_http.specs.Fields.{FieldText, length_of}
 use Rattle.office_http.specs.Numbers.{slot_of, range_of}
 use Rattle.office_http.specs.Orders.{order_of}
-use Rattle.office_http.specs.Places.{Place, orders, lists, voids, readings, total}
+use Rattle.office_http.specs.Places.{Place, orders, lists, voids, readings, total, report}
 use Rattle.office_http.specs.Voids.{void_of}
 
 pub data Meaning : Type 0 where
@@ -23,6 +23,7 @@ pub data Meaning : Type 0 where
   order_under : (caller key : List ℕ) → Meaning
   readings_of : (point : List ℕ) (from to : ℕ) → Meaning
   total_of : (point : List ℕ) → Meaning
+  report_of : (point : List ℕ) (from to : ℕ) → Meaning
 
 abbrev pub is_method : List ℕ → List ℕ → Bool
 is_method name method = pointwise nat_eq method name
@@ -50,9 +51,10 @@ abbrev pub voided : List ℕ → List ℕ → Option (List ℕ × ℕ) → Meani
 voided caller key (Some it) = void caller key it.0 it.1
 voided caller key None = refused BadRequest
 
-abbrev pub in_range : List ℕ → Option (ℕ × ℕ) → Meaning
-in_range point (Some range) = readings_of point range.0 range.1
-in_range point None = refused BadRequest
+-- what is asked for over a range of slots
+abbrev pub in_range : (ℕ → ℕ → Meaning) → Option (ℕ × ℕ) → Meaning
+in_range make (Some range) = make range.0 range.1
+in_range make None = refused BadRequest
 
 -- a caller and a key in their form
 abbrev pub are_words : List ℕ → List ℕ → Bool
@@ -71,8 +73,10 @@ asked_at (voids caller key) method fields rest =
     if is_put method then (if are_words caller key then with_body (λ body. voided caller key (void_of body)) rest (length_of fields) else Some (refused BadRequest))
     else Some (refused (NotAllowed Put))
 asked_at (readings point from to) method fields rest =
-    if is_get method then Some (in_range point (range_of (slot_of from) (slot_of to))) else Some (refused (NotAllowed Get))
+    if is_get method then Some (in_range (readings_of point) (range_of (slot_of from) (slot_of to))) else Some (refused (NotAllowed Get))
 asked_at (total point) method fields rest = if is_get method then Some (total_of point) else Some (refused (NotAllowed Get))
+asked_at (report point from to) method fields rest =
+    if is_get method then Some (in_range (report_of point) (range_of (slot_of from) (slot_of to))) else Some (refused (NotAllowed Get))
 
 abbrev pub asked_of : Option Place → List ℕ → List FieldText → List ℕ → Option Meaning
 asked_of (Some place) method fields rest = asked_at place method fields rest

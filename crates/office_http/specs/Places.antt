@@ -1,7 +1,8 @@
 -- What a target names.
 use Rattle.std.specs.Prelude.{◌≡◌, ℕ, ◌==◌, not, true, List, ◌∷◌, ◌++◌, codes, Option, Some, None}
 use Rattle.std.specs.List.{list_all}
-use Rattle.office_http.specs.declared.routes.Route.TheVariants.{Orders, Lists, Voids, Readings, Total}
+use Rattle.office_http.specs.declared.routes.Route.TheVariants.{Orders, Lists, Voids, Readings, Total, Report}
+use Rattle.office_http.specs.declared.routes.Routes.{Routes}
 use Rattle.office_http.specs.Routes.{route_of}
 
 pub data Place : Type 0 where
@@ -10,6 +11,7 @@ pub data Place : Type 0 where
   voids : (caller key : List ℕ) → Place
   readings : (point from to : List ℕ) → Place
   total : (point : List ℕ) → Place
+  report : (point from to : List ℕ) → Place
 
 -- no slash
 abbrev pub IsPlain : List ℕ → Type 0
@@ -19,16 +21,18 @@ IsPlain part = list_all (λ b. not (b == 47)) part ≡ true
 abbrev pub spell : List ℕ → List ℕ → List ℕ
 spell part more = part ++ 47 ∷ more
 
--- the target has the route of the place and spells its parts, none of which but the last may have a slash
-abbrev pub IsPlace : List ℕ → Place → Type 0
-IsPlace target (orders caller key) = (route_of target ≡ Some Orders) × (target ≡ codes "/callers/" ++ spell caller (codes "orders/" ++ key)) × IsPlain caller
-IsPlace target (lists caller key) = (route_of target ≡ Some Lists) × (target ≡ codes "/callers/" ++ spell caller (codes "lists/" ++ key)) × IsPlain caller
-IsPlace target (voids caller key) = (route_of target ≡ Some Voids) × (target ≡ codes "/callers/" ++ spell caller (codes "voids/" ++ key)) × IsPlain caller
-IsPlace target (readings point from to) =
-    (route_of target ≡ Some Readings) × (target ≡ codes "/points/" ++ spell point (codes "readings/" ++ spell from to)) × IsPlain point × IsPlain from
-IsPlace target (total point) = (route_of target ≡ Some Total) × (target ≡ codes "/points/" ++ (point ++ codes "/total"))
+-- the target has the route of the place, of those that are offered, and spells its parts, none of which but the last may have a slash
+abbrev pub IsPlace : Routes → List ℕ → Place → Type 0
+IsPlace routes target (orders caller key) = (route_of routes target ≡ Some Orders) × (target ≡ codes "/callers/" ++ spell caller (codes "orders/" ++ key)) × IsPlain caller
+IsPlace routes target (lists caller key) = (route_of routes target ≡ Some Lists) × (target ≡ codes "/callers/" ++ spell caller (codes "lists/" ++ key)) × IsPlain caller
+IsPlace routes target (voids caller key) = (route_of routes target ≡ Some Voids) × (target ≡ codes "/callers/" ++ spell caller (codes "voids/" ++ key)) × IsPlain caller
+IsPlace routes target (readings point from to) =
+    (route_of routes target ≡ Some Readings) × (target ≡ codes "/points/" ++ spell point (codes "readings/" ++ spell from to)) × IsPlain point × IsPlain from
+IsPlace routes target (total point) = (route_of routes target ≡ Some Total) × (target ≡ codes "/points/" ++ (point ++ codes "/total"))
+IsPlace routes target (report point from to) =
+    (route_of routes target ≡ Some Report) × (target ≡ codes "/points/" ++ spell point (codes "report/" ++ spell from to)) × IsPlain point × IsPlain from
 
 -- what was found in a target: this place, or that it names none
-abbrev pub Names : List ℕ → Option Place → Type 0
-Names target (Some place) = IsPlace target place
-Names target None = (place : Place) → IsPlace target place → ⊥
+abbrev pub Names : Routes → List ℕ → Option Place → Type 0
+Names routes target (Some place) = IsPlace routes target place
+Names routes target None = (place : Place) → IsPlace routes target place → ⊥

@@ -7,7 +7,9 @@ use Rattle.matchit.specs.Router.{RouteOf, route_from}
 use Rattle.matchit.specs.Seek.{first}
 use Rattle.matchit.specs.declared.error.InsertError.{InsertError}
 use Rattle.office_http.specs.declared.routes.Route.{Route}
-use Rattle.office_http.specs.declared.routes.Route.TheVariants.{Orders, Lists, Voids, Readings, Total}
+use Rattle.office_http.specs.declared.routes.Route.TheVariants.{Orders, Lists, Voids, Readings, Total, Report}
+use Rattle.office_http.specs.declared.routes.Routes.{Routes}
+use Rattle.office_http.specs.declared.routes.Routes.TheVariants.{Basic, Extended}
 
 abbrev pub with_scan : Result Scan InsertError → Route → RowsOf (RouteOf Route) → RowsOf (RouteOf Route)
 with_scan (Ok s) route rows = placed (s.pattern, route_from s route) rows
@@ -17,19 +19,28 @@ with_scan (Err e) route rows = rows
 abbrev pub with_route : List ℕ → Route → RowsOf (RouteOf Route) → RowsOf (RouteOf Route)
 with_route text route rows = with_scan (parse_route text) route rows
 
-abbrev pub caller_routes : RowsOf (RouteOf Route)
-caller_routes =
+-- these rows with the routes of callers
+abbrev pub caller_routes : RowsOf (RouteOf Route) → RowsOf (RouteOf Route)
+caller_routes rows =
     with_route (codes "/callers/{caller}/voids/{key}") Voids
-    (with_route (codes "/callers/{caller}/lists/{key}") Lists (with_route (codes "/callers/{caller}/orders/{key}") Orders []))
+    (with_route (codes "/callers/{caller}/lists/{key}") Lists (with_route (codes "/callers/{caller}/orders/{key}") Orders rows))
 
--- the routes of an office
-abbrev pub the_routes : RowsOf (RouteOf Route)
-the_routes = with_route (codes "/points/{point}/total") Total (with_route (codes "/points/{point}/readings/{from}/{to}") Readings caller_routes)
+-- and with those of points
+abbrev pub point_routes : RowsOf (RouteOf Route) → RowsOf (RouteOf Route)
+point_routes rows = with_route (codes "/points/{point}/total") Total (with_route (codes "/points/{point}/readings/{from}/{to}") Readings rows)
+
+abbrev pub basic_routes : RowsOf (RouteOf Route)
+basic_routes = point_routes (caller_routes [])
+
+-- the routes that are offered
+abbrev pub the_routes : Routes → RowsOf (RouteOf Route)
+the_routes Basic = basic_routes
+the_routes Extended = with_route (codes "/points/{point}/report/{from}/{to}") Report basic_routes
 
 abbrev pub value_of : Option (RouteOf Route) → Option Route
 value_of (Some r) = Some r.value
 value_of None = None
 
--- the route that matchit gives for a target
-abbrev pub route_of : List ℕ → Option Route
-route_of target = value_of (first the_routes target)
+-- the route that matchit gives for a target among these
+abbrev pub route_of : Routes → List ℕ → Option Route
+route_of routes target = value_of (first (the_routes routes) target)

@@ -1,6 +1,6 @@
 //! The bytes of an answer.
 ghost use Rattle.std.specs.Prelude.{◌≡◌, [], IfOk, codes, map, string_bytes};
-ghost use Rattle.office_http.specs.Answers.{answer_of_parts, answer_text, error_text, first_status, list_refused_text, methods_text, one_text, order_text, points_text, readings_text, refusal_text, total_text, unavailable_text, void_text};
+ghost use Rattle.office_http.specs.Answers.{answer_of_parts, answer_text, error_text, first_status, list_refused_text, methods_text, one_text, order_text, plain_answer, points_text, readings_text, refusal_text, total_text, unavailable_text, void_text};
 ghost use Rattle.office_http.specs.declared.status.Status.TheVariants.{Conflict, Done, Unprocessable};
 ghost use Rattle.office_http.specs.Shown.{shown};
 ghost use Rattle.poll_book.specs.declared.rows.OrderState.TheVariants.{Waiting};
@@ -18,15 +18,18 @@ use std::alloc::{AllocError, Global};
 fn whole(
     alloc: Global,
     status: &str,
+    kind: &str,
     length: usize,
     allow: &str,
     body: &str,
 ) -> Result<String, AllocError>
-    ensures { IfOk result (λ text. string_bytes text ≡ answer_of_parts status.now length allow.now body.now) }
+    ensures { IfOk result (λ text. string_bytes text ≡ answer_of_parts status.now kind.now length allow.now body.now) }
 {
     let mut text = String::from_str(alloc, "HTTP/1.1 ")?;
     text.push_str(status)?;
-    text.push_str("\r\nContent-Type: application/json\r\nContent-Length: ")?;
+    text.push_str("\r\nContent-Type: ")?;
+    text.push_str(kind)?;
+    text.push_str("\r\nContent-Length: ")?;
     let digits = length.to_string(alloc)?;
     text.push_str(digits.as_str())?;
     text.push_str("\r\nConnection: close\r\n")?;
@@ -39,7 +42,14 @@ fn whole(
 fn answer(alloc: Global, status: Status, allow: &str, body: &str) -> Result<String, AllocError>
     ensures { IfOk result (λ text. string_bytes text ≡ answer_text status allow.now body.now) }
 {
-    whole(alloc, status.text(), body.len(), allow, body)
+    whole(
+        alloc,
+        status.text(),
+        "application/json",
+        body.len(),
+        allow,
+        body,
+    )
 }
 
 fn error(alloc: Global, status: Status, allow: &str, text: &str) -> Result<String, AllocError>
@@ -153,6 +163,14 @@ pub fn total(alloc: Global, point: &str, total: &str) -> Result<String, AllocErr
 {
     let body = total_body(alloc, point, total)?;
     answer(alloc, Status::Done, "", body.as_str())
+}
+
+/// A text as it stands.
+pub fn plain(alloc: Global, text: &str) -> Result<String, AllocError>
+    ensures { IfOk result (λ answer. string_bytes answer ≡ plain_answer text.now) }
+{
+    let kind = "text/plain; charset=utf-8";
+    whole(alloc, Status::Done.text(), kind, text.len(), "", text)
 }
 
 /// Where the store or memory refused. It takes no memory.

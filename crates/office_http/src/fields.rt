@@ -76,7 +76,8 @@ fn length_of(value: &[u8]) -> Length
 /// The length of the body.
 pub(crate) fn body_length(bytes: &[u8], headers: &[HeaderSpan]) -> Length
     requires { All (IsHeaderWithin (length bytes.now)) headers.now }
-    ensures { result ≡ length_of (map (header_bytes bytes.now) headers.now) }
+    ensures length { result ≡ length_of (map (header_bytes bytes.now) headers.now) }
+    ensures limit { count_in result ≤ 262144 }
 {
     if count_named(bytes, headers, b"transfer-encoding") > 0 {
         return Length::Missing;
@@ -91,17 +92,5 @@ pub(crate) fn body_length(bytes: &[u8], headers: &[HeaderSpan]) -> Length
     match value_named(bytes, headers, b"content-length") {
         Some(value) => length_of(value),
         None => Length::Missing,
-    }
-}
-
-/// How many bytes the body has, if the fields give it a length.
-pub(crate) fn body_count(bytes: &[u8], headers: &[HeaderSpan]) -> usize
-    requires { All (IsHeaderWithin (length bytes.now)) headers.now }
-    ensures count { result ≡ count_in (length_of (map (header_bytes bytes.now) headers.now)) }
-    ensures limit { result ≤ 262144 }
-{
-    match body_length(bytes, headers) {
-        Length::Of(count) => count,
-        _ => 0,
     }
 }

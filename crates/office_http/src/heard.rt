@@ -65,4 +65,10 @@ pub enum Heard {
     Total {
         point: String,
     },
+    /// The report of a point, over the slots from the one to the other.
+    Report {
+        point: String,
+        from: u32,
+        to: u32,
+    },
 }

@@ -1,23 +1,21 @@
 //! What the parts of a request ask for.
-ghost use Rattle.std.specs.Prelude.{◌≡◌, ◌&&◌, ℕ, List, All, Some, None, IfOk, length, map, option_map, if◌then◌else◌};
+ghost use Rattle.std.specs.Prelude.{◌≡◌, ◌≤◌, ◌&&◌, ℕ, List, All, Some, None, IfOk, length, map, if◌then◌else◌};
 ghost use Rattle.httparse.specs.Spans.{header_bytes, IsHeaderWithin};
 ghost use Rattle.poll_book.specs.Callers.{is_caller, is_key};
-ghost use Rattle.office_http.specs.Bodies.{made_of};
-ghost use Rattle.office_http.specs.Heard.{meaning_in, meaning_of};
+ghost use Rattle.office_http.specs.Awaiting.{asked_with, made_for};
+ghost use Rattle.office_http.specs.Fields.{count_in, length_of};
+ghost use Rattle.office_http.specs.Heard.{meaning_of};
 ghost use Rattle.office_http.specs.Found.{place_of};
-ghost use Rattle.office_http.specs.declared.heard.Refusal.TheVariants.{BadRequest};
-ghost use Rattle.office_http.specs.Meanings.{are_words, asked_at, asked_of, in_range, is_get, is_put, load, order_under, ordered, refused, total_of, voided, with_body};
+ghost use Rattle.office_http.specs.declared.heard.Methods.TheVariants.{Put};
+ghost use Rattle.office_http.specs.declared.heard.Refusal.TheVariants.{BadRequest, NotAllowed};
+ghost use Rattle.office_http.specs.Meanings.{are_words, asked_at, asked_of, in_range, is_get, is_put, order_under, readings_of, refused, report_of, total_of, with_body};
 ghost use Rattle.office_http.specs.Numbers.{range_of, slot_of};
-ghost use Rattle.office_http.specs.Orders.{order_of};
 ghost use Rattle.office_http.specs.Places as place;
-ghost use Rattle.office_http.specs.Voids.{void_of};
 
-use crate::body::{Body, body_of};
+use crate::asked::{Asked, Awaited, Purpose};
 use crate::fields::{Length, body_length};
 use crate::heard::{Heard, Methods, Refusal};
-use crate::order::order_of;
 use crate::place::Place;
-use crate::void::void_of;
 use httparse::spans::HeaderSpan;
 use poll_book::{Caller, Key};
 use std::alloc::{AllocError, Global};
@@ -78,114 +76,25 @@ fn range_of(from: &str, to: &str) -> Option<(u32, u32)>
     }
 }
 
-/// The list of a body.
-fn loaded(alloc: Global, caller: Caller, key: Key, body: &[u8]) -> Result<Heard, AllocError>
-    ensures { IfOk result (λ asked. meaning_of asked ≡ load caller key body.now) }
-{
-    let mut list = Vec::with_capacity(alloc, body.len())?;
-    list.extend_from_slice(body)?;
-    Ok(Heard::Load { caller, key, list })
-}
-
-/// The order of a body.
-fn ordered(alloc: Global, caller: Caller, key: Key, body: &[u8]) -> Result<Heard, AllocError>
-    ensures { IfOk result (λ asked. meaning_of asked ≡ ordered caller key (order_of body.now)) }
-{
-    Ok(match order_of(alloc, body)? {
-        Some((point, value)) => Heard::Order {
-            caller,
-            key,
-            point,
-            value,
-        },
-        None => Heard::Refused(Refusal::BadRequest),
-    })
-}
-
-/// The void of a body.
-fn voided(alloc: Global, caller: Caller, key: Key, body: &[u8]) -> Result<Heard, AllocError>
-    ensures { IfOk result (λ asked. meaning_of asked ≡ voided caller key (void_of body.now)) }
-{
-    Ok(match void_of(alloc, body)? {
-        Some((point, slot)) => Heard::Void {
-            caller,
-            key,
-            point,
-            slot,
-        },
-        None => Heard::Refused(Refusal::BadRequest),
-    })
-}
-
-fn put_list(
-    alloc: Global,
-    caller: &str,
-    key: &str,
-    length: Length,
-    rest: &[u8],
-) -> Result<Option<Heard>, AllocError>
-    ensures { IfOk result (λ asked. meaning_in asked
-        ≡ (if are_words caller.now key.now then with_body (load caller.now key.now) rest.now length else Some (refused BadRequest))) }
+/// What a body of this length asks for under a caller and a key.
+fn put(purpose: Purpose, caller: &str, key: &str, length: Length) -> Asked
+    requires { count_in length ≤ 262144 }
+    ensures { (rest : List ℕ) → asked_with result rest
+        ≡ (if are_words caller.now key.now then with_body (made_for purpose caller.now key.now) rest length else Some (refused BadRequest)) }
 {
     let Some((caller, key)) = words(caller, key) else {
-        return Ok(Some(Heard::Refused(Refusal::BadRequest)));
+        return Asked::Known(Heard::Refused(Refusal::BadRequest));
     };
-    match body_of(length, rest) {
-        Body::Refused(refusal) => Ok(Some(Heard::Refused(refusal))),
-        Body::Lacking => Ok(None),
-        Body::Whole(body) => Ok(Some(loaded(alloc, caller, key, body)?)),
-    }
-}
-
-fn put_order(
-    alloc: Global,
-    caller: &str,
-    key: &str,
-    length: Length,
-    rest: &[u8],
-) -> Result<Option<Heard>, AllocError>
-    ensures { IfOk result (λ asked. meaning_in asked
-        ≡ (if are_words caller.now key.now then with_body (λ body. ordered caller.now key.now (order_of body)) rest.now length else Some (refused BadRequest))) }
-{
-    let Some((caller, key)) = words(caller, key) else {
-        return Ok(Some(Heard::Refused(Refusal::BadRequest)));
-    };
-    match body_of(length, rest) {
-        Body::Refused(refusal) => Ok(Some(Heard::Refused(refusal))),
-        Body::Lacking => Ok(None),
-        Body::Whole(body) => Ok(Some(ordered(alloc, caller, key, body)?)),
-    }
-}
-
-/// The void of a body, as far as that came.
-fn voided_by(
-    alloc: Global,
-    caller: Caller,
-    key: Key,
-    body: Body<'_>,
-) -> Result<Option<Heard>, AllocError>
-    ensures { IfOk result (λ asked. meaning_in asked ≡ made_of (λ body. voided caller key (void_of body)) body.entry) }
-{
-    match body {
-        Body::Refused(refusal) => Ok(Some(Heard::Refused(refusal))),
-        Body::Lacking => Ok(None),
-        Body::Whole(body) => Ok(Some(voided(alloc, caller, key, body)?)),
-    }
-}
-
-fn put_void(
-    alloc: Global,
-    caller: &str,
-    key: &str,
-    length: Length,
-    rest: &[u8],
-) -> Result<Option<Heard>, AllocError>
-    ensures { IfOk result (λ asked. meaning_in asked
-        ≡ (if are_words caller.now key.now then with_body (λ body. voided caller.now key.now (void_of body)) rest.now length else Some (refused BadRequest))) }
-{
-    match words(caller, key) {
-        Some((caller, key)) => voided_by(alloc, caller, key, body_of(length, rest)),
-        None => Ok(Some(Heard::Refused(Refusal::BadRequest))),
+    match length {
+        Length::Missing => Asked::Known(Heard::Refused(Refusal::LengthRequired)),
+        Length::Bad => Asked::Known(Heard::Refused(Refusal::BadRequest)),
+        Length::TooLarge => Asked::Known(Heard::Refused(Refusal::TooLarge)),
+        Length::Of(count) => Asked::Awaits(Awaited {
+            purpose,
+            caller,
+            key,
+            count,
+        }),
     }
 }
 
@@ -199,12 +108,24 @@ fn get_order(caller: &str, key: &str) -> Heard
 }
 
 fn get_readings(alloc: Global, point: &str, from: &str, to: &str) -> Result<Heard, AllocError>
-    ensures { IfOk result (λ asked. meaning_of asked ≡ in_range point.now (range_of (slot_of from.now) (slot_of to.now))) }
+    ensures { IfOk result (λ asked. meaning_of asked ≡ in_range (readings_of point.now) (range_of (slot_of from.now) (slot_of to.now))) }
 {
     match range_of(from, to) {
         Some((from, to)) => {
             let point = String::from_str(alloc, point)?;
             Ok(Heard::Readings { point, from, to })
+        }
+        None => Ok(Heard::Refused(Refusal::BadRequest)),
+    }
+}
+
+fn get_report(alloc: Global, point: &str, from: &str, to: &str) -> Result<Heard, AllocError>
+    ensures { IfOk result (λ asked. meaning_of asked ≡ in_range (report_of point.now) (range_of (slot_of from.now) (slot_of to.now))) }
+{
+    match range_of(from, to) {
+        Some((from, to)) => {
+            let point = String::from_str(alloc, point)?;
+            Ok(Heard::Report { point, from, to })
         }
         None => Ok(Heard::Refused(Refusal::BadRequest)),
     }
@@ -218,85 +139,62 @@ fn get_total(alloc: Global, point: &str) -> Result<Heard, AllocError>
 }
 
 /// What a head asks for at an order.
-fn at_order(
-    alloc: Global,
-    caller: &str,
-    key: &str,
-    head: Head<'_>,
-    rest: &[u8],
-) -> Result<Option<Heard>, AllocError>
+fn at_order(caller: &str, key: &str, head: Head<'_>) -> Asked
     requires { All (IsHeaderWithin (length head.bytes.now)) head.fields.now }
-    ensures { IfOk result (λ asked. meaning_in asked
-        ≡ asked_at (place.orders caller.now key.now) head.entry.method.now (map (header_bytes head.entry.bytes.now) head.entry.fields.now) rest.now) }
+    ensures { (rest : List ℕ) → asked_with result rest
+        ≡ asked_at (place.orders caller.now key.now) head.entry.method.now (map (header_bytes head.entry.bytes.now) head.entry.fields.now) rest }
 {
     if is_get(head.method) {
-        return Ok(Some(get_order(caller, key)));
+        return Asked::Known(get_order(caller, key));
     }
     if !is_put(head.method) {
-        return Ok(Some(Heard::Refused(Refusal::NotAllowed(Methods::GetPut))));
+        return Asked::Known(Heard::Refused(Refusal::NotAllowed(Methods::GetPut)));
     }
     let length = body_length(head.bytes, head.fields);
-    put_order(alloc, caller, key, length, rest)
+    put(Purpose::Order, caller, key, length)
 }
 
-/// What a head asks for at a list.
-fn at_list(
-    alloc: Global,
-    caller: &str,
-    key: &str,
-    head: Head<'_>,
-    rest: &[u8],
-) -> Result<Option<Heard>, AllocError>
+/// What a head asks for where there is `PUT` alone.
+fn at_put(purpose: Purpose, caller: &str, key: &str, head: Head<'_>) -> Asked
     requires { All (IsHeaderWithin (length head.bytes.now)) head.fields.now }
-    ensures { IfOk result (λ asked. meaning_in asked
-        ≡ asked_at (place.lists caller.now key.now) head.entry.method.now (map (header_bytes head.entry.bytes.now) head.entry.fields.now) rest.now) }
+    ensures { (rest : List ℕ) → asked_with result rest
+        ≡ (if is_put head.entry.method.now
+        then (if are_words caller.now key.now then with_body (made_for purpose caller.now key.now) rest (length_of (map (header_bytes head.entry.bytes.now) head.entry.fields.now)) else Some (refused BadRequest))
+        else Some (refused (NotAllowed Put))) }
 {
     if !is_put(head.method) {
-        return Ok(Some(Heard::Refused(Refusal::NotAllowed(Methods::Put))));
+        return Asked::Known(Heard::Refused(Refusal::NotAllowed(Methods::Put)));
     }
     let length = body_length(head.bytes, head.fields);
-    put_list(alloc, caller, key, length, rest)
+    put(purpose, caller, key, length)
 }
 
-/// What a head asks for at a void.
-fn at_void(
-    alloc: Global,
-    caller: &str,
-    key: &str,
-    head: Head<'_>,
-    rest: &[u8],
-) -> Result<Option<Heard>, AllocError>
-    requires { All (IsHeaderWithin (length head.bytes.now)) head.fields.now }
-    ensures { IfOk result (λ asked. meaning_in asked
-        ≡ asked_at (place.voids caller.now key.now) head.entry.method.now (map (header_bytes head.entry.bytes.now) head.entry.fields.now) rest.now) }
-{
-    if !is_put(head.method) {
-        return Ok(Some(Heard::Refused(Refusal::NotAllowed(Methods::Put))));
-    }
-    let length = body_length(head.bytes, head.fields);
-    put_void(alloc, caller, key, length, rest)
-}
-
-/// What a head asks for at a place; `None` while bytes of its body lack.
+/// What a head asks for at a place.
 pub(crate) fn asked_at(
     alloc: Global,
     place: Option<Place<'_>>,
     head: Head<'_>,
-    rest: &[u8],
-) -> Result<Option<Heard>, AllocError>
+) -> Result<Asked, AllocError>
     requires { All (IsHeaderWithin (length head.bytes.now)) head.fields.now }
-    ensures { IfOk result (λ asked. meaning_in asked
-        ≡ asked_of (place_of place.entry) head.entry.method.now (map (header_bytes head.entry.bytes.now) head.entry.fields.now) rest.now) }
+    ensures { IfOk result (λ asked. (rest : List ℕ) → asked_with asked rest
+        ≡ asked_of (place_of place.entry) head.entry.method.now (map (header_bytes head.entry.bytes.now) head.entry.fields.now) rest) }
 {
     let Some(place) = place else {
-        return Ok(Some(Heard::Refused(Refusal::NotFound)));
+        return Ok(Asked::Known(Heard::Refused(Refusal::NotFound)));
     };
     match place {
-        Place::Orders { caller, key } => at_order(alloc, caller, key, head, rest),
-        Place::Lists { caller, key } => at_list(alloc, caller, key, head, rest),
-        Place::Voids { caller, key } => at_void(alloc, caller, key, head, rest),
-        _ if !is_get(head.method) => { Ok(Some(Heard::Refused(Refusal::NotAllowed(Methods::Get)))) }
-        Place::Readings { point, from, to } => Ok(Some(get_readings(alloc, point, from, to)?)),
-        Place::Total { point } => Ok(Some(get_total(alloc, point)?)),
+        Place::Orders { caller, key } => Ok(at_order(caller, key, head)),
+        Place::Lists { caller, key } => Ok(at_put(Purpose::List, caller, key, head)),
+        Place::Voids { caller, key } => Ok(at_put(Purpose::Void, caller, key, head)),
+        _ if !is_get(head.method) => {
+            Ok(Asked::Known(Heard::Refused(Refusal::NotAllowed(Methods::Get))))
+        }
+        Place::Readings { point, from, to } => {
+            Ok(Asked::Known(get_readings(alloc, point, from, to)?))
+        }
+        Place::Total { point } => Ok(Asked::Known(get_total(alloc, point)?)),
+        Place::Report { point, from, to } => {
+            Ok(Asked::Known(get_report(alloc, point, from, to)?))
+        }
     }
 }

@@ -1,9 +1,10 @@
 //! What the bytes of a connection mean, in a law. Its body is empty: only its contract counts.
 ghost use Rattle.std.specs.Prelude.{◌≡◌, ℕ, List};
 ghost use Rattle.office_http.specs.Meanings.{Meaning};
+ghost use Rattle.office_http.specs.declared.routes.Routes.{Routes as Offered};
 ghost use Rattle.office_http.specs.Deciding.{Means};
 
-/// All the bytes of a connection mean one thing.
+/// All the bytes of a connection mean one thing, whichever routes are offered.
 pub fn one_meaning()
-    ensures { (input : List ℕ) (a b : Meaning) → Means input a → Means input b → a ≡ b }
+    ensures { (routes : Offered) (input : List ℕ) (a b : Meaning) → Means routes input a → Means routes input b → a ≡ b }
 {}

@@ -5,6 +5,7 @@
 #![tactic(auto)]
 
 pub mod answer;
+mod asked;
 mod bodies;
 mod body;
 mod document;
@@ -18,6 +19,7 @@ mod order;
 mod place;
 mod reading_body;
 mod routes;
+mod stage;
 mod status;
 mod verdict;
 mod void;
@@ -25,4 +27,5 @@ mod void;
 pub use exchange::Exchange;
 pub use heard::{Heard, Methods, Refusal};
 pub use reading_body::Shown;
+pub use routes::Routes;
 pub use status::Status;

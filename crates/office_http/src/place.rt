@@ -1,5 +1,6 @@
 //! The parts of a target.
-ghost use Rattle.std.specs.Prelude.{◌≡◌, ◌++◌, ℕ, List, IfSome, IfNone};
+ghost use Rattle.std.specs.Prelude.{◌≡◌, ◌++◌, ℕ, List, IfSome, IfNone, codes};
+ghost use Rattle.office_http.specs.declared.routes.Routes.{Routes as Offered};
 ghost use Rattle.office_http.specs.Routes.{the_routes};
 ghost use Rattle.office_http.specs.Places.{IsPlain, Names, spell};
 ghost use Rattle.office_http.specs.Found.{place_of};
@@ -29,6 +30,11 @@ pub(crate) enum Place<'t> {
     },
     Total {
         point: &'t str,
+    },
+    Report {
+        point: &'t str,
+        from: &'t str,
+        to: &'t str,
     },
 }
 
@@ -83,10 +89,21 @@ fn middle<'t>(target: &'t str, front: &str, back: &str) -> Option<&'t str>
     Some(part)
 }
 
-/// What a target names, if it has a route.
+/// A point and two slots, with that between the point and the slots.
+fn range<'t>(target: &'t str, second: &str) -> Option<(&'t str, &'t str, &'t str)>
+    ensures some { IfSome result (λ x. (target.now ≡ codes "/points/" ++ spell x.0.now (second.now ++ spell x.1.now x.2.now)) × IsPlain x.0.now × IsPlain x.1.now) }
+    ensures none { IfNone result ((a b c : List ℕ) → target.now ≡ codes "/points/" ++ spell a (second.now ++ spell b c) → IsPlain a → ⊥) }
+{
+    let (point, slots) = parts(target, "/points/", second)?;
+    let Some((from, to)) = at_slash(slots) else {
+        return None;
+    };
+    Some((point, from, to))
+}
+
+/// What a target names of the routes that the router has, if it is one of them.
 pub(crate) fn place_of<'t>(router: &Router<Route>, target: &'t str) -> Option<Place<'t>>
-    requires { router.now ≡ the_routes }
-    ensures { Names target.now (place_of result) }
+    ensures { (routes : Offered) → router.now ≡ the_routes routes → Names routes target.now (place_of result) }
 {
     match route_for(router, target)? {
         Route::Orders => {
@@ -102,15 +119,16 @@ pub(crate) fn place_of<'t>(router: &Router<Route>, target: &'t str) -> Option<Pl
             Some(Place::Voids { caller, key })
         }
         Route::Readings => {
-            let (point, slots) = parts(target, "/points/", "readings/")?;
-            let Some((from, to)) = at_slash(slots) else {
-                return None;
-            };
+            let (point, from, to) = range(target, "readings/")?;
             Some(Place::Readings { point, from, to })
         }
         Route::Total => {
             let point = middle(target, "/points/", "/total")?;
             Some(Place::Total { point })
+        }
+        Route::Report => {
+            let (point, from, to) = range(target, "report/")?;
+            Some(Place::Report { point, from, to })
         }
     }
 }

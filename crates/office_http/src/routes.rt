@@ -1,10 +1,19 @@
 //! The routes of an office.
-ghost use Rattle.std.specs.Prelude.{◌≡◌, IfOk};
+ghost use Rattle.std.specs.Prelude.{◌≡◌, IfOk, OnOk};
 ghost use Rattle.matchit.specs.Seek.{first};
-ghost use Rattle.office_http.specs.Routes.{caller_routes, the_routes, value_of};
+ghost use Rattle.office_http.specs.Routes.{caller_routes, point_routes, the_routes, value_of, with_route};
 
 use matchit::Router;
 use std::alloc::{AllocError, Global};
+
+/// Which routes are offered.
+#[derive(Clone, Copy, Debug, PartialEq, Eq)]
+pub enum Routes {
+    /// Lists, orders and voids of callers, readings and totals of points.
+    Basic,
+    /// These, and reports of points.
+    Extended,
+}
 
 /// What a target asks for.
 #[derive(Clone, Copy)]
@@ -14,51 +23,57 @@ pub(crate) enum Route {
     Voids,
     Readings,
     Total,
+    Report,
 }
 
-fn caller_routes(alloc: Global) -> Result<Router<Route>, AllocError>
-    ensures { IfOk result (λ router. router ≡ caller_routes) }
+fn add(router: &mut Router<Route>, pattern: &str, route: Route) -> Result<(), AllocError>
+    ensures { OnOk result (router.new ≡ with_route pattern.now route router.old) }
+{
+    match router.insert(pattern, route) {
+        Ok(()) => Ok(()),
+        Err(_) => Err(AllocError),
+    }
+}
+
+fn add_callers(router: &mut Router<Route>) -> Result<(), AllocError>
+    ensures { OnOk result (router.new ≡ caller_routes router.old) }
+{
+    add(router, "/callers/{caller}/orders/{key}", Route::Orders)?;
+    add(router, "/callers/{caller}/lists/{key}", Route::Lists)?;
+    add(router, "/callers/{caller}/voids/{key}", Route::Voids)?;
+    Ok(())
+}
+
+fn add_points(router: &mut Router<Route>) -> Result<(), AllocError>
+    ensures { OnOk result (router.new ≡ point_routes router.old) }
+{
+    add(
+        router,
+        "/points/{point}/readings/{from}/{to}",
+        Route::Readings,
+    )?;
+    add(router, "/points/{point}/total", Route::Total)?;
+    Ok(())
+}
+
+/// A router of these routes.
+pub(crate) fn router_of(alloc: Global, routes: Routes) -> Result<Router<Route>, AllocError>
+    ensures { IfOk result (λ router. router ≡ the_routes routes) }
 {
     let mut router = Router::new(alloc);
-    if router
-        .insert("/callers/{caller}/orders/{key}", Route::Orders)
-        .is_err()
-    {
-        return Err(AllocError);
+    add_callers(&mut router)?;
+    add_points(&mut router)?;
+    match routes {
+        Routes::Basic => Ok(router),
+        Routes::Extended => {
+            add(
+                &mut router,
+                "/points/{point}/report/{from}/{to}",
+                Route::Report,
+            )?;
+            Ok(router)
+        }
     }
-    if router
-        .insert("/callers/{caller}/lists/{key}", Route::Lists)
-        .is_err()
-    {
-        return Err(AllocError);
-    }
-    if router
-        .insert("/callers/{caller}/voids/{key}", Route::Voids)
-        .is_err()
-    {
-        return Err(AllocError);
-    }
-    Ok(router)
-}
-
-/// A router of the routes.
-pub(crate) fn routes(alloc: Global) -> Result<Router<Route>, AllocError>
-    ensures { IfOk result (λ router. router ≡ the_routes) }
-{
-    let mut router = caller_routes(alloc)?;
-    if router
-        .insert("/points/{point}/readings/{from}/{to}", Route::Readings)
-        .is_err()
-    {
-        return Err(AllocError);
-    }
-    if router
-        .insert("/points/{point}/total", Route::Total)
-        .is_err()
-    {
-        return Err(AllocError);
-    }
-    Ok(router)
 }
 
 /// The route of a target.

@@ -6,6 +6,7 @@ pub mod Faults
 pub mod Rounds
 pub mod Turned
 pub mod Replies
+pub mod Reported
 pub mod Serving
 pub mod Drills
 pub mod Counting

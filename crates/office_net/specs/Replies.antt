@@ -26,10 +26,11 @@ use Rattle.office_core.specs.Fitting.{point_text}
 use Rattle.office_core.specs.History.{Happening, Load, Order, Void, History, kept_readings, points, requests, total}
 use Rattle.office_core.specs.Loads.{known_named}
 use Rattle.office_core.specs.Offices.{order_state_of}
-use Rattle.office_http.specs.Answers.{answer_text, error_text, first_status, list_refused_text, one_text, order_text, points_text, readings_text, refusal_text, total_text, void_text}
+use Rattle.office_http.specs.Answers.{answer_text, error_text, first_status, list_refused_text, one_text, order_text, plain_answer, points_text, readings_text, refusal_text, total_text, void_text}
 use Rattle.office_http.specs.declared.heard.Refusal.TheVariants.{NotFound}
 use Rattle.office_http.specs.declared.status.Status.TheVariants.{Done, Conflict, Unprocessable}
-use Rattle.office_http.specs.Meanings.{Meaning, nothing, refused, load, order, void, order_under, readings_of, total_of}
+use Rattle.office_http.specs.Meanings.{Meaning, nothing, refused, load, order, void, order_under, readings_of, report_of, total_of}
+use Rattle.office_report.specs.Reports.{report_text}
 
 -- ---- what happens
 
@@ -117,6 +118,11 @@ total_reply now name None = not_found
 total_reply now name (Some known) =
     if is_counter known.point.role then answer_text Done [] (total_text name (scaled (pos (total now known)) known.point.scale)) else not_found
 
+-- the text of a report as it stands
+abbrev pub report_reply : Option (List ℕ) → List ℕ
+report_reply None = not_found
+report_reply (Some text) = plain_answer text
+
 -- ---- all
 
 -- the bytes that are answered after that history
@@ -129,3 +135,4 @@ reply_text now (void caller key point slot) = event_reply order_refusal point (a
 reply_text now (order_under caller key) = under_reply now (request_at (requests now) (caller, key))
 reply_text now (readings_of point from to) = readings_reply now point from to (known_named (points now) point)
 reply_text now (total_of point) = total_reply now point (known_named (points now) point)
+reply_text now (report_of point from to) = report_reply (report_text now point from to)

@@ -7,6 +7,7 @@ use Rattle.poll_book.specs.Tables.{Tables, Within}
 use Rattle.office_core.specs.History.{Happening, History, tables}
 use Rattle.office_core.specs.Leavings.{LeftAfter}
 use Rattle.office_http.specs.declared.heard.Heard.{Heard}
+use Rattle.office_http.specs.declared.routes.Routes.TheVariants.{Basic}
 use Rattle.office_http.specs.Answers.{unavailable_text}
 use Rattle.office_http.specs.Heard.{meaning_of}
 use Rattle.office_http.specs.Deciding.{Decides, Means}
@@ -42,9 +43,9 @@ Unanswered stood stands might may meaning = Misses stood stands might may meanin
 
 -- ---- what was read
 
--- whatever follows these bytes, that is asked for; or it is where the reader has ended
+-- whatever follows these bytes, that is asked for of the basic routes; or it is where the reader has ended
 abbrev pub IsHeard : Type 0 → List ℕ → Meaning → Type 0
-IsHeard ended bytes meaning = Decides bytes meaning ⊎ (ended × Means bytes meaning)
+IsHeard ended bytes meaning = Decides Basic bytes meaning ⊎ (ended × Means Basic bytes meaning)
 
 -- these bytes were read; if memory wasn't refused, that is asked for in them
 pub record Hears (ended : Type 0) (unread left : Option (List ℕ)) (heard : Option Heard) : Type 0 where

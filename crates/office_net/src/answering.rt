@@ -7,15 +7,16 @@ ghost use Rattle.office_core.specs.Offices.{AccountsFor, AsItIs, OnlyAsked, keep
 ghost use Rattle.office_http.specs.Heard.{meaning_of};
 ghost use Rattle.office_http.specs.Meanings as meanings;
 ghost use Rattle.office_core.specs.Following.{Follows, MayLeave};
-ghost use Rattle.office_net.specs.Replies.{order_reply, readings_reply, state_reply, total_reply, under_reply};
+ghost use Rattle.office_report.specs.Reports.{report_text};
+ghost use Rattle.office_net.specs.Replies.{order_reply, readings_reply, report_reply, state_reply, total_reply, under_reply};
 ghost use Rattle.office_net.specs.Serving.{Answers, Unanswered};
 
-use crate::fault::fault_of;
+use crate::fault::{fault_of, report_fault};
 use crate::replies::{list_reply, not_found, order_refused, point_reply, readings_reply};
 use office_core::Office;
 use office_core::laws::fitting_tables;
 use office_http::{Heard, answer};
-use office_report::total_text;
+use office_report::{report_of, total_text};
 use poll_book::{Body, Caller, Keeper, Key, Outcome, StoreFault};
 use std::alloc::Global;
 
@@ -197,6 +198,29 @@ fn get_total<K: Keeper>(
     Ok(text)
 }
 
+fn get_report<K: Keeper>(
+    alloc: Global,
+    office: &mut Office<K>,
+    point: &str,
+    from: u32,
+    to: u32,
+) -> Result<String, StoreFault>
+    ensures value { K.is_clean (keeper_of office.new) → (now : History) → Follows office.old now
+        → IfOk result (λ text. string_bytes text ≡ report_reply (report_text now point.now from to)) }
+    ensures asked { OnlyAsked office.old office.new }
+    ensures accounts { AccountsFor AsItIs office.old office.new result }
+{
+    let found = match report_of(alloc, office, point, from, to) {
+        Ok(found) => found,
+        Err(fault) => return Err(report_fault(fault)),
+    };
+    let Some(report) = found else {
+        return Ok(not_found(alloc)?);
+    };
+    let text = answer::plain(alloc, report.as_str())?;
+    Ok(text)
+}
+
 /// Does what a request asks for, and gives the bytes of the answer, none where nothing was asked. The
 /// fault is the store's or memory's: `office_http::answer::unavailable` is what the caller gets then.
 /// Where memory was refused for the answer, what was asked for is done all the same, and the same
@@ -236,5 +260,6 @@ pub fn respond<K: Keeper>(
             *to,
         ),
         Heard::Total { point } => get_total(alloc, office, point.as_str()),
+        Heard::Report { point, from, to } => get_report(alloc, office, point.as_str(), *from, *to),
     }
 }

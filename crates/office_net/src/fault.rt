@@ -2,9 +2,11 @@ ghost use Rattle.std.specs.Prelude.{◌≡◌, true};
 ghost use Rattle.office_core.specs.Errors.{is_of_store};
 ghost use Rattle.office_core.specs.Standing as standing;
 ghost use Rattle.office_core.specs.declared.event.EventAnswer.TheVariants.{Refused};
+ghost use Rattle.office_net.specs.Reported.{store_fault};
 
 use mb_mbap::FrameFault;
 use office_core::OfficeError;
+use office_report::ReportFault;
 use poll_book::StoreFault;
 use std::alloc::AllocError;
 use thiserror::Error;
@@ -72,5 +74,16 @@ pub(crate) fn fault_of(error: OfficeError) -> StoreFault
     match error {
         OfficeError::Store(fault) => fault,
         _ => StoreFault::Other,
+    }
+}
+
+/// Why the store or memory refused a report that isn't written to a writer.
+pub(crate) fn report_fault(fault: ReportFault) -> StoreFault
+    ensures { result ≡ store_fault fault }
+{
+    match fault {
+        ReportFault::Store(fault) => fault,
+        ReportFault::Memory => StoreFault::Memory,
+        ReportFault::Write => StoreFault::Other,
     }
 }

@@ -12,7 +12,7 @@ use crate::answering::respond;
 use line_io::{read_piece, write};
 use mb_mbap::Counted;
 use office_core::Office;
-use office_http::{Exchange, Heard, answer};
+use office_http::{Exchange, Heard, Routes, answer};
 use poll_book::{Keeper, StoreFault};
 use std::alloc::Global;
 use std::io::{Read, Write};
@@ -41,7 +41,7 @@ fn hear<R: Read>(alloc: Global, reader: &mut Counted<R>) -> Result<Option<Heard>
     ensures hears { IfOk result (Hears (HasRisen (ends_of reader.old) (ends_of reader.new)) (R.remaining (inner_of reader.old)) (R.remaining (inner_of reader.new))) }
     ensures failed { IfErr result (λ fault. (fault ≡ ServeFault.Read) × HasRisen (failures_of reader.old) (failures_of reader.new)) }
 {
-    let mut exchange = Exchange::new(alloc);
+    let mut exchange = Exchange::new(alloc, Routes::Basic);
     let mut piece = [0u8; PIECE];
     'pieces: loop {
         let count = read_piece(reader, &mut piece, ServeFault::Read)?;
@@ -88,9 +88,9 @@ fn write_reply<W: Write>(
     }
 }
 
-/// Reads one request, does what it asks for, and writes the answer: 503 where the store or memory
-/// refused, and nothing where the reader ends at once. No more is read than until it is known what is
-/// asked for, at most 274,431 bytes.
+/// Reads one request of the basic routes, does what it asks for, and writes the answer: 503 where the
+/// store or memory refused, and nothing where the reader ends at once. No more is read than until it is
+/// known what is asked for, at most 274,431 bytes.
 pub fn serve_one<K: Keeper, R: Read, W: Write>(
     alloc: Global,
     office: &mut Office<K>,

@@ -13,4 +13,4 @@ mod writing;
 pub use fault::ReportFault;
 pub use outcome::request_text;
 pub use texts::{reading_text, total_text};
-pub use writing::write_report;
+pub use writing::{report_of, write_report};

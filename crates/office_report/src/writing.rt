@@ -17,8 +17,10 @@ use poll_book::Keeper;
 use std::alloc::Global;
 use std::io::Write;
 
-/// The report of the point of a name; `None` where no such point is known.
-fn report_of<K: Keeper>(
+/// The report of the point of a name over the slots `from` to `to`: its name, its readings by slot, and
+/// for a counter how far it went by all its readings, whatever their slots. `None` is told of a point
+/// that isn't known. The fault is the store's or memory's.
+pub fn report_of<K: Keeper>(
     alloc: Global,
     office: &mut Office<K>,
     point: &str,
@@ -42,10 +44,9 @@ fn report_of<K: Keeper>(
     Ok(Some(report))
 }
 
-/// Writes the report of a point over the slots `from` to `to`: its name, its readings by slot, and for
-/// a counter how far it went by all its readings, whatever their slots. False is told of a point that
-/// isn't known, of which nothing is written. The text is whole before any of it is written, so a fault
-/// of the store or of memory leaves the writer as it was.
+/// Writes the report of a point, as `report_of` gives it. False is told of a point that isn't known, of
+/// which nothing is written. The text is whole before any of it is written, so a fault of the store or
+/// of memory leaves the writer as it was.
 pub fn write_report<K: Keeper, W: Write>(
     alloc: Global,
     office: &mut Office<K>,

@@ -15,6 +15,7 @@ use Rattle.office_core.specs.History.{Happening, History}
 use Rattle.office_core.specs.Offices.{keeper_of}
 use Rattle.office_core.specs.Proceeding.{AreOf, Did, GoesAlong, LeftBySteps, Missed, Nothing, stepped}
 use Rattle.office_http.specs.Answers.{unavailable_text}
+use Rattle.office_http.specs.declared.routes.Routes.TheVariants.{Extended}
 use Rattle.office_http.specs.Deciding.{Decides, Means}
 use Rattle.office_http.specs.Meanings.{Meaning}
 use Rattle.office_net.specs.Replies.{event_of, with_event}
@@ -147,7 +148,7 @@ module _ {K : Type 0} {g : Ghosts K} (source : Source) (old new : Office K g) (a
       subst (λ (some : List Deed). AllOf (Is source) some × Through source now session some (Answering text)) (sym one) ((refl, tt), (session, refl, inl (refl, moves)))
 
   -- as soon as it is known what is asked for
-  pub replies_at_once : ((meaning : Meaning) → asks meaning → Decides heard meaning) → Comes old new asks text → Exchanges source old new (λ acts. acts ≡ []) (Hearing heard) (Answering text)
+  pub replies_at_once : ((meaning : Meaning) → asks meaning → Decides Extended heard meaning) → Comes old new asks text → Exchanges source old new (λ acts. acts ≡ []) (Hearing heard) (Answering text)
   replies_at_once is comes clean =
       let went = comes source clean in (
         went.0,
@@ -160,12 +161,12 @@ module _ {K : Type 0} {g : Ghosts K} (source : Source) (old new : Office K g) (a
               follows = done.follows;
               leaves = done.leaves;
               has_acted = done.has_acted;
-              has_kept = one_reply now (Hearing heard) done.deeds reply.0 reply.1 (reply_wider now asks (Decides heard) is reply.0 text reply.2, refl);
+              has_kept = one_reply now (Hearing heard) done.deeds reply.0 reply.1 (reply_wider now asks (Decides Extended heard) is reply.0 text reply.2, refl);
             },
       )
 
   -- where no more comes
-  pub replies_at_the_end : ((meaning : Meaning) → asks meaning → Means heard meaning) → Comes old new asks text → Exchanges source old new (λ acts. acts ≡ []) (Heard heard) (Answering text)
+  pub replies_at_the_end : ((meaning : Meaning) → asks meaning → Means Extended heard meaning) → Comes old new asks text → Exchanges source old new (λ acts. acts ≡ []) (Heard heard) (Answering text)
   replies_at_the_end is comes clean =
       let went = comes source clean in (
         went.0,
@@ -178,7 +179,7 @@ module _ {K : Type 0} {g : Ghosts K} (source : Source) (old new : Office K g) (a
               follows = done.follows;
               leaves = done.leaves;
               has_acted = done.has_acted;
-              has_kept = one_reply now (Heard heard) done.deeds reply.0 reply.1 (reply_wider now asks (Means heard) is reply.0 text reply.2, refl);
+              has_kept = one_reply now (Heard heard) done.deeds reply.0 reply.1 (reply_wider now asks (Means Extended heard) is reply.0 text reply.2, refl);
             },
       )
 

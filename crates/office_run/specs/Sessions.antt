@@ -6,6 +6,7 @@ use Rattle.run_beat.specs.declared.sockets.Source.TheVariants.{Caller}
 use Rattle.run_beat.specs.Acts.{Act, Begins, Reads, Ends, Writes, Finishes, Closes}
 use Rattle.office_core.specs.declared.office.Office.{Office}
 use Rattle.office_core.specs.History.{History}
+use Rattle.office_http.specs.declared.routes.Routes.TheVariants.{Extended}
 use Rattle.office_http.specs.Answers.{unavailable_text}
 use Rattle.office_http.specs.Deciding.{Decides, Lacks, Means}
 use Rattle.office_http.specs.Meanings.{Meaning}
@@ -30,15 +31,15 @@ IsReply now asks (Done meaning) text = asks meaning × ((text ≡ reply_text now
 IsReply now asks (Undone meaning) text = asks meaning × (text ≡ unavailable_text)
 IsReply now asks Untried text = text ≡ unavailable_text
 
--- what a deed makes of the session: no more is read than until it is known what is asked for; that is done once; only
+-- what a deed makes of the session, where the extended routes are offered: no more is read than until it is known what is asked for; that is done once; only
 -- then something is written, and that is the answer, byte for byte
 abbrev pub Moves : History → Session → Deed → Session → Type 0
 Moves now session (With (Closes source)) session' = session' ≡ Free
 Moves now Free (With (Begins source)) session' = session' ≡ Hearing []
-Moves now (Hearing heard) (With (Reads source bytes)) session' = Lacks heard × (session' ≡ Hearing (heard ++ bytes))
-Moves now (Hearing heard) (With (Ends source)) session' = Lacks heard × (session' ≡ Heard heard)
-Moves now (Hearing heard) (Replies source became text) session' = IsReply now (Decides heard) became text × (session' ≡ Answering text)
-Moves now (Heard heard) (Replies source became text) session' = IsReply now (Means heard) became text × (session' ≡ Answering text)
+Moves now (Hearing heard) (With (Reads source bytes)) session' = Lacks Extended heard × (session' ≡ Hearing (heard ++ bytes))
+Moves now (Hearing heard) (With (Ends source)) session' = Lacks Extended heard × (session' ≡ Heard heard)
+Moves now (Hearing heard) (Replies source became text) session' = IsReply now (Decides Extended heard) became text × (session' ≡ Answering text)
+Moves now (Heard heard) (Replies source became text) session' = IsReply now (Means Extended heard) became text × (session' ≡ Answering text)
 Moves now (Answering left) (With (Writes source bytes)) session' = (rest : List ℕ) × (left ≡ bytes ++ rest) × (session' ≡ Answering rest)
 Moves now (Answering []) (With (Finishes source)) session' = session' ≡ Closing
 Moves now Closing (With (Reads source bytes)) session' = session' ≡ Closing

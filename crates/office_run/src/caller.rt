@@ -2,7 +2,8 @@
 ghost use Rattle.std.specs.Prelude.{◌≡◌, ◌≢◌, ◌++◌, [], List, MatchResult, OnOk, ℕ};
 ghost use Rattle.office_core.specs.Proceeding.{GoesAlong, Nothing};
 ghost use Rattle.office_http.specs.Deciding.{Lacks};
-ghost use Rattle.office_http.specs.Exchanges.{bytes_of};
+ghost use Rattle.office_http.specs.Exchanges.{bytes_of, routes_of};
+ghost use Rattle.office_http.specs.declared.routes.Routes.TheVariants.{Extended};
 ghost use Rattle.office_http.specs.Heard.{meaning_of};
 ghost use Rattle.office_net.specs.Serving.{written_for};
 ghost use Rattle.run_beat.specs.declared.sockets.Source.{Source as ASource};
@@ -11,7 +12,7 @@ ghost use Rattle.office_run.specs.declared.caller.Mood.TheVariants as moods;
 
 use crate::moved::Moved;
 use office_core::{Office, OfficeError};
-use office_http::{Exchange, Heard, answer};
+use office_http::{Exchange, Heard, Routes, answer};
 use office_net::{last_order, respond};
 use poll_book::{Keeper, StoreFault};
 use run_beat::{
@@ -61,8 +62,6 @@ impl From<AllocError> for Gone {
 pub(crate) struct Caller {
     alloc: Global,
     exchange: Exchange,
-    // Whether its head is whole.
-    has_head: bool,
     mood: Mood,
     out: Outbox,
     // It came at this moment.
@@ -74,8 +73,9 @@ pub(crate) struct Caller {
     moved: Moved,
     // What became of what it asked for, of which nobody was told yet.
     news: News,
-    // While it is heard no whole request is there, and nothing is to be written.
-    ghost lacks: { mood ≡ moods.Hearing → Lacks (bytes_of exchange) },
+    // It is offered what there is. While it is heard no whole request is there, and nothing is to be written.
+    ghost offers: { routes_of exchange ≡ Extended },
+    ghost lacks: { mood ≡ moods.Hearing → Lacks Extended (bytes_of exchange) },
     ghost unwritten: { mood ≡ moods.Hearing → out ≡ [] },
 }
 
@@ -142,8 +142,7 @@ impl Caller {
     {
         Caller {
             alloc,
-            exchange: Exchange::new(alloc),
-            has_head: false,
+            exchange: Exchange::new(alloc, Routes::Extended),
             mood: Mood::Hearing,
             out: Outbox::new(alloc),
             since: now,
@@ -183,7 +182,7 @@ impl Caller {
 
     /// Whether its head isn't whole.
     fn is_in_head(&self) -> bool {
-        self.mood == Mood::Hearing && !self.has_head
+        self.mood == Mood::Hearing && !self.exchange.has_head()
     }
 
     /// What became of what it asked for since this was asked last.
@@ -255,10 +254,7 @@ impl Caller {
             (λ _. (session : Session) × Exchanges source office.old office.new (λ acts. acts ≡ []) (HearingOf (bytes_of self.old.exchange ++ piece.now)) session) }
     {
         match self.exchange.take(piece) {
-            Ok(None) => {
-                self.has_head = self.has_head || self.exchange.has_head();
-                Ok(())
-            }
+            Ok(None) => Ok(()),
             Ok(Some(heard)) => {
                 self.mood = Mood::Answering;
                 self.answer(office, &heard)

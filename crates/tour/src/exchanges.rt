@@ -3,14 +3,14 @@ use crate::offices::{load, office};
 use anyhow::Result;
 use mb_mbap::Counted;
 use office_core::Office;
-use office_http::Exchange;
+use office_http::{Exchange, Routes};
 use office_net::serve_one;
 use poll_book::Keeper;
 
 const REQUEST: &[u8] = b"GET /points/energy/total HTTP/1.1\r\n\r\n";
 
 fn judge(rt: &HostRuntime) -> Result<()> {
-    let mut exchange = Exchange::new(rt.alloc());
+    let mut exchange = Exchange::new(rt.alloc(), Routes::Basic);
     for piece in REQUEST.chunks(20) {
         let asked = exchange.take(piece)?;
         println!(rt; "{asked:?}")?;

@@ -1,34 +1,46 @@
-use Rattle.std.proofs.Common.{ℕ, Option, List, arith, drop, length-take, subst}
-use Rattle.office_http.specs.declared.heard.Heard.{Heard}
-use Rattle.office_http.specs.Heads.{IsAsked}
-use Rattle.office_http.specs.Heard.{meaning_in}
-use Rattle.office_http.proofs.Reading.{decided_full, decided_refused, decided_whole, due_whole}
+use Rattle.std.proofs.Common.{arith, length-take, refl, subst}
+use Rattle.office_http.specs.declared.asked.Asked.{Asked}
+use Rattle.office_http.specs.declared.asked.Asked.TheVariants.{Known}
+use Rattle.office_http.specs.Awaiting.{Asks, asked_with}
+use Rattle.office_http.specs.Heard.{meaning_of}
+use Rattle.office_http.proofs.Reading.{asks_headed, asks_in, decided_full, decided_refused, decides_known, front_whole_or_full, headless, headless_over}
 use Rattle.office_http.proofs.verdict.judge.Goals as goal
 
-pub returns-in-Some : goal.returns-in-Some
-returns-in-Some c =
+pub returns-in-Known : goal.returns-in-Known
+returns-in-Known c =
     let bytes = c.args.bytes.now in
     let spans = c.in-Whole.spans in
     let n = c.min.ensures in
-    decided_whole bytes c.min.result c.judge_head.new.headers spans c.in-Some.asked (omega (arith, n)) (omega (arith, c.judge_head.array_long)) c.in-Whole.ensures.0 c.in-Whole.ensures.1
-    (λ head at. subst (λ (o : Option Heard). IsAsked head (drop spans.len bytes) (meaning_in o)) c.in-Some.is
-    (subst (λ (rest : List ℕ). IsAsked head rest (meaning_in c.in_ok-asked-in-Whole.field-0)) c.behind-rest.ensures (c.in_ok-asked-in-Whole.ensures head at)))
+    let asks = asks_in c.args.routes bytes c.min.result c.judge_head.new.headers spans _ (omega (arith, n)) (omega (arith, c.judge_head.array_long)) c.in-Whole.ensures.0 c.in-Whole.ensures.1
+    c.in_ok-heard-in-Whole.ensures in
+    let known = subst (λ (asked : Asked). Asks c.args.routes bytes spans.len (asked_with asked)) c.in-Known.is asks in
+    (decides_known c.args.routes bytes spans.len (asked_with (Known c.in-Known.heard)) (meaning_of c.in-Known.heard) (λ rest. refl) known, asks_headed c.args.routes bytes spans.len _ known)
 
-pub returns-in-None : goal.returns-in-None
-returns-in-None c =
+pub returns-in-Awaits : goal.returns-in-Awaits
+returns-in-Awaits c =
     let bytes = c.args.bytes.now in
     let spans = c.in-Whole.spans in
     let n = c.min.ensures in
-    due_whole bytes c.min.result c.judge_head.new.headers spans (omega (arith, n)) (omega (arith, c.judge_head.array_long)) c.in-Whole.ensures.0 c.in-Whole.ensures.1
-    (λ head at. subst (λ (o : Option Heard). IsAsked head (drop spans.len bytes) (meaning_in o)) c.in-None.is
-    (subst (λ (rest : List ℕ). IsAsked head rest (meaning_in c.in_ok-asked-in-Whole.field-0)) c.behind-rest.ensures (c.in_ok-asked-in-Whole.ensures head at)))
-    c.whole_length-until.result c.whole_length-until.ensures.whole c.whole_length-until.ensures.limit
+    let fits = c.in-Whole.ensures.1.section.len_fits in
+    let asks = asks_in c.args.routes bytes c.min.result c.judge_head.new.headers spans _ (omega (arith, n)) (omega (arith, c.judge_head.array_long)) c.in-Whole.ensures.0 c.in-Whole.ensures.1
+    c.in_ok-heard-in-Whole.ensures in
+    (omega (arith, fits, n, length-take c.min.result bytes), subst (λ (asked : Asked). Asks c.args.routes bytes spans.len (asked_with asked)) c.in-Awaits.is asks)
 
-pub returns-in-Refused : goal.returns-in-Refused
-returns-in-Refused c = decided_refused c.args.bytes.now c.min.result c.requires c.in-Refused.ensures
+pub returns-then-bytes-lt-MOST_HEAD : goal.returns-then-bytes-lt-MOST_HEAD
+returns-then-bytes-lt-MOST_HEAD c =
+    let bytes = c.args.bytes.now in
+    let few = c.if-bytes-lt-MOST_HEAD.true in
+    (omega (arith, few), headless bytes c.min.result (front_whole_or_full bytes c.min.result c.min.ensures) c.in-Partial.ensures)
 
 pub returns-else-bytes-lt-MOST_HEAD : goal.returns-else-bytes-lt-MOST_HEAD
 returns-else-bytes-lt-MOST_HEAD c =
+    let bytes = c.args.bytes.now in
     let n = c.min.ensures in
-    let many = c.if-bytes-lt-MOST_HEAD.false in
-    decided_full c.args.bytes.now c.min.result c.requires (omega (arith, n, many, length-take c.min.result c.args.bytes.now)) c.in-Partial.ensures
+    let many = c.if-bytes-lt-MOST_HEAD.false in (
+      decided_full c.args.routes bytes c.min.result c.requires (omega (arith, n, many, length-take c.min.result bytes)) c.in-Partial.ensures,
+      headless bytes c.min.result (front_whole_or_full bytes c.min.result c.min.ensures) c.in-Partial.ensures,
+    )
+
+pub returns-in-Refused : goal.returns-in-Refused
+returns-in-Refused c =
+    (decided_refused c.args.routes c.args.bytes.now c.min.result c.requires c.in-Refused.ensures, headless_over c.args.bytes.now c.min.result c.in-Refused.ensures)

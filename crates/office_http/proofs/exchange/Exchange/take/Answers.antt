@@ -1,16 +1,16 @@
-use Rattle.std.proofs.Common.{◌≡◌, sym, subst, arith, is_ok}
-use Rattle.std.proofs.lemmas.Grind.{common_steps}
-use Rattle.office_http.specs.Judging.{Waits}
-use Rattle.office_http.proofs.Judged.{waits_if}
+use Rattle.std.proofs.Common.{◌∙◌, List, ℕ, arith, subst, sym}
+use Rattle.std.proofs.lemmas.Bool.{eqb-true}
+use Rattle.office_http.specs.Stages.{IsPast}
+use Rattle.office_http.proofs.Reading.{lacks_none}
+use Rattle.office_http.proofs.Staging.{past_more}
 use Rattle.office_http.proofs.exchange.Exchange.take.Goals as goal
 
-pub invariant_of-self-clause-waits : goal.invariant_of-self-clause-waits
-invariant_of-self-clause-waits c =
-    waits_if (is_ok c.extend_from_slice.result) c.args.self.now.bytes.items c.args.piece.now c.extend_from_slice.new.self.items c.args.self.now.due
-    c.extend_from_slice.ensures.items c.args.self.now.waits
+pub returns-then-is_empty-clause-asked : goal.returns-then-is_empty-clause-asked
+returns-then-is_empty-clause-asked c =
+    let none = eqb-true _ 0 (sym c.is_empty.ensures ∙ c.if-is_empty.true) in
+    lacks_none _ c.extend_from_slice.new.self.items (omega (arith, none))
 
-pub invariant_of-self-then-is_err-clause-waits : goal.invariant_of-self-then-is_err-clause-waits
-invariant_of-self-then-is_err-clause-waits c =
-    let due : c.judge-asked.new.self.due ≡ c.args.self.now.due = grind (arith, common_steps) in
-    let back : c.truncate.new.self.items ≡ c.args.self.now.bytes.items = grind (arith, common_steps) in
-    subst (λ b. Waits b c.judge-asked.new.self.due) (sym back) (subst (Waits c.args.self.now.bytes.items) (sym due) c.args.self.now.waits)
+pub go_on-asked-requires-clause-past : goal.go_on-asked-requires-clause-past
+go_on-asked-requires-clause-past c =
+    subst (λ (bytes : List ℕ). IsPast c.self.inside.routes bytes c.self.inside.stage) (sym c.in_ok-extend_from_slice.ensures.items)
+    (past_more c.self.inside.routes c.self.inside.bytes.items c.args.piece.now c.self.inside.stage c.self.invariant)

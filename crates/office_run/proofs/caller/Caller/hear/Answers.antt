@@ -1,8 +1,10 @@
 use Rattle.std.proofs.Common.{◌≡◌, ◌++◌, List, [], ℕ, Option, ◌∙◌, ap, refl, sym, subst}
 use Rattle.office_core.proofs.Proceeding.{along_still}
 use Rattle.office_http.specs.Answers.{unavailable_text}
-use Rattle.office_http.specs.Deciding.{Decides}
-use Rattle.office_http.specs.Exchanges.{bytes_of}
+use Rattle.office_http.specs.declared.routes.Routes.{Routes}
+use Rattle.office_http.specs.declared.routes.Routes.TheVariants.{Extended}
+use Rattle.office_http.specs.Deciding.{Decides, Lacks}
+use Rattle.office_http.specs.Exchanges.{bytes_of, routes_of}
 use Rattle.office_http.specs.Heard.{meaning_of}
 use Rattle.office_http.specs.Judging.{Judges}
 use Rattle.office_http.specs.declared.heard.Heard.{Heard}
@@ -20,9 +22,10 @@ returns-in-Ok-Some g c = λ source.
     reply_put source c.args.office.now c.answer.new.office (Hearing heard) (session_of c.answer.new.self) c.answer.new.self.out came.0 c.answer.result
     (is_answering c.answer.new.self c.answer.ensures.mood) came.2
     (replies_at_once source c.args.office.now c.answer.new.office (λ meaning. meaning ≡ meaning_of c.in-Ok-Some.heard) heard came.0
-    (λ meaning same. subst (λ (some : Meaning). Decides heard some) (sym same)
-    (subst (λ (bytes : List ℕ). Decides bytes (meaning_of c.in-Ok-Some.heard)) c.in-Ok-Some.ensures.taken
-    (subst (λ (told : Option Heard). Judges (bytes_of c.take.new.self) told) c.in-Ok-Some.field-0-is c.in-Ok-Some.ensures.asked))) came.1)
+    (λ meaning same. subst (λ (some : Meaning). Decides Extended heard some) (sym same)
+    (subst (λ (bytes : List ℕ). Decides Extended bytes (meaning_of c.in-Ok-Some.heard)) c.in-Ok-Some.ensures.taken
+    (subst (λ (told : Option Heard). Judges Extended (bytes_of c.take.new.self) told) c.in-Ok-Some.field-0-is
+    (subst (λ (routes : Routes). Judges routes (bytes_of c.take.new.self) c.in-Ok-Some.field-0) (c.in-Ok-Some.ensures.same ∙ c.args.self.now.offers) c.in-Ok-Some.ensures.asked)))) came.1)
 
 pub returns-in-Err : goal.returns-in-Err
 returns-in-Err g c = λ source.
@@ -31,5 +34,10 @@ returns-in-Err g c = λ source.
     refl c.push.ensures.ok
     (subst (λ (text : List ℕ). Exchanges source c.args.office.now c.args.office.now (λ acts. acts ≡ []) (Hearing heard) (Answering text))
     (sym c.unavailable.ensures ∙ sym (ap (λ (out : List ℕ). out ++ c.unavailable.result.now) (c.args.self.now.unwritten c.requires)))
-    (replies_at_once source c.args.office.now c.args.office.now (Decides heard) heard unavailable_text (λ meaning decides. decides)
-    (comes_untried c.args.office.now c.args.office.now (Decides heard) (along_still c.args.office.now))))
+    (replies_at_once source c.args.office.now c.args.office.now (Decides Extended heard) heard unavailable_text (λ meaning decides. decides)
+    (comes_untried c.args.office.now c.args.office.now (Decides Extended heard) (along_still c.args.office.now))))
+
+pub invariant_of-self-clause-lacks : goal.invariant_of-self-clause-lacks
+invariant_of-self-clause-lacks g c = λ hearing.
+    subst (λ (routes : Routes). Lacks routes (bytes_of c.take.new.self)) (c.in-Ok-None.ensures.same ∙ c.args.self.now.offers)
+    (subst (λ (told : Option Heard). Judges (routes_of c.take.new.self) (bytes_of c.take.new.self) told) c.in-Ok-None.field-0-is c.in-Ok-None.ensures.asked)
