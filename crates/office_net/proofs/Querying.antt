@@ -1,25 +1,27 @@
 -- Queries that calls make, call behind call.
-use Rattle.std.proofs.Common.{◌≡◌, ◌⊎◌, inl, inr, true, false, ℕ, List, [], ◌∷◌, Option, Some, None, Result, Ok, Err, refl, sym, subst}
+use Rattle.std.proofs.Common.{◌≡◌, ◌⊎◌, inl, inr, Bool, true, false, ℕ, List, [], ◌∷◌, Option, Some, None, Result, Ok, Err, refl, sym, subst}
 use Rattle.std.specs.Prelude.{IsErr, MatchResult}
 use Rattle.mb_mbap.specs.declared.frame.Frame.{Frame}
 use Rattle.poll_book.specs.declared.keeper.Neighbours.{Ghosts}
 use Rattle.poll_book.specs.Tables.{Within}
 use Rattle.office_core.specs.declared.office.Office.{Office}
 use Rattle.office_core.specs.declared.error.OfficeError.{OfficeError}
+use Rattle.office_core.specs.declared.event.Arrival.{Arrival}
 use Rattle.office_core.specs.declared.event.EventAnswer.{EventAnswer}
-use Rattle.office_core.specs.declared.event.EventAnswer.TheVariants.{Query, Refused}
+use Rattle.office_core.specs.declared.event.EventAnswer.TheVariants.{Arrived, Query, Refused}
 use Rattle.office_core.specs.Following.{Fails, Follows, Happens, MayLeave, Went}
 use Rattle.office_core.specs.History.{Happening, History, tables}
 use Rattle.office_core.specs.Leavings.{LeftAfter}
-use Rattle.office_core.specs.Offices.{keeper_of}
+use Rattle.office_core.specs.Messages.{arriving}
+use Rattle.office_core.specs.Offices.{arrived, keeper_of}
 use Rattle.office_core.specs.Proceeding.{AreOf, Course, Did, GoesAlong, LeftBySteps, Missed, Nothing, Step, stepped}
 use Rattle.office_core.specs.Standing.{is_store}
 use Rattle.office_core.proofs.Following.{left_more, left_refused}
 use Rattle.office_core.proofs.Proceeding.{along_then, still}
 use Rattle.office_net.specs.Counting.{Learnt}
-use Rattle.office_net.specs.Kinds.{Turn}
+use Rattle.office_net.specs.Kinds.{Hears, Turn}
 use Rattle.office_net.specs.Moves.{turn_of}
-use Rattle.office_net.specs.Querying.{Answered, Makes, Misses}
+use Rattle.office_net.specs.Querying.{Answered, CameTo, Makes, Misses, Tries}
 use Rattle.office_net.specs.Turning.{TurnFails, Turns}
 use Rattle.office_net.specs.declared.job.LineJob.{LineJob}
 use Rattle.office_net.proofs.Proceeding.{turn_is}
@@ -196,6 +198,32 @@ module _ {K : Type 0} {g : Ghosts K} where
             ),
           )
         ],
+  )
+
+module _ {K : Type 0} {g : Ghosts K} (old new : Office K g) (conn : ℕ) (frame : Frame) where
+  came_of : (e : OfficeError) (now : History) → Follows old now → (clean : g.is_clean (keeper_of new)) → Went old new (λ some. arriving some conn frame) Arrived (Err e)
+      → (is_store (Refused e) ≡ false → Happens (Follows old) (Follows new) (MayLeave old) (MayLeave new) (λ some. arriving some conn frame) (Refused e))
+      → (refused : Bool) → is_store (Refused e) ≡ refused → CameTo old new now (arriving now conn frame) (Refused e) refused
+  came_of e now follows clean fails came true is = (
+    fails.follows now follows,
+    λ left may_be. left_refused (MayLeave old) (tables now) (tables (arriving now conn frame ∷ now)) (is_store (Refused e)) left (fails.leaves now follows left may_be),
+  )
+  came_of e now follows clean fails came false is = let happens = came is in (sym (happens.answered now follows), happens.follows now follows, happens.leaves now follows)
+
+  -- a frame came
+  pub heard_of : (told : Result Arrival OfficeError) → (g.is_clean (keeper_of new) → g.is_clean (keeper_of old))
+      → (g.is_clean (keeper_of new) → Went old new (λ now. arriving now conn frame) Arrived told)
+      → (g.is_clean (keeper_of new) → is_store (arrived told) ≡ false → Happens (Follows old) (Follows new) (MayLeave old) (MayLeave new) (λ now. arriving now conn frame) (arrived told))
+      → Tries (Hears conn frame) old new (arrived told)
+  heard_of (Ok arrival) before went came = λ clean. (
+    before clean,
+    λ now follows.
+        let happens = went clean in
+        (arriving now conn frame, refl, (sym (happens.answered now follows), happens.follows now follows, happens.leaves now follows)),
+  )
+  heard_of (Err e) before went came = λ clean. (
+    before clean,
+    λ now follows. (arriving now conn frame, refl, came_of e now follows clean (went clean) (came clean) (is_store (Refused e)) refl),
   )
 
 -- what holds where a call failed

@@ -1,5 +1,5 @@
--- What a call that may make a query makes of an office.
-use Rattle.std.specs.Prelude.{◌≡◌, ◌⊎◌, true, false, ◌∷◌, Option, Some, None}
+-- What a call that makes a query, or takes a reply, makes of an office.
+use Rattle.std.specs.Prelude.{◌≡◌, ◌⊎◌, Bool, true, false, ◌∷◌, Option, Some, None}
 use Rattle.mb_mbap.specs.declared.frame.Frame.{Frame}
 use Rattle.poll_book.specs.declared.keeper.Neighbours.{Ghosts}
 use Rattle.poll_book.specs.Tables.{Within}
@@ -12,6 +12,7 @@ use Rattle.office_core.specs.History.{Happening, History, tables}
 use Rattle.office_core.specs.Leavings.{LeftAfter}
 use Rattle.office_core.specs.Offices.{keeper_of}
 use Rattle.office_core.specs.Proceeding.{GoesAlong, Nothing}
+use Rattle.office_core.specs.Standing.{is_store}
 
 -- whatever history the office followed, one event of a kind happened, to which it answers this
 abbrev pub Answered : {K : Type 0} {g : Ghosts K} → (History → Happening → Type 0) → Office K g → Office K g → EventAnswer → Type 0
@@ -32,3 +33,15 @@ Misses {g = g} kind old new =
     × ((now : History) → Follows old now → Follows new now
     × (Within (MayLeave new) (MayLeave old)
     ⊎ ((event : Happening) × kind now event × Within (MayLeave new) (LeftAfter (MayLeave old) (tables now) (tables (event ∷ now)) true))))
+
+-- what an event came to: where the store refused it nothing happened, and else it did, and this is its answer
+abbrev pub CameTo : {K : Type 0} {g : Ghosts K} → Office K g → Office K g → History → Happening → EventAnswer → Bool → Type 0
+CameTo old new now event told true = Follows new now × Within (MayLeave new) (LeftAfter (MayLeave old) (tables now) (tables (event ∷ now)) true)
+CameTo old new now event told false =
+    (answer_of now event ≡ told) × Follows new (event ∷ now) × Within (MayLeave new) (LeftAfter (MayLeave old) (tables now) (tables (event ∷ now)) false)
+
+-- whatever history the office followed, one event of a kind came to this
+abbrev pub Tries : {K : Type 0} {g : Ghosts K} → (History → Happening → Type 0) → Office K g → Office K g → EventAnswer → Type 0
+Tries {g = g} kind old new told =
+    g.is_clean (keeper_of new) → g.is_clean (keeper_of old)
+    × ((now : History) → Follows old now → (event : Happening) × kind now event × CameTo old new now event told (is_store told))

@@ -1,13 +1,14 @@
 //! Calls between which others may have the office: what they promise holds of every history that it follows.
 ghost use Rattle.std.specs.Prelude.{◌≡◌, IfOk, MatchResult};
 ghost use Rattle.poll_book.specs.Orders as orders;
+ghost use Rattle.office_core.specs.Errors.{IsCaused, IsOfStore};
 ghost use Rattle.office_core.specs.History.{History, settings};
-ghost use Rattle.office_core.specs.Offices.{keeper_of};
+ghost use Rattle.office_core.specs.Offices.{AccountsFor, arrived, keeper_of};
 ghost use Rattle.office_net.specs.Counting.{Learnt};
 ghost use Rattle.office_core.specs.Following.{Follows};
 ghost use Rattle.office_core.specs.Proceeding.{GoesAlong, Nothing};
 ghost use Rattle.office_net.specs.Kinds.{Asks, Hears, IsOldest, Opens, SendsUpTo};
-ghost use Rattle.office_net.specs.Querying.{Answered, Makes, Misses};
+ghost use Rattle.office_net.specs.Querying.{Answered, Makes, Misses, Tries};
 ghost use Rattle.office_core.specs.declared.event.EventAnswer.TheVariants as answer;
 
 use crate::turns::ask_lacking;
@@ -19,19 +20,21 @@ use read_planner::Read;
 
 /// Opens a line by its name, and closes its former connection. It refuses as `Office::open_line` does.
 pub fn open_line<K: Keeper>(office: &mut Office<K>, line: &str) -> Result<Conn, OfficeError>
-    ensures { MatchResult result (λ conn. Answered (Opens line.now) office.old office.new (answer.Opened conn)) (λ _. Misses (Opens line.now) office.old office.new) }
+    ensures made { MatchResult result (λ conn. Answered (Opens line.now) office.old office.new (answer.Opened conn)) (λ _. Misses (Opens line.now) office.old office.new) }
+    ensures accounts { AccountsFor IsCaused office.old office.new result }
 {
     office.open_line(line)
 }
 
-/// Takes a frame that comes where no round is under way: the reply to a query of an earlier one, or noise. It
-/// refuses as `Office::arrive` does.
+/// Takes a frame, whenever it comes: the reply to a query, of this round or of an earlier one, or noise. It refuses as
+/// `Office::arrive` does.
 pub fn take_late<K: Keeper>(
     office: &mut Office<K>,
     conn: Conn,
     frame: &Frame,
 ) -> Result<Arrival, OfficeError>
-    ensures { GoesAlong (Hears conn frame.now) office.old office.new }
+    ensures came { Tries (Hears conn frame.now) office.old office.new (arrived result) }
+    ensures accounts { AccountsFor IsCaused office.old office.new result }
 {
     office.arrive(conn, frame)
 }
@@ -41,6 +44,7 @@ pub fn last_order<K: Keeper>(office: &mut Office<K>) -> Result<u32, OfficeError>
     ensures value { K.is_clean (keeper_of office.new) → (now : History) → Follows office.old now
         → IfOk result (λ number. number ≡ orders.last_order (settings now)) }
     ensures along { GoesAlong Nothing office.old office.new }
+    ensures accounts { AccountsFor IsOfStore office.old office.new result }
 {
     office.orders()
 }

@@ -2,7 +2,6 @@
 use Rattle.std.proofs.Common.{◌≡◌, ◌+◌, List, [], ◌∷◌, ◌++◌, ℕ, zero, suc, length, refl, sym, ap, subst, arith}
 use Rattle.poll_book.specs.declared.keeper.Neighbours.{Ghosts}
 use Rattle.run_beat.specs.declared.sockets.Source.{Source}
-use Rattle.run_beat.specs.declared.sockets.Source.TheVariants as source
 use Rattle.run_beat.specs.Acts.{Act, Ends, Reads}
 use Rattle.office_core.specs.declared.office.Office.{Office}
 use Rattle.office_http.specs.Exchanges.{bytes_of}
@@ -11,11 +10,9 @@ use Rattle.office_run.specs.declared.caller.Mood.{Mood}
 use Rattle.office_run.specs.declared.caller.Mood.TheVariants as mood
 use Rattle.office_run.specs.declared.place.Place.{Place}
 use Rattle.office_run.specs.Callers.{AreEmpty, session_at, session_in, session_of}
-use Rattle.office_run.specs.Sessions.{Answering, AreServed, Exchanges, Free, Heard, Hearing, Moves, Session, Through}
-use Rattle.office_run.specs.Deeds.{GoesBy}
-use Rattle.office_run.proofs.Deeds.{goes_wider}
+use Rattle.office_run.specs.Sessions.{Answering, Exchanges, Free, Heard, Hearing, Moves, Session}
 use Rattle.office_run.proofs.Passing.{acting_once, part_acting}
-use Rattle.office_run.proofs.Staying.{Numbered, numbered_session}
+use Rattle.office_run.proofs.Staying.{Numbered, known, nth}
 
 pub is_hearing : (caller : Caller) → caller.mood ≡ mood.Hearing → session_of caller ≡ Hearing (bytes_of caller.exchange)
 is_hearing caller is = ap (λ (m : Mood). session_in m (bytes_of caller.exchange) caller.out) is
@@ -45,25 +42,11 @@ pub one_more_empty : (first : ℕ) (places : List Place) (place : Place) → Are
 one_more_empty first [] place empty at free = (omega (arith, at), free, tt)
 one_more_empty first (other ∷ places) place empty at free = (empty.0, empty.1, one_more_empty (suc first) places place empty.2 (omega (arith, at)) free)
 
-pub numbered_empty : (first : ℕ) (places : List Place) → AreEmpty first places → Numbered (λ place. place.at) session_at first places
+pub numbered_empty : (first : ℕ) (places : List Place) → AreEmpty first places → Numbered (λ place. place.at) first places
 numbered_empty first [] empty = tt
 numbered_empty first (place ∷ places) empty = (empty.0, numbered_empty (suc first) places empty.2)
 
-pub free_empty : (first : ℕ) (places : List Place) (caller : ℕ) → AreEmpty first places → numbered_session (λ place. place.at) session_at places caller ≡ Free
+pub free_empty : (first : ℕ) (places : List Place) (caller : ℕ) → AreEmpty first places → known session_at Free (nth places caller) ≡ Free
 free_empty first [] caller empty = refl
 free_empty first (place ∷ places) zero empty = empty.1
 free_empty first (place ∷ places) (suc caller) empty = free_empty (suc first) places caller empty.2
-
--- whoever was taken at them was served, whatever was done
-pub served_from_empty : {K : Type 0} {g : Ghosts K} (old new : Office K g) (acted : List Act → Type 0) (places places' : List Place) → AreEmpty 0 places
-    → GoesBy old new acted
-    (λ now deeds. (caller : ℕ) → Through (source.Caller caller) now (numbered_session (λ place. place.at) session_at places caller) deeds (numbered_session (λ place. place.at) session_at places' caller))
-    → GoesBy old new acted AreServed
-served_from_empty old new acted places places' empty =
-    goes_wider old new acted acted
-    (λ now deeds. (caller : ℕ) → Through (source.Caller caller) now (numbered_session (λ place. place.at) session_at places caller) deeds (numbered_session (λ place. place.at) session_at places' caller))
-    AreServed (λ acts done. done)
-    (λ now deeds served caller. (
-      numbered_session (λ place. place.at) session_at places' caller,
-      subst (λ (session : Session). Through (source.Caller caller) now session deeds (numbered_session (λ place. place.at) session_at places' caller)) (free_empty 0 places caller empty) (served caller),
-    ))

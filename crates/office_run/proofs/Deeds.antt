@@ -6,7 +6,6 @@ use Rattle.std.proofs.lemmas.List.{append-nil}
 use Rattle.poll_book.specs.declared.keeper.Neighbours.{Ghosts}
 use Rattle.poll_book.specs.Tables.{Tables, Within}
 use Rattle.run_beat.specs.declared.sockets.Source.{Source}
-use Rattle.run_beat.specs.declared.sockets.Source.TheVariants.{Line}
 use Rattle.run_beat.specs.Acts.{Act}
 use Rattle.office_core.specs.declared.office.Office.{Office}
 use Rattle.office_core.specs.Following.{Follows, MayLeave}
@@ -15,7 +14,7 @@ use Rattle.office_core.specs.Proceeding.{AreOf, GoesAlong, LeftBySteps, Nothing,
 use Rattle.office_net.proofs.Querying.{none_of}
 use Rattle.office_core.proofs.Proceeding.{are_then, left_by_more, left_by_then, stepped_then}
 use Rattle.office_run.specs.Doings.{Runs}
-use Rattle.office_run.specs.Deeds.{ActsOf, AllOf, Deed, Deeds, GoesBy, IsLine, OfLines, Over, acts_in, acts_of, source_of_act, steps_in, steps_of, with_all}
+use Rattle.office_run.specs.Deeds.{ActsOf, AllOf, Deed, Deeds, GoesBy, acts_in, acts_of, steps_in, steps_of, with_all}
 
 -- ---- lists of deeds
 
@@ -116,10 +115,7 @@ goes_asked old new acted kept along acts keeps clean =
           },
     )
 
--- ---- a line's
-
-abbrev pub over_all : Source → List Step → List Deed
-over_all source = map (Over source)
+-- ---- what is done with sockets
 
 pub with_no_steps : (acts : List Act) → steps_of (with_all acts) ≡ []
 with_no_steps [] = refl
@@ -133,54 +129,6 @@ pub with_their_sources : (of : Source → Type 0) (acts : List Act) → ActsOf o
 with_their_sources of [] all = tt
 with_their_sources of (act ∷ acts) all = (all.0, with_their_sources of acts all.1)
 
-pub over_its_steps : (source : Source) (steps : List Step) → steps_of (over_all source steps) ≡ steps
-over_its_steps source [] = refl
-over_its_steps source (step ∷ steps) = ap (λ (rest : List Step). step ∷ rest) (over_its_steps source steps)
-
-pub over_no_acts : (source : Source) (steps : List Step) → acts_of (over_all source steps) ≡ []
-over_no_acts source [] = refl
-over_no_acts source (step ∷ steps) = over_no_acts source steps
-
-pub over_its_source : (of : Source → Type 0) (source : Source) → of source → (steps : List Step) → AllOf of (over_all source steps)
-over_its_source of source is [] = tt
-over_its_source of source is (step ∷ steps) = (is, over_its_source of source is steps)
-
--- what happened over a line, and what was done with its socket
-pub goes_over : {K : Type 0} {g : Ghosts K} (old new : Office K g) (place : ℕ) (acted : List Act → Type 0)
-    → GoesAlong Runs old new → OfLines acted → GoesBy old new acted (λ now deeds. AllOf IsLine deeds)
-goes_over old new place acted along only clean =
-    let went = along clean in
-    let acts = with_all only.0 in (
-      went.0,
-      λ now follows.
-          let course = went.1 now follows in
-          let over = over_all (Line place) course.steps in
-          let its : steps_of (over ++ acts) ≡ course.steps =
-          steps_then over acts ∙ ap (λ (steps : List Step). steps ++ steps_of acts) (over_its_steps (Line place) course.steps)
-          ∙ ap (λ (steps : List Step). course.steps ++ steps) (with_no_steps only.0) ∙ append-nil course.steps in
-          record {
-            deeds = over ++ acts;
-            are = subst (λ (steps : List Step). AreOf Runs now steps) (sym its) course.are;
-            follows = subst (λ (steps : List Step). Follows new (stepped now steps)) (sym its) course.follows;
-            leaves = subst (λ (steps : List Step). Within (MayLeave new) (LeftBySteps (MayLeave old) now steps)) (sym its) course.leaves;
-            has_acted = subst acted
-                (sym (acts_then over acts ∙ ap (λ (some : List Act). some ++ acts_of acts) (over_no_acts (Line place) course.steps) ∙ with_its_acts only.0)) only.1;
-            has_kept = all_then IsLine over acts (over_its_source IsLine (Line place) (place, refl) course.steps) (with_their_sources IsLine only.0 only.2);
-          },
-    )
-
--- ---- what is done with lines' sockets
-
-pub of_lines_none : (acted : List Act → Type 0) → acted [] → OfLines acted
-of_lines_none acted acts = ([], acts, tt)
-
-pub of_lines_one : (act : Act) (acted : List Act → Type 0) → acted (act ∷ []) → IsLine (source_of_act act) → OfLines acted
-of_lines_one act acted acts of = (act ∷ [], acts, (of, tt))
-
 pub acts_of_then : (of : Source → Type 0) (second first : List Act) → ActsOf of second → ActsOf of first → ActsOf of (second ++ first)
 acts_of_then of [] first later earlier = earlier
 acts_of_then of (act ∷ second) first later earlier = (later.0, acts_of_then of second first later.1 earlier)
-
-pub of_lines_then : (acted acted' acted'' : List Act → Type 0) → ((first second : List Act) → acted first → acted' second → acted'' (second ++ first))
-    → OfLines acted → OfLines acted' → OfLines acted''
-of_lines_then acted acted' acted'' acts first second = (second.0 ++ first.0, acts first.0 second.0 first.1 second.1, acts_of_then IsLine second.0 first.0 second.2 first.2)

@@ -1,7 +1,8 @@
+mod Beginning
 mod Callers
 mod Deeds
+mod Lines
 mod Passing
 mod Sessions
 mod Staying
-mod Widening
 mod Wires

@@ -1,27 +1,46 @@
 -- How lines' connections stand, deed by deed.
-use Rattle.std.proofs.Common.{◌≡◌, inl, inr, false, ℕ, List, [], ◌∷◌, ◌++◌, Option, Some, None, Result, Ok, Err, refl, sym, subst}
-use Rattle.std.specs.Prelude.{MatchResult, is_some}
+use Rattle.std.proofs.Common.{◌≡◌, ◌⊎◌, inl, inr, Bool, true, false, ℕ, List, [], ◌∷◌, ◌++◌, Option, Some, None, Result, Ok, Err, refl, sym, ◌∙◌, ap, subst}
+use Rattle.std.specs.Prelude.{IsErrAnd, IsSome, MatchResult, if◌then◌else◌, is_some}
+use Rattle.std.specs.List.{flat_map}
+use Rattle.std.proofs.lemmas.List.{append-nil}
 use Rattle.mb_mbap.specs.declared.frame.Frame.{Frame}
-use Rattle.mb_mbap.specs.Stream.{spelled}
+use Rattle.mb_mbap.specs.declared.fault.FrameFault.{FrameFault}
+use Rattle.mb_mbap.specs.Feeding.{FeedMeans}
+use Rattle.mb_mbap.specs.Stream.{Splits, fault_of, spelled}
+use Rattle.poll_book.specs.declared.fault.StoreFault.{StoreFault}
 use Rattle.poll_book.specs.declared.keeper.Neighbours.{Ghosts}
-use Rattle.poll_book.specs.Tables.{Within}
 use Rattle.read_planner.specs.declared.Read.{Read}
+use Rattle.run_beat.specs.declared.sockets.Came.{Came}
+use Rattle.run_beat.specs.declared.sockets.Came.TheVariants as came
 use Rattle.run_beat.specs.declared.sockets.Source.{Source}
+use Rattle.run_beat.specs.Acts.{Act, Ends, Reads, read_so}
 use Rattle.office_core.specs.declared.office.Office.{Office}
 use Rattle.office_core.specs.declared.error.OfficeError.{OfficeError}
-use Rattle.office_core.specs.declared.event.EventAnswer.TheVariants.{Query}
+use Rattle.office_core.specs.declared.error.OfficeError.TheVariants as error
+use Rattle.office_core.specs.declared.event.Arrival.{Arrival}
+use Rattle.office_core.specs.Errors.{is_of_store}
+use Rattle.office_core.specs.Offices.{arrived}
+use Rattle.office_core.specs.declared.event.EventAnswer.{EventAnswer}
+use Rattle.office_core.specs.declared.event.EventAnswer.TheVariants as answer
+use Rattle.office_core.specs.declared.event.EventAnswer.TheVariants.{Opened, Query}
+use Rattle.office_core.specs.Answers.{answer_of}
 use Rattle.office_core.specs.Following.{Follows, MayLeave}
 use Rattle.office_core.specs.History.{Happening, History}
-use Rattle.office_core.specs.Proceeding.{AreOf, Did, GoesAlong, LeftBySteps, Missed, Nothing, Step, stepped}
-use Rattle.office_net.specs.Kinds.{Asks, Hears, SendsUpTo}
-use Rattle.office_net.specs.Querying.{Answered, Makes, Misses}
+use Rattle.office_core.specs.Proceeding.{Did, GoesAlong, Missed, Nothing}
+use Rattle.office_core.specs.Standing.{is_store}
+use Rattle.office_net.specs.Kinds.{Asks, Hears, Opens, SendsUpTo}
+use Rattle.office_net.specs.Querying.{Answered, CameTo, Makes, Misses, Tries}
 use Rattle.office_net.proofs.Querying.{makes_wider, misses_wider, nothing_then_makes, nothing_then_misses}
 use Rattle.office_run.specs.declared.round.Asked.{Asked}
-use Rattle.office_run.specs.Doings.{AsksOne, HearsOne, Runs, SendsOne}
-use Rattle.office_run.specs.Deeds.{AllOf, Deeds, Is, Over, Passes}
+use Rattle.office_run.specs.Doings.{AsksOne, HearsOne, OpensOne, Runs, SendsOne}
+use Rattle.office_run.specs.Deeds.{AllOf, Deeds, GivesUpOn, Is, Over, Passes}
 use Rattle.office_run.specs.Rounds.{query_of}
-use Rattle.office_run.specs.Wires.{AsksOver, Down, Queries, SendsOver, Up, Wire, WireMoves, Wired}
-use Rattle.office_run.proofs.Deeds.{along_of_deeds, over_all, over_its_source, over_its_steps, over_no_acts}
+use Rattle.office_run.specs.declared.loss.Loss.{Loss}
+use Rattle.office_run.specs.declared.loss.Stop.{Stop}
+use Rattle.office_run.specs.declared.loss.Stop.TheVariants.{Ahead, Lost, Refused}
+use Rattle.office_run.specs.Links.{before, held_in}
+use Rattle.office_run.specs.Wires.{AsksOver, Begun, GivesUp, IsShown, Queries, Reaches, Sends, SendsOver, Standing, Up, Wire, WireMoves, Wired, WiredBy, fresh, given_up, heard, settled, without}
+use Rattle.office_run.proofs.Passing.{acting_once, acting_still, part_still, then_office}
 
 -- ---- queries over a connection
 
@@ -54,97 +73,218 @@ pub then_asked : {K : Type 0} {g : Ghosts K} (conn : ℕ) (one two three : Offic
 then_asked conn one two three (Ok asked) along makes = nothing_then_makes (Queries conn) one two three (query_of asked) along makes
 then_asked conn one two three (Err e) along misses = nothing_then_misses (Queries conn) one two three along misses
 
--- ---- a connection that stands, in deeds
+-- ---- one event over a connection
 
-none_made : (now : History) (event : Happening) (conn : ℕ) → Queries conn now event → Runs now event
-none_made now event conn (AsksOver slot device read asks) = AsksOne conn slot device read asks
-none_made now event conn (SendsOver device sends) = SendsOne conn device sends
-
-module _ {K : Type 0} {g : Ghosts K} (source : Source) (old new : Office K g) (conn : ℕ) (left : List ℕ) where
-  -- a query was made: its bytes are to be written behind the others
-  pub wired_query : (query : Frame) → Answered (Queries conn) old new (Query query) → Wired source old new (λ acts. acts ≡ []) (Up conn left) (Up conn (left ++ spelled query))
-  wired_query query answered clean =
+module _ {K : Type 0} {g : Ghosts K} (line : List ℕ) (source : Source) (old new : Office K g) (kind : History → Happening → Type 0) (before after : Wire) where
+  -- it happened
+  wired_answered : (told : EventAnswer) → ((now : History) (event : Happening) → kind now event → answer_of now event ≡ told → Runs now event × WireMoves line now before (Over source (Did event)) after)
+      → Answered kind old new told → Wired line source old new (λ acts. acts ≡ []) before after
+  wired_answered told is answered clean =
       let went = answered clean in (
         went.0,
         λ now follows.
             let made = went.1 now follows in
+            let moved = is now made.0 made.1 made.2 in
             record {
               deeds = Over source (Did made.0) ∷ [];
-              are = (none_made now made.0 conn made.1, tt);
+              are = (moved.0, tt);
               follows = made.3;
               leaves = made.4;
               has_acted = refl;
-              has_kept = ((refl, tt), (Up conn left, refl, inl (refl, inl (query, made.1, made.2, refl))));
+              has_kept = ((refl, tt), (before, refl, inl (refl, moved.1)));
             },
       )
 
-  -- none was made
-  pub wired_missed : Misses (Queries conn) old new → Wired source old new (λ acts. acts ≡ []) (Up conn left) (Up conn left)
-  wired_missed misses clean =
-      let went = misses clean in (
-        went.0,
-        λ now follows.
-            let missed = went.1 now follows in
-            elim missed.1 as (λ _. Deeds (Follows new) (MayLeave old) (MayLeave new) (λ acts. acts ≡ [])
-            (λ deeds. AllOf (Is source) deeds × Passes WireMoves source now (Up conn left) deeds (Up conn left)) now) [
-              | inl none ↦ record { deeds = []; are = tt; follows = missed.0; leaves = none; has_acted = refl; has_kept = (tt, refl) }
-              | inr some ↦ record {
-                deeds = Over source (Missed some.0) ∷ [];
-                are = (none_made now some.0 conn some.1, tt);
-                follows = missed.0;
-                leaves = some.2;
-                has_acted = refl;
-                has_kept = ((refl, tt), (Up conn left, refl, inl (refl, (inl some.1, refl))));
-              }
-            ],
-      )
+-- it was refused, or nothing was tried
+wired_refused : {K : Type 0} {g : Ghosts K} (line : List ℕ) (source : Source) (old new : Office K g) (kind : History → Happening → Type 0) (wire : Wire)
+    → ((now : History) (event : Happening) → kind now event → Runs now event × WireMoves line now wire (Over source (Missed event)) wire)
+    → Misses kind old new → Wired line source old new (λ acts. acts ≡ []) wire wire
+wired_refused line source old new kind wire is misses clean =
+    let went = misses clean in (
+      went.0,
+      λ now follows.
+          let missed = went.1 now follows in
+          elim missed.1 as (λ _. Deeds (Follows new) (MayLeave old) (MayLeave new) (λ acts. acts ≡ [])
+          (λ deeds. AllOf (Is source) deeds × Passes (WireMoves line) source now wire deeds wire) now) [
+            | inl none ↦ record { deeds = []; are = tt; follows = missed.0; leaves = none; has_acted = refl; has_kept = (tt, refl) }
+            | inr some ↦
+                let moved = is now some.0 some.1 in
+                record {
+                  deeds = Over source (Missed some.0) ∷ [];
+                  are = (moved.0, tt);
+                  follows = missed.0;
+                  leaves = some.2;
+                  has_acted = refl;
+                  has_kept = ((refl, tt), (wire, refl, inl (refl, moved.1)));
+                }
+          ],
+    )
 
-  hears_run : (frame : Frame) (now : History) (steps : List Step) → AreOf (Hears conn frame) now steps → AreOf Runs now steps
-  hears_run frame now [] of = tt
-  hears_run frame now (Did event ∷ steps) of = (HearsOne conn frame of.0, hears_run frame now steps of.1)
-  hears_run frame now (Missed event ∷ steps) of = (HearsOne conn frame of.0, hears_run frame now steps of.1)
+-- the query that a reply answers waits no more, and neither does one whose reply the store refused
+abbrev pub heard_or : Bool → EventAnswer → Frame → Standing → Standing
+heard_or true told frame at = settled frame at
+heard_or false told frame at = heard told frame at
 
-  hears_kept : (frame : Frame) (now : History) (steps : List Step) → AreOf (Hears conn frame) now steps → Passes WireMoves source now (Up conn left) (over_all source steps) (Up conn left)
-  hears_kept frame now [] of = refl
-  hears_kept frame now (Did event ∷ steps) of = (
-    Up conn left,
-    hears_kept frame now steps of.1,
-    inl (refl, inr (frame, subst (λ (steps : List Step). Hears conn frame (stepped now steps) event) (sym (over_its_steps source steps)) of.0, refl)),
-  )
-  hears_kept frame now (Missed event ∷ steps) of = (
-    Up conn left,
-    hears_kept frame now steps of.1,
-    inl (refl, (inr (frame, subst (λ (steps : List Step). Hears conn frame (stepped now steps) event) (sym (over_its_steps source steps)) of.0), refl)),
-  )
+module _ {K : Type 0} {g : Ghosts K} (line : List ℕ) (source : Source) (old new : Office K g) (at : Standing) (frame : Frame) (told : EventAnswer) where
+  heard_to : (now : History) (event : Happening) → Hears at.conn frame now event → (refused : Bool) → CameTo old new now event told refused
+      → Deeds (Follows new) (MayLeave old) (MayLeave new) (λ acts. acts ≡ [])
+      (λ deeds. AllOf (Is source) deeds × Passes (WireMoves line) source now (Up (before frame at)) deeds (Up (heard_or refused told frame at))) now
+  heard_to now event hears true kept = record {
+    deeds = Over source (Missed event) ∷ [];
+    are = (HearsOne at.conn frame hears, tt);
+    follows = kept.0;
+    leaves = kept.1;
+    has_acted = refl;
+    has_kept = ((refl, tt), (Up (before frame at), refl, inl (refl, inr (frame, at.unread, hears, refl, refl))));
+  }
+  heard_to now event hears false happened = record {
+    deeds = Over source (Did event) ∷ [];
+    are = (HearsOne at.conn frame hears, tt);
+    follows = happened.1;
+    leaves = happened.2;
+    has_acted = refl;
+    has_kept = ((refl, tt), (Up (before frame at), refl, inl (refl, inr (frame, at.unread, hears, refl, ap (λ (some : EventAnswer). Up (heard some frame at)) (sym happened.0)))));
+  }
 
-  -- a frame came
-  pub wired_heard : (frame : Frame) → GoesAlong (Hears conn frame) old new → Wired source old new (λ acts. acts ≡ []) (Up conn left) (Up conn left)
-  wired_heard frame along clean =
-      let went = along clean in (
-        went.0,
-        λ now follows.
-            let course = went.1 now follows in
-            let its = sym (over_its_steps source course.steps) in
-            record {
-              deeds = over_all source course.steps;
-              are = subst (λ (steps : List Step). AreOf Runs now steps) its (hears_run frame now course.steps course.are);
-              follows = subst (λ (steps : List Step). Follows new (stepped now steps)) its course.follows;
-              leaves = subst (λ (steps : List Step). Within (MayLeave new) (LeftBySteps (MayLeave old) now steps)) its course.leaves;
-              has_acted = over_no_acts source course.steps;
-              has_kept = (over_its_source (Is source) source refl course.steps, hears_kept frame now course.steps course.are);
-            },
-      )
+-- ---- of each kind
 
--- bytes behind those that are left
-abbrev pub behind : List ℕ → Wire → Wire
-behind bytes Down = Down
-behind bytes (Up conn left) = Up conn (left ++ bytes)
+query_runs : (now : History) (event : Happening) (conn : ℕ) → Queries conn now event → Runs now event
+query_runs now event conn (AsksOver slot device read asks) = AsksOne conn slot device read asks
+query_runs now event conn (SendsOver device sends) = SendsOne conn device sends
 
--- ---- of a call that may fail, as steps
+module _ {K : Type 0} {g : Ghosts K} (line : List ℕ) (source : Source) (old new : Office K g) where
+  -- the line was opened, or it wasn't
+  pub wired_opened : (conn : ℕ) → Answered (Opens line) old new (Opened conn) → Wired line source old new (λ acts. acts ≡ []) Begun (Up (fresh conn))
+  wired_opened conn = wired_answered line source old new (Opens line) Begun (Up (fresh conn)) (Opened conn) (λ now event opens told. (OpensOne line opens, (conn, opens, told, refl)))
 
-pub along_of_wired : {K T E : Type 0} {g : Ghosts K} (source : Source) (old new : Office K g) (before after : Wire) (told : Result T E)
-    → MatchResult told (λ _. Wired source old new (λ acts. acts ≡ []) before after) (λ _. (wire : Wire) × Wired source old new (λ acts. acts ≡ []) before wire) → GoesAlong Runs old new
-along_of_wired source old new before after (Ok value) wired =
-    along_of_deeds old new (λ acts. acts ≡ []) (λ now deeds. AllOf (Is source) deeds × Passes WireMoves source now before deeds after) wired
-along_of_wired source old new before after (Err error) wired =
-    along_of_deeds old new (λ acts. acts ≡ []) (λ now deeds. AllOf (Is source) deeds × Passes WireMoves source now before deeds wired.0) wired.1
+  pub wired_unopened : Misses (Opens line) old new → Wired line source old new (λ acts. acts ≡ []) Begun Begun
+  wired_unopened = wired_refused line source old new (Opens line) Begun (λ now event opens. (OpensOne line opens, (opens, refl)))
+
+  module _ (at : Standing) where
+    -- a query was made
+    pub wired_query : (query : Frame) (wire : Wire) → Sends at query wire → Answered (Queries at.conn) old new (Query query) → Wired line source old new (λ acts. acts ≡ []) (Up at) wire
+    wired_query query wire sends = wired_answered line source old new (Queries at.conn) (Up at) wire (Query query) (λ now event queries told. (query_runs now event at.conn queries, inl (query, queries, told, sends)))
+
+    -- none was made
+    pub wired_missed : Misses (Queries at.conn) old new → Wired line source old new (λ acts. acts ≡ []) (Up at) (Up at)
+    wired_missed = wired_refused line source old new (Queries at.conn) (Up at) (λ now event queries. (query_runs now event at.conn queries, inl (queries, refl)))
+
+    -- a frame came
+    pub wired_heard : (frame : Frame) (told : EventAnswer) → Tries (Hears at.conn frame) old new told
+        → Wired line source old new (λ acts. acts ≡ []) (Up (before frame at)) (Up (heard_or (is_store told) told frame at))
+    wired_heard frame told tries clean =
+        let went = tries clean in
+        (went.0, λ now follows. let tried = went.1 now follows in heard_to line source old new at frame told now tried.0 tried.1 (is_store told) tried.2)
+
+-- by what the office answered
+module _ {K : Type 0} {g : Ghosts K} (line : List ℕ) (source : Source) (old new : Office K g) (at : Standing) (frame : Frame) (told : Result Arrival OfficeError) where
+  -- an answer, or one that the store refused
+  pub heard_answer : is_store (arrived told) ≡ true → Tries (Hears at.conn frame) old new (arrived told) → Wired line source old new (λ acts. acts ≡ []) (Up (before frame at)) (Up (settled frame at))
+  heard_answer refused tries =
+      subst (λ (some : Bool). Wired line source old new (λ acts. acts ≡ []) (Up (before frame at)) (Up (heard_or some (arrived told) frame at))) refused (wired_heard line source old new at frame (arrived told) tries)
+
+  pub heard_none : (e : OfficeError) → told ≡ Err e → is_of_store e ≡ false → Tries (Hears at.conn frame) old new (arrived told) → Wired line source old new (λ acts. acts ≡ []) (Up (before frame at)) (Up at)
+  heard_none e is other tries =
+      subst (λ (some : Bool). Wired line source old new (λ acts. acts ≡ []) (Up (before frame at)) (Up (heard_or some (answer.Refused e) frame at))) other
+      (subst (λ (some : Result Arrival OfficeError). Wired line source old new (λ acts. acts ≡ []) (Up (before frame at)) (Up (heard_or (is_store (arrived some)) (arrived some) frame at))) is
+      (wired_heard line source old new at frame (arrived told) tries))
+
+pub not_store : (e : OfficeError) → ((fault : StoreFault) → e ≡ error.Store fault → ⊥) → is_of_store e ≡ false
+not_store (error.Store fault) not = absurd (not fault refl)
+not_store error.NoConnection not = refl
+not_store error.WrongLine not = refl
+not_store error.NoRead not = refl
+not_store error.NoOrder not = refl
+not_store error.Settled not = refl
+not_store error.NotNext not = refl
+not_store error.Exhausted not = refl
+not_store error.SiteDiffers not = refl
+not_store error.NoQuery not = refl
+not_store error.WrongUnit not = refl
+not_store error.Repeat not = refl
+not_store error.WrongReply not = refl
+
+-- ---- with its socket
+
+-- a piece was read: it is cut into frames and what may be a part of one, or begins with a bad header
+reaches_by : (at : Standing) (held piece : List ℕ) (frames : List Frame) (rest : List ℕ) → at.unread ≡ held → at.reading ≡ true → Splits (held ++ piece) frames rest
+    → (fault : Option FrameFault) → fault_of rest ≡ fault
+    → Reaches at piece (Up (record at { unread = flat_map spelled frames ++ held_in (if is_some fault then None else Some rest); reading = is_some (if is_some fault then None else Some rest) }))
+reaches_by at held piece frames rest of reads splits None is = inl (
+    ap (λ (bytes : List ℕ). Up (record at { unread = bytes; reading = true })) (sym splits.whole ∙ ap (λ (some : List ℕ). some ++ piece) (sym of))
+    ∙ ap (λ (more : Bool). Up (record at { unread = at.unread ++ piece; reading = more })) (sym reads)
+    )
+reaches_by at held piece frames rest of reads splits (Some fault) is = inr (
+  flat_map spelled frames ++ [],
+  rest,
+  ap (λ (some : List ℕ). some ++ piece) of ∙ splits.whole ∙ ap (λ (whole : List ℕ). whole ++ rest) (sym (append-nil (flat_map spelled frames))),
+  subst (λ (some : Option FrameFault). IsSome some) (sym is) refl,
+  refl,
+)
+
+pub reaches_so : (at : Standing) (piece : List ℕ) (frames : List Frame) (fault : Option FrameFault) (old new : Option (List ℕ)) → at.unread ≡ held_in old → at.reading ≡ true → is_some old ≡ true
+    → FeedMeans old piece frames fault new → Reaches at piece (Up (record at { unread = flat_map spelled frames ++ held_in new; reading = is_some new }))
+reaches_so at piece frames fault None new of reads is fed = absurd (cc)
+reaches_so at piece frames fault (Some held) new of reads is fed =
+    subst (λ (stream : Option (List ℕ)). Reaches at piece (Up (record at { unread = flat_map spelled frames ++ held_in stream; reading = is_some stream }))) (sym fed.3)
+    (reaches_by at held piece frames fed.0 of reads fed.1 (fault_of fed.0) refl)
+
+-- nothing more comes, or the connection failed
+pub ended_so : (line : List ℕ) (source : Source) (piece : List ℕ) (acted : List Act → Type 0) (at : Standing) (told : Came) → acted (read_so source piece told)
+    → (told ≡ came.Ended) ⊎ (told ≡ came.Failed) → WiredBy line source acted (Up at) (Up at)
+ended_so line source piece acted at told acts (inl ended) =
+    acting_once (WireMoves line) source acted (Ends source) (Up at) (Up at) (subst (λ (some : Came). acted (read_so source piece some)) ended acts) refl (λ now. refl)
+ended_so line source piece acted at told acts (inr failed) =
+    acting_still (WireMoves line) source acted (Up at) (subst (λ (some : Came). acted (read_so source piece some)) failed acts)
+
+-- bytes came, and then memory was refused
+pub read_so_far : (line : List ℕ) (source : Source) (bytes : List ℕ) (acted : List Act → Type 0) (at : Standing) → at.reading ≡ true → acted (Reads source bytes ∷ [])
+    → WiredBy line source acted (Up at) (Up (record at { unread = at.unread ++ bytes }))
+read_so_far line source bytes acted at reads acts =
+    acting_once (WireMoves line) source acted (Reads source bytes) (Up at) (Up (record at { unread = at.unread ++ bytes })) acts refl (λ now. (reads, inl refl))
+
+-- ---- given up
+
+without_more : (second first : List ℕ) (wire : Wire) → without (second ++ first) wire ≡ without second (without first wire)
+without_more [] first wire = refl
+without_more (device ∷ second) first wire = ap (given_up device) (without_more second first wire)
+
+pub gives_then : (one two three : Wire) → GivesUp one two → GivesUp two three → GivesUp one three
+gives_then one two three first second = (second.0 ++ first.0, second.1 ∙ ap (without second.0) first.1 ∙ sym (without_more second.0 first.0 one))
+
+-- queries of devices were given up
+pub wired_given : {K : Type 0} {g : Ghosts K} (line : List ℕ) (source : Source) (office : Office K g) (wire : Wire) (devices : List ℕ)
+    → Wired line source office office (λ acts. acts ≡ []) wire (without devices wire)
+wired_given line source office wire [] = part_still (WireMoves line) source office (λ acts. acts ≡ []) wire refl
+wired_given line source office wire (device ∷ devices) =
+    then_office (WireMoves line) source office office office (λ acts. acts ≡ []) wire (without devices wire) (without (device ∷ devices) wire) (wired_given line source office wire devices)
+    (λ clean. (
+      clean,
+      λ now follows.
+          record {
+            deeds = GivesUpOn source device ∷ [];
+            are = tt;
+            follows = follows;
+            leaves = λ left may. may;
+            has_acted = refl;
+            has_kept = ((refl, tt), (without devices wire, refl, inl (refl, refl)));
+          },
+    ))
+
+-- ---- how it is shown
+
+pub shown : {T : Type 0} (told : Result T Stop) (wire wire' : Wire) → wire' ≡ wire → IsShown told wire wire'
+shown (Ok value) wire wire' same = same
+shown (Err (Lost why)) wire wire' same = tt
+shown (Err (Refused fault)) wire wire' same = same
+shown (Err (Ahead ahead)) wire wire' same = same
+
+pub shown_lost : (T : Type 0) (told : Result T Stop) (why : Loss) (wire wire' : Wire) → IsErrAnd told (λ stop. stop ≡ Lost why) → IsShown told wire wire'
+shown_lost T (Ok value) why wire wire' is = absurd is
+shown_lost T (Err stop) why wire wire' is = subst (λ (some : Stop). IsShown {T = T} (Err some) wire wire') (sym is) tt
+
+-- a failure that is handed on
+pub shown_on : (T X : Type 0) (stop : Stop) (wire wire' : Wire) → IsShown {T = T} (Err stop) wire wire' → IsShown {T = X} (Err stop) wire wire'
+shown_on T X (Lost why) wire wire' is = tt
+shown_on T X (Refused fault) wire wire' is = is
+shown_on T X (Ahead ahead) wire wire' is = is

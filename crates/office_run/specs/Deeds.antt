@@ -3,7 +3,6 @@ use Rattle.std.specs.Prelude.{◌≡◌, ◌≢◌, ◌⊎◌, ⊤, ℕ, List, [
 use Rattle.poll_book.specs.declared.keeper.Neighbours.{Ghosts}
 use Rattle.poll_book.specs.Tables.{Tables, Within}
 use Rattle.run_beat.specs.declared.sockets.Source.{Source}
-use Rattle.run_beat.specs.declared.sockets.Source.TheVariants.{Line}
 use Rattle.run_beat.specs.Acts.{Act, Begins, Reads, Ends, Writes, Finishes, Closes}
 use Rattle.office_core.specs.declared.office.Office.{Office}
 use Rattle.office_core.specs.Following.{Follows, MayLeave}
@@ -28,6 +27,8 @@ pub data Deed : Type 0 where
   With : Act → Deed
   -- something happens over a line, or the store refuses it
   Over : Source → Step → Deed
+  -- the queries of a line's device are given up
+  GivesUpOn : Source → (device : ℕ) → Deed
   -- what a caller asked for came to that, and these bytes are the answer
   Replies : Source → Became → List ℕ → Deed
 
@@ -43,6 +44,7 @@ source_of_act (Closes source) = source
 abbrev pub source_of : Deed → Source
 source_of (With act) = source_of_act act
 source_of (Over source step) = source
+source_of (GivesUpOn source device) = source
 source_of (Replies source became text) = source
 
 -- what happens, or is refused
@@ -53,6 +55,7 @@ steps_made make (Some event) = make event ∷ []
 abbrev pub steps_in : Deed → List Step
 steps_in (With act) = []
 steps_in (Over source step) = step ∷ []
+steps_in (GivesUpOn source device) = []
 steps_in (Replies source (Done meaning) text) = steps_made Did (event_of meaning)
 steps_in (Replies source (Undone meaning) text) = steps_made Missed (event_of meaning)
 steps_in (Replies source Untried text) = []
@@ -71,9 +74,6 @@ acts_of = flat_map acts_in
 abbrev pub Is : Source → Source → Type 0
 Is source some = some ≡ source
 
-abbrev pub IsLine : Source → Type 0
-IsLine some = (place : ℕ) × (some ≡ Line place)
-
 -- all are of such lines or callers
 abbrev pub AllOf : (Source → Type 0) → List Deed → Type 0
 AllOf of [] = ⊤
@@ -85,10 +85,6 @@ ActsOf of (act ∷ acts) = of (source_of_act act) × ActsOf of acts
 
 abbrev pub with_all : List Act → List Deed
 with_all = map With
-
--- what was done with sockets is this, and it was lines' alone
-abbrev pub OfLines : (List Act → Type 0) → Type 0
-OfLines acted = (acts : List Act) × acted acts × ActsOf IsLine acts
 
 -- deeds from a history on, the newest first: they are what a run does, the office stands for what they lead to, and a stop leaves
 -- what their events leave

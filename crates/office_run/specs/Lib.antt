@@ -4,7 +4,9 @@ pub mod Devices
 pub mod Doings
 pub mod Dues
 pub mod Journals
+pub mod Lines
 pub mod Links
+pub mod Losses
 pub mod Noises
 pub mod Outlooks
 pub mod Passes

@@ -1,8 +1,11 @@
 -- What waits over a line's connection.
-use Rattle.std.specs.Prelude.{ℕ, List}
+use Rattle.std.specs.Prelude.{ℕ, List, [], ◌++◌, Option, Some, None, is_some}
+use Rattle.std.specs.List.{flat_map}
+use Rattle.mb_mbap.specs.declared.frame.Frame.{Frame}
+use Rattle.mb_mbap.specs.Stream.{spelled}
 use Rattle.office_run.specs.declared.link.Link.{Link}
 use Rattle.office_run.specs.declared.window.Query.{Query}
-use Rattle.office_run.specs.Wires.{Up, Wire}
+use Rattle.office_run.specs.Wires.{Standing, Up, Wire}
 
 -- the bytes that wait to be written
 abbrev pub waiting_in : Link → List ℕ
@@ -12,6 +15,26 @@ waiting_in link = link.out
 abbrev pub asked_in : Link → List Query
 asked_in link = link.window
 
+-- the frames that came and weren't taken
+abbrev pub frames_in : Link → List Frame
+frames_in link = link.frames.items
+
+-- the part of a frame that came
+abbrev pub held_in : Option (List ℕ) → List ℕ
+held_in None = []
+held_in (Some held) = held
+
+-- the bytes that are of no frame that was taken
+abbrev pub unread_in : Link → List ℕ
+unread_in link = flat_map spelled (frames_in link) ++ held_in link.stream
+
 -- how the connection stands
+abbrev pub standing_of : Link → Standing
+standing_of link = record { conn = link.conn; left = link.out; unread = unread_in link; reading = is_some link.stream; waiting = link.window }
+
 abbrev pub wire_of : Link → Wire
-wire_of link = Up link.conn link.out
+wire_of link = Up (standing_of link)
+
+-- a frame before what is unread
+abbrev pub before : Frame → Standing → Standing
+before frame at = record at { unread = spelled frame ++ at.unread }

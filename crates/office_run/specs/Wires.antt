@@ -1,52 +1,139 @@
 -- How a line's connection stands, deed by deed.
-use Rattle.std.specs.Prelude.{◌≡◌, ◌⊎◌, ℕ, List, [], ◌++◌}
+use Rattle.std.specs.Prelude.{◌≡◌, ◌⊎◌, ◌<◌, ⊤, ℕ, zero, suc, Bool, true, false, IsSome, List, [], ◌∷◌, ◌++◌, length, Result, Ok, Err}
+use Rattle.std.specs.List.{filter}
 use Rattle.mb_mbap.specs.declared.frame.Frame.{Frame}
-use Rattle.mb_mbap.specs.Stream.{spelled}
+use Rattle.mb_mbap.specs.Stream.{fault_of, spelled}
 use Rattle.poll_book.specs.declared.keeper.Neighbours.{Ghosts}
 use Rattle.read_planner.specs.declared.Read.{Read}
 use Rattle.run_beat.specs.declared.sockets.Source.{Source}
+use Rattle.run_beat.specs.declared.sockets.Source.TheVariants.{Line}
 use Rattle.run_beat.specs.Acts.{Act, Begins, Reads, Ends, Writes, Closes}
 use Rattle.office_core.specs.declared.office.Office.{Office}
-use Rattle.office_core.specs.declared.event.EventAnswer.TheVariants.{Opened, Query}
+use Rattle.office_core.specs.declared.event.EventAnswer.{EventAnswer}
+use Rattle.office_core.specs.declared.event.EventAnswer.TheVariants.{Arrived, Opened, Query}
 use Rattle.office_core.specs.Answers.{answer_of}
 use Rattle.office_core.specs.History.{Happening, History}
 use Rattle.office_core.specs.Proceeding.{Did, Missed}
-use Rattle.office_net.specs.Kinds.{Asks, Hears, Opens, Sends}
-use Rattle.office_run.specs.Deeds.{Deed, Over, PartOf, PassesBy, With}
+use Rattle.office_net.specs.Kinds.{Asks, Hears, Opens, Sends as SendsOne}
+use Rattle.office_run.specs.declared.loss.Stop.{Stop}
+use Rattle.office_run.specs.declared.loss.Stop.TheVariants.{Lost}
+use Rattle.office_run.specs.declared.window.Query.{Query as Waiting}
+use Rattle.office_run.specs.Windows.{is_of_another, is_under_another}
+use Rattle.office_run.specs.Deeds.{Deed, GivesUpOn, Over, PartOf, Passes, PassesBy, With}
+
+-- a connection that stands
+pub record Standing : Type 0 where
+  -- its number, which the office gave it
+  pub conn : ℕ
+  -- the bytes that are left to be written
+  pub left : List ℕ
+  -- the bytes that were read and are of no frame that was heard
+  pub unread : List ℕ
+  -- whether more is read: not where no frame can follow
+  pub reading : Bool
+  -- the queries that are neither answered nor given up
+  pub waiting : List Waiting
 
 pub data Wire : Type 0 where
-  -- none stands
+  -- no connection stands
   Down : Wire
-  -- the connection of this number stands, and these bytes are left to be written over it
-  Up : ℕ → List ℕ → Wire
+  -- one is begun
+  Begun : Wire
+  Up : Standing → Wire
+
+-- one over which nothing went yet
+abbrev pub fresh : ℕ → Standing
+fresh conn = record { conn = conn; left = []; unread = []; reading = true; waiting = [] }
 
 -- a query over a connection: a read is asked, or an order is sent
 pub data Queries (conn : ℕ) (now : History) (event : Happening) : Type 0 where
   AsksOver : (slot : ℕ) (device : List ℕ) (read : Read) → Asks conn slot device read now event → Queries conn now event
-  SendsOver : (device : List ℕ) → Sends conn device now event → Queries conn now event
+  SendsOver : (device : List ℕ) → SendsOne conn device now event → Queries conn now event
 
--- what a deed makes of it: the number is the one that the office gave as the line was opened; what is asked goes over it,
--- query behind query, and nothing else; and what comes is of it
-abbrev pub WireMoves : History → Wire → Deed → Wire → Type 0
-WireMoves now wire (With (Closes source)) wire' = wire' ≡ Down
-WireMoves now wire (With (Begins source)) wire' = wire' ≡ Down
-WireMoves now wire (With (Reads source bytes)) wire' = wire' ≡ wire
-WireMoves now wire (With (Ends source)) wire' = wire' ≡ wire
-WireMoves now Down (Over source (Did event)) wire' =
-    (line : List ℕ) × (conn : ℕ) × Opens line now event × (answer_of now event ≡ Opened conn) × (wire' ≡ Up conn [])
-WireMoves now Down (Over source (Missed event)) wire' = (line : List ℕ) × Opens line now event × (wire' ≡ Down)
-WireMoves now (Up conn left) (With (Writes source bytes)) wire' = (rest : List ℕ) × (left ≡ bytes ++ rest) × (wire' ≡ Up conn rest)
-WireMoves now (Up conn left) (Over source (Did event)) wire' =
-    ((query : Frame) × Queries conn now event × (answer_of now event ≡ Query query) × (wire' ≡ Up conn (left ++ spelled query)))
-    ⊎ ((frame : Frame) × Hears conn frame now event × (wire' ≡ Up conn left))
-WireMoves now (Up conn left) (Over source (Missed event)) wire' =
-    (Queries conn now event ⊎ ((frame : Frame) × Hears conn frame now event)) × (wire' ≡ Up conn left)
-WireMoves now _ _ _ = ⊥
+-- bytes were read behind others; what begins with a bad header is dropped, and then no frame can follow
+abbrev pub Reaches : Standing → List ℕ → Wire → Type 0
+Reaches at bytes wire' =
+    (wire' ≡ Up (record at { unread = at.unread ++ bytes }))
+    ⊎ ((whole : List ℕ) × (bad : List ℕ) × (at.unread ++ bytes ≡ whole ++ bad) × IsSome (fault_of bad) × (wire' ≡ Up (record at { unread = whole; reading = false })))
+
+-- a query was made: it is to be written behind the others, and one of fewer than sixteen that wait
+abbrev pub sent : Frame → Waiting → Standing → Standing
+sent query asked at = record at { left = at.left ++ spelled query; waiting = at.waiting ++ asked ∷ [] }
+
+abbrev pub Sends : Standing → Frame → Wire → Type 0
+Sends at query wire' = (asked : Waiting) × (asked.transaction ≡ query.transaction) × (length at.waiting < 16) × (wire' ≡ Up (sent query asked at))
+
+-- the queries that wait behind the reply to one
+abbrev pub settled : Frame → Standing → Standing
+settled frame at = record at { waiting = filter (is_under_another frame.transaction) at.waiting }
+
+abbrev pub heard : EventAnswer → Frame → Standing → Standing
+heard (Arrived arrival) frame at = settled frame at
+heard _ frame at = at
+
+-- the next frame of what was read comes
+abbrev pub IsNext : Standing → Frame → List ℕ → Type 0
+IsNext at frame rest = at.unread ≡ spelled frame ++ rest
+
+-- all queries of a device are given up
+abbrev pub given_up : ℕ → Wire → Wire
+given_up device (Up at) = Up (record at { waiting = filter (is_of_another device) at.waiting })
+given_up device wire = wire
+
+-- the queries of devices were given up, the last of them first
+abbrev pub without : List ℕ → Wire → Wire
+without [] wire = wire
+without (device ∷ devices) wire = given_up device (without devices wire)
+
+abbrev pub GivesUp : Wire → Wire → Type 0
+GivesUp wire wire' = (devices : List ℕ) × (wire' ≡ without devices wire)
+
+-- What a deed makes of the connection of a line of this name. It is begun where none stands, and stands under the number that
+-- the office gives as the line is opened; what is asked goes over it, query behind query, and nothing else, while fewer than
+-- sixteen wait; and the frames that are heard are those of the bytes that were read over it, each once, in their order
+abbrev pub WireMoves : List ℕ → History → Wire → Deed → Wire → Type 0
+WireMoves line now wire (With (Closes source)) wire' = wire' ≡ Down
+WireMoves line now wire (GivesUpOn source device) wire' = wire' ≡ given_up device wire
+WireMoves line now Down (With (Begins source)) wire' = wire' ≡ Begun
+WireMoves line now Begun (Over source (Did event)) wire' = (conn : ℕ) × Opens line now event × (answer_of now event ≡ Opened conn) × (wire' ≡ Up (fresh conn))
+WireMoves line now Begun (Over source (Missed event)) wire' = Opens line now event × (wire' ≡ Begun)
+WireMoves line now (Up at) (With (Reads source bytes)) wire' = (at.reading ≡ true) × Reaches at bytes wire'
+WireMoves line now (Up at) (With (Ends source)) wire' = wire' ≡ Up at
+WireMoves line now (Up at) (With (Writes source bytes)) wire' = (rest : List ℕ) × (at.left ≡ bytes ++ rest) × (wire' ≡ Up (record at { left = rest }))
+WireMoves line now (Up at) (Over source (Did event)) wire' =
+    ((query : Frame) × Queries at.conn now event × (answer_of now event ≡ Query query) × Sends at query wire')
+    ⊎ ((frame : Frame) × (rest : List ℕ) × Hears at.conn frame now event × IsNext at frame rest × (wire' ≡ Up (heard (answer_of now event) frame (record at { unread = rest }))))
+WireMoves line now (Up at) (Over source (Missed event)) wire' =
+    (Queries at.conn now event × (wire' ≡ Up at))
+    ⊎ ((frame : Frame) × (rest : List ℕ) × Hears at.conn frame now event × IsNext at frame rest × (wire' ≡ Up (settled frame (record at { unread = rest }))))
+WireMoves line now _ _ _ = ⊥
 
 -- what is done with a line's socket alone
-abbrev pub WiredBy : Source → (List Act → Type 0) → Wire → Wire → Type 0
-WiredBy = PassesBy WireMoves
+abbrev pub WiredBy : List ℕ → Source → (List Act → Type 0) → Wire → Wire → Type 0
+WiredBy line = PassesBy (WireMoves line)
 
 -- a line's part of a run
-abbrev pub Wired : {K : Type 0} {g : Ghosts K} → Source → Office K g → Office K g → (List Act → Type 0) → Wire → Wire → Type 0
-Wired source old new acted wire wire' = PartOf WireMoves source old new acted wire wire'
+abbrev pub Wired : {K : Type 0} {g : Ghosts K} → List ℕ → Source → Office K g → Office K g → (List Act → Type 0) → Wire → Wire → Type 0
+Wired line source old new acted wire wire' = PartOf (WireMoves line) source old new acted wire wire'
+
+-- the name of the line at a place
+abbrev pub name_at : List (List ℕ) → ℕ → List ℕ
+name_at [] place = []
+name_at (name ∷ names) zero = name
+name_at (name ∷ names) (suc place) = name_at names place
+
+-- what was done with the socket of each line, and happened over it, is what its connection allows, none of which stood at first
+abbrev pub AreWired : List (List ℕ) → History → List Deed → Type 0
+AreWired names now deeds = (place : ℕ) → (wire : Wire) × Passes (WireMoves (name_at names place)) (Line place) now Down deeds wire
+
+-- the connection stands as it is shown, unless a call told that it is lost: it is closed then, whatever waits
+abbrev pub IsShown : {T : Type 0} → Result T Stop → Wire → Wire → Type 0
+IsShown (Err (Lost why)) wire shown = ⊤
+IsShown _ wire shown = shown ≡ wire
+
+-- the same of a call that may fail
+abbrev pub Works : {K T : Type 0} {g : Ghosts K} → Result T Stop → List ℕ → Source → Office K g → Office K g → (List Act → Type 0) → Wire → Wire → Type 0
+Works told line source old new acted before shown = (wire : Wire) × Wired line source old new acted before wire × IsShown told wire shown
+
+abbrev pub Acted : {T : Type 0} → Result T Stop → List ℕ → Source → (List Act → Type 0) → Wire → Wire → Type 0
+Acted told line source acted before shown = (wire : Wire) × WiredBy line source acted before wire × IsShown told wire shown

@@ -1,7 +1,6 @@
 //! Counters that are counted in slots to come: the clock was another one once, or slots had another length.
 ghost use Rattle.std.specs.Prelude.{◌≡◌, ◌==◌, ◌↔◌, IsTrue, if◌then◌else◌};
-ghost use Rattle.office_core.specs.Proceeding.{GoesAlong};
-ghost use Rattle.office_run.specs.Doings.{Runs};
+ghost use Rattle.office_core.specs.Proceeding.{GoesAlong, Nothing};
 ghost use Rattle.office_run.specs.Outlooks as outlooks;
 ghost use Rattle.office_run.specs.declared.ahead.Outlook.TheVariants as outlook;
 
@@ -37,7 +36,7 @@ fn last_slot<K: Keeper>(
     counter: &PointRow,
     after: u32,
 ) -> Result<Option<u32>, OfficeError>
-    ensures { GoesAlong Runs office.old office.new }
+    ensures { GoesAlong Nothing office.old office.new }
 {
     last_counted(office, counter.point.name.as_str(), after)
 }
@@ -63,7 +62,7 @@ fn ahead_at<K: Keeper>(
     place: usize,
     after: u32,
 ) -> Result<Option<Ahead>, OfficeError>
-    ensures { GoesAlong Runs office.old office.new }
+    ensures { GoesAlong Nothing office.old office.new }
 {
     let Some(counter) = counter_at(office, stations, place) else {
         return Ok(None);
@@ -79,7 +78,7 @@ fn farthest<K: Keeper>(
     stations: &Stations,
     slot: u32,
 ) -> Result<Option<Ahead>, OfficeError>
-    ensures { GoesAlong Runs office.old office.new }
+    ensures { GoesAlong Nothing office.old office.new }
 {
     let mut found = None;
     let mut after = slot;
@@ -169,7 +168,7 @@ impl Lookout {
         stations: &Stations,
         slot: u32,
     ) -> Result<(), OfficeError>
-        ensures { GoesAlong Runs office.old office.new }
+        ensures { GoesAlong Nothing office.old office.new }
     {
         let found = farthest(office, stations, slot)?;
         self.outlook = found.map_or(Outlook::Clear, Outlook::Ahead);

@@ -18,6 +18,7 @@ mod running;
 mod share;
 mod station;
 mod times;
+mod turned;
 mod window;
 
 pub use running::{RunFault, run};

@@ -1,26 +1,27 @@
 //! A line of the site: its connection, its rounds, and when something of it is due.
-ghost use Rattle.std.specs.Prelude.{◌≡◌, ℕ};
-ghost use Rattle.office_core.specs.Proceeding.{GoesAlong};
-ghost use Rattle.office_run.specs.Deeds.{OfLines};
-ghost use Rattle.office_run.specs.Doings.{Runs};
+ghost use Rattle.std.specs.Prelude.{◌≡◌, ◌∷◌, []};
+ghost use Rattle.office_core.specs.Proceeding.{GoesAlong, Nothing};
+ghost use Rattle.office_run.specs.Lines.{Handles, IsSame, Keeps, Tends, name_of, source_of, wire_at};
+ghost use Rattle.office_run.specs.Wires.{Begun, Down, GivesUp, Wired, WiredBy};
+ghost use Rattle.run_beat.specs.Acts.{Closes};
 ghost use Rattle.run_beat.specs.Beats.{Wants};
 
 use crate::ahead::{Ahead, Lookout};
 use crate::event::{Event, Told};
 use crate::journal::Journal;
-use crate::link::{Link, Taken};
+use crate::link::{Connection, Link, Taken};
 use crate::loss::{Loss, Stop};
 use crate::noise::Noise;
 use crate::round::Kind;
 use crate::station::Stations;
 use crate::times::{Times, earlier};
-use crate::window::MOST_WAITING;
-use office_core::{Arrival, Office, OfficeError};
+use crate::turned::{Turned, refused_in};
+use office_core::{Arrival, Office};
 use office_net::open_line;
 use point_list::Text;
-use poll_book::{Keeper, StoreFault};
+use poll_book::Keeper;
 use run_beat::{Beat, Came, Connected, Delay, Moment, Sent, Sockets, Source, Stage};
-use std::alloc::{AllocError, Global};
+use std::alloc::Global;
 use std::mem;
 
 /// So many bytes are read of a line in a turn at most: what answers nothing costs others some 30 frames a turn.
@@ -30,12 +31,12 @@ const PIECE: usize = 260;
 #[derive(Drop)]
 pub(crate) struct Line {
     alloc: Global,
-    place: u16,
+    place: usize,
     // For so many milliseconds its devices are waited for.
     timeout: u32,
     beat: Beat,
     stations: Stations,
-    link: Option<Link>,
+    connection: Connection,
     // So many orders had come for it when its last round over this connection began.
     orders: Option<u64>,
     // So many had come when the round that is under way was told last.
@@ -73,27 +74,6 @@ enum Becomes {
     Waiting,
 }
 
-/// What a turn of a line came to.
-#[derive(Clone, Copy, Debug)]
-pub(crate) struct Turned {
-    /// Whether there may be more to do at once.
-    pub is_more: bool,
-    /// What the store refused.
-    pub refused: Option<StoreFault>,
-    /// Whether it kept something.
-    pub has_kept: bool,
-    /// The counter that is counted in a slot a day from now, or later.
-    pub ahead: Option<Ahead>,
-}
-
-/// What the store refused where a connection is lost.
-fn refused_in(why: Loss) -> Option<StoreFault> {
-    match why {
-        Loss::Office(OfficeError::Store(fault)) => Some(fault),
-        _ => None,
-    }
-}
-
 /// Whether the store has something else since it arrived.
 fn is_kept(arrival: Arrival) -> bool {
     matches!(arrival, Arrival::Recorded(1..) | Arrival::Settled)
@@ -101,14 +81,16 @@ fn is_kept(arrival: Arrival) -> bool {
 
 impl Line {
     /// A line without a connection, of a name, whose devices are given so many milliseconds.
-    pub fn new(alloc: Global, place: u16, name: Text, timeout: u32) -> Line {
+    pub fn new(alloc: Global, place: usize, name: Text, timeout: u32) -> Line
+        ensures { (result.place ≡ place) × (name_of result ≡ name) × (wire_at result ≡ Down) }
+    {
         Line {
             alloc,
             place,
             timeout,
             beat: Beat::new(timeout),
             stations: Stations::new(alloc, name),
-            link: None,
+            connection: Connection::Down,
             orders: None,
             woken: 0,
             is_unbegun: false,
@@ -125,8 +107,10 @@ impl Line {
         }
     }
 
-    pub fn place(&self) -> usize {
-        usize::from(self.place)
+    pub fn place(&self) -> usize
+        ensures { result ≡ self.now.place }
+    {
+        self.place
     }
 
     /// No slot before this one is begun.
@@ -148,9 +132,9 @@ impl Line {
     }
 
     fn source(&self) -> Source
-        ensures { (place : ℕ) × (result ≡ Source.Line place) }
+        ensures { result ≡ source_of self.now }
     {
-        Source::Line(self.place())
+        Source::Line(self.place)
     }
 
     pub fn name(&self) -> &str {
@@ -167,13 +151,17 @@ impl Line {
     }
 
     /// It was looked up where it is.
-    pub fn note_look_up(&mut self, now: Moment) {
+    pub fn note_look_up(&mut self, now: Moment)
+        ensures { Keeps self.old self.new }
+    {
         self.is_unreached = false;
         self.looked_up = now;
     }
 
     /// Tells that it is up, where that is new.
-    fn tell_up(&mut self, journal: &mut Journal) {
+    fn tell_up(&mut self, journal: &mut Journal)
+        ensures { Keeps self.old self.new }
+    {
         if self.told != Told::Up {
             self.told = Told::Up;
             journal.tell(&Event::Up {
@@ -183,7 +171,9 @@ impl Line {
     }
 
     /// Tells that it is down, where that is new.
-    fn tell_down(&mut self, journal: &mut Journal, why: Loss) {
+    fn tell_down(&mut self, journal: &mut Journal, why: Loss)
+        ensures { Keeps self.old self.new }
+    {
         let is_down = matches!(self.told, Told::Down(_));
         self.told = Told::Down(why);
         if !is_down {
@@ -196,10 +186,12 @@ impl Line {
 
     /// Closes its connection, if there is one. It is left alone for a while.
     fn lose<S: Sockets>(&mut self, sockets: &mut S, journal: &mut Journal, now: Moment, why: Loss)
-        ensures { OfLines (λ acts. S.acts sockets.old acts sockets.new) }
+        ensures same { IsSame self.old self.new }
+        ensures down { wire_at self.new ≡ Down }
+        ensures acts { S.acts sockets.old (Closes (source_of self.old) ∷ []) sockets.new }
     {
         sockets.close(self.source());
-        self.link = None;
+        self.connection = Connection::Down;
         self.stuck = None;
         self.retry = None;
         self.beat.fail(now);
@@ -212,13 +204,18 @@ impl Line {
 
     /// Begins a connection, if it is due.
     fn begin<S: Sockets>(&mut self, sockets: &mut S, now: Moment)
-        ensures { OfLines (λ acts. S.acts sockets.old acts sockets.new) }
+        requires { wire_at self.old ≡ Down }
+        ensures same { IsSame self.old self.new }
+        ensures acts { WiredBy (name_of self.old) (source_of self.old) (λ acts. S.acts sockets.old acts sockets.new) (wire_at self.old) (wire_at self.new) }
     {
         if !self.beat.is_due(now) || now < self.noise.until() {
             return;
         }
-        match sockets.connect(self.place()) {
-            Ok(()) => self.beat.begin(now),
+        match sockets.connect(self.place) {
+            Ok(()) => {
+                self.connection = Connection::Begun;
+                self.beat.begin(now);
+            }
             Err(_) => {
                 self.is_unreached = true;
                 self.beat.fail(now);
@@ -232,14 +229,15 @@ impl Line {
         office: &mut Office<K>,
         journal: &mut Journal,
         now: Moment,
-    ) -> Result<(), Loss>
-        ensures { GoesAlong Runs office.old office.new }
+    ) -> Result<(), Stop>
+        requires { wire_at self.old ≡ Begun }
+        ensures { Tends result self.old self.new office.old office.new (λ acts. acts ≡ []) }
     {
         let conn = match open_line(office, self.stations.line()) {
             Ok(conn) => conn,
-            Err(error) => return Err(Loss::Office(error)),
+            Err(error) => return Err(Stop::Lost(Loss::Office(error))),
         };
-        self.link = Some(Link::new(self.alloc, conn, now));
+        self.connection = Connection::Up(Link::new(self.alloc, conn, now));
         self.is_unreached = false;
         self.orders = None;
         self.beat.open();
@@ -257,9 +255,10 @@ impl Line {
         journal: &mut Journal,
         now: Moment,
     ) -> Result<bool, Stop>
-        ensures { GoesAlong Runs office.old office.new }
+        requires { wire_at self.old ≡ Begun }
+        ensures { Tends result self.old self.new office.old office.new (λ acts. acts ≡ []) }
     {
-        match sockets.connected(self.place()) {
+        match sockets.connected(self.place) {
             Connected::Yes => {
                 self.open(office, journal, now)?;
                 Ok(true)
@@ -276,9 +275,9 @@ impl Line {
         journal: &mut Journal,
         now: Moment,
     ) -> Result<bool, Stop>
-        ensures { GoesAlong Runs office.old office.new }
+        ensures { Tends result self.old self.new office.old office.new (λ acts. acts ≡ []) }
     {
-        let Some(link) = &mut self.link else {
+        let Connection::Up(link) = &mut self.connection else {
             return Err(Stop::Lost(Loss::Ended));
         };
         match link.take(office, &mut self.stations, journal, now)? {
@@ -304,7 +303,7 @@ impl Line {
         journal: &mut Journal,
         now: Moment,
     ) -> Result<(), Stop>
-        ensures { GoesAlong Runs office.old office.new }
+        ensures { Tends result self.old self.new office.old office.new (λ acts. acts ≡ []) }
     {
         for _ in 0..PIECE {
             let may_go_on = self.take_one(office, journal, now)?;
@@ -322,7 +321,7 @@ impl Line {
         journal: &mut Journal,
         now: Moment,
     ) -> Result<(), Stop>
-        ensures { GoesAlong Runs office.old office.new }
+        ensures { Tends result self.old self.new office.old office.new (λ acts. acts ≡ []) }
     {
         self.take_some(office, journal, now)?;
         if self.noise.is_too_much() {
@@ -331,32 +330,30 @@ impl Line {
         Ok(())
     }
 
-    /// Reads a piece; tells whether something came.
-    fn read<S: Sockets>(&mut self, sockets: &mut S) -> Result<bool, Loss>
-        ensures { OfLines (λ acts. S.acts sockets.old acts sockets.new) }
+    /// Reads a piece, unless something that came wasn't taken yet; tells whether something came.
+    fn read<S: Sockets>(&mut self, sockets: &mut S) -> Result<bool, Stop>
+        ensures { Handles result self.old self.new (λ acts. S.acts sockets.old acts sockets.new) }
     {
         let source = self.source();
-        let Some(link) = &mut self.link else {
-            return Err(Loss::Ended);
+        let Connection::Up(link) = &mut self.connection else {
+            return Err(Stop::Lost(Loss::Ended));
         };
-        if link.has_frames() {
+        if link.has_more() {
             return Ok(true);
         }
         let mut piece = [0u8; PIECE];
         match sockets.read(source, &mut piece) {
             Came::Bytes(count) => {
                 self.noise.add(count, 0);
-                match link.feed(&piece[..count]) {
-                    Ok(()) => Ok(true),
-                    Err(AllocError) => Err(Loss::Memory),
-                }
+                link.feed(&piece[..count])?;
+                Ok(true)
             }
             Came::Nothing => Ok(false),
-            Came::Ended | Came::Failed => Err(Loss::Ended),
+            Came::Ended | Came::Failed => Err(Stop::Lost(Loss::Ended)),
         }
     }
 
-    /// Reads a piece, unless frames wait to be taken, and takes some; tells whether something came.
+    /// The same, and takes some of it.
     fn receive<K: Keeper, S: Sockets>(
         &mut self,
         office: &mut Office<K>,
@@ -364,8 +361,7 @@ impl Line {
         journal: &mut Journal,
         now: Moment,
     ) -> Result<bool, Stop>
-        ensures along { GoesAlong Runs office.old office.new }
-        ensures acts { OfLines (λ acts. S.acts sockets.old acts sockets.new) }
+        ensures { Tends result self.old self.new office.old office.new (λ acts. S.acts sockets.old acts sockets.new) }
     {
         let has_come = self.read(sockets)?;
         if has_come {
@@ -375,46 +371,40 @@ impl Line {
     }
 
     /// Gives up the queries of each device that wasn't heard of in time.
-    fn give_up(&mut self, now: Moment) {
-        let Some(link) = &mut self.link else {
-            return;
-        };
-        for _ in 0..MOST_WAITING {
-            match link.waits_from() {
-                Some(from) if from.after(self.timeout) <= now => {
-                    if let Some(device) = link.give_up() {
-                        self.stations.fall_silent(device);
-                    }
-                }
-                _ => return,
-            }
+    fn give_up(&mut self, now: Moment)
+        ensures same { IsSame self.old self.new }
+        ensures given { GivesUp (wire_at self.old) (wire_at self.new) }
+    {
+        if let Connection::Up(link) = &mut self.connection {
+            link.give_up_late(&mut self.stations, self.timeout, now);
         }
     }
 
     /// Tells the round that is under way that orders came, where they did.
     fn wake<K: Keeper>(&mut self, office: &mut Office<K>, orders: u64) -> Result<(), Stop>
-        ensures { GoesAlong Runs office.old office.new }
+        ensures along { GoesAlong Nothing office.old office.new }
+        ensures keeps { Keeps self.old self.new }
     {
         if self.woken == orders {
             return Ok(());
         }
         self.woken = orders;
-        match &mut self.link {
-            Some(link) => {
+        match &mut self.connection {
+            Connection::Up(link) => {
                 link.wake(office, &self.stations)?;
                 Ok(())
             }
-            None => Err(Stop::Lost(Loss::Ended)),
+            _ => Err(Stop::Lost(Loss::Ended)),
         }
     }
 
     /// Makes the queries that may be made, where a round is under way.
     fn ask<K: Keeper>(&mut self, office: &mut Office<K>, now: Moment) -> Result<(), Stop>
-        ensures { GoesAlong Runs office.old office.new }
+        ensures { Tends result self.old self.new office.old office.new (λ acts. acts ≡ []) }
     {
-        match &mut self.link {
-            Some(link) => link.ask(office, &self.stations, now),
-            None => Err(Stop::Lost(Loss::Ended)),
+        match &mut self.connection {
+            Connection::Up(link) => link.ask(office, &self.stations, now),
+            _ => Err(Stop::Lost(Loss::Ended)),
         }
     }
 
@@ -425,7 +415,7 @@ impl Line {
         orders: u64,
         now: Moment,
     ) -> Result<(), Stop>
-        ensures { GoesAlong Runs office.old office.new }
+        ensures { Tends result self.old self.new office.old office.new (λ acts. acts ≡ []) }
     {
         self.wake(office, orders)?;
         self.ask(office, now)
@@ -438,7 +428,7 @@ impl Line {
         times: Times,
         orders: u64,
     ) -> Result<(), Stop>
-        ensures { GoesAlong Runs office.old office.new }
+        ensures { Tends result self.old self.new office.old office.new (λ acts. acts ≡ []) }
     {
         let now = times.now;
         let has_begun = self.start(office, times, orders)?;
@@ -457,8 +447,10 @@ impl Line {
     }
 
     /// Ends the round that is under way.
-    fn end_round(&mut self) {
-        if let Some(link) = &mut self.link {
+    fn end_round(&mut self)
+        ensures { Keeps self.old self.new }
+    {
+        if let Connection::Up(link) = &mut self.connection {
             link.end_round();
         }
         self.beat.rest();
@@ -470,7 +462,9 @@ impl Line {
     /// What becomes of the round that is under way. Until its slot is over a device that was passed over may answer.
     /// Where nothing was answered then, or for three time-outs, the line is silent.
     fn judge(&self, times: Times) -> Option<Becomes> {
-        let link = self.link.as_ref()?;
+        let Connection::Up(link) = &self.connection else {
+            return None;
+        };
         let round = link.round()?;
         let slot = round.slot();
         let two = round.began().after(self.timeout).after(self.timeout);
@@ -496,7 +490,7 @@ impl Line {
     /// From when on an answer is waited for in the round that is under way: where none came yet, for three time-outs
     /// from its beginning at most.
     fn waits_from(&self, now: Moment) -> Moment {
-        let Some(link) = &self.link else {
+        let Connection::Up(link) = &self.connection else {
             return now;
         };
         let from = link.waits_from().unwrap_or(now);
@@ -509,7 +503,9 @@ impl Line {
     }
 
     /// Ends the round that is under way where it is done, or its slot is over.
-    fn settle(&mut self, journal: &mut Journal, times: Times) -> Result<(), Stop> {
+    fn settle(&mut self, journal: &mut Journal, times: Times) -> Result<(), Stop>
+        ensures { Keeps self.old self.new }
+    {
         let now = times.now;
         match self.judge(times) {
             Some(Becomes::Done) => {
@@ -542,11 +538,12 @@ impl Line {
         orders: u64,
     ) -> Result<(), Stop>
         requires { Wants self.old.beat slot }
-        ensures { GoesAlong Runs office.old office.new }
+        ensures along { GoesAlong Nothing office.old office.new }
+        ensures keeps { Keeps self.old self.new }
     {
         self.stations
             .plan(self.alloc, office.site(), office.points(), self.place)?;
-        let Some(link) = &mut self.link else {
+        let Connection::Up(link) = &mut self.connection else {
             return Err(Stop::Lost(Loss::Ended));
         };
         let devices = self.stations.as_slice().len();
@@ -560,7 +557,8 @@ impl Line {
 
     /// Looks whether its counters are counted in slots to come, where a slot is to be begun, and that isn't known.
     fn look<K: Keeper>(&mut self, office: &mut Office<K>, slot: u32) -> Result<(), Stop>
-        ensures { GoesAlong Runs office.old office.new }
+        ensures along { GoesAlong Nothing office.old office.new }
+        ensures keeps { Keeps self.old self.new }
     {
         if !self.lookout.is_unknown() || !self.beat.wants(slot) {
             return Ok(());
@@ -573,7 +571,8 @@ impl Line {
 
     /// The same, and stops where one is counted in a slot that is far.
     fn look_ahead<K: Keeper>(&mut self, office: &mut Office<K>, times: &Times) -> Result<(), Stop>
-        ensures { GoesAlong Runs office.old office.new }
+        ensures along { GoesAlong Nothing office.old office.new }
+        ensures keeps { Keeps self.old self.new }
     {
         let Some(slot) = times.slot() else {
             return Ok(());
@@ -594,7 +593,8 @@ impl Line {
         times: Times,
         orders: u64,
     ) -> Result<bool, Stop>
-        ensures { GoesAlong Runs office.old office.new }
+        ensures along { GoesAlong Nothing office.old office.new }
+        ensures keeps { Keeps self.old self.new }
     {
         let is_due = self.retry.is_some_and(|moment| moment <= times.now);
         if is_due {
@@ -627,12 +627,12 @@ impl Line {
     }
 
     /// Writes what waits to be written; tells whether something was.
-    fn write<S: Sockets>(&mut self, sockets: &mut S, now: Moment) -> Result<bool, Loss>
-        ensures { OfLines (λ acts. S.acts sockets.old acts sockets.new) }
+    fn write<S: Sockets>(&mut self, sockets: &mut S, now: Moment) -> Result<bool, Stop>
+        ensures { Handles result self.old self.new (λ acts. S.acts sockets.old acts sockets.new) }
     {
         let source = self.source();
-        let Some(link) = &mut self.link else {
-            return Err(Loss::Ended);
+        let Connection::Up(link) = &mut self.connection else {
+            return Err(Stop::Lost(Loss::Ended));
         };
         if link.pending().is_empty() {
             return Ok(false);
@@ -647,11 +647,11 @@ impl Line {
                 let since = self.stuck.unwrap_or(now);
                 self.stuck = Some(since);
                 if since.after(self.timeout) <= now {
-                    return Err(Loss::Stuck);
+                    return Err(Stop::Lost(Loss::Stuck));
                 }
                 Ok(false)
             }
-            Sent::Failed => Err(Loss::Ended),
+            Sent::Failed => Err(Stop::Lost(Loss::Ended)),
         }
     }
 
@@ -663,7 +663,7 @@ impl Line {
         times: &Times,
         orders: u64,
     ) -> Result<(), Stop>
-        ensures { GoesAlong Runs office.old office.new }
+        ensures { Tends result self.old self.new office.old office.new (λ acts. acts ≡ []) }
     {
         let now = times.now;
         self.give_up(now);
@@ -679,11 +679,20 @@ impl Line {
         times: Times,
         orders: u64,
     ) -> Result<(), Stop>
-        ensures { GoesAlong Runs office.old office.new }
+        ensures { Tends result self.old self.new office.old office.new (λ acts. acts ≡ []) }
     {
         self.go_on_round(office, journal, &times, orders)?;
         self.look_ahead(office, &times)?;
         self.begin_asking(office, times, orders)
+    }
+
+    /// Counts what answers nothing anew in each slot.
+    fn note_slot(&mut self, times: &Times)
+        ensures { Keeps self.old self.new }
+    {
+        if let Some(slot) = times.slot() {
+            self.noise.begin(slot);
+        }
     }
 
     /// Goes on over a connection that stands; tells whether there may be more to do at once.
@@ -695,13 +704,10 @@ impl Line {
         times: Times,
         orders: u64,
     ) -> Result<bool, Stop>
-        ensures along { GoesAlong Runs office.old office.new }
-        ensures acts { OfLines (λ acts. S.acts sockets.old acts sockets.new) }
+        ensures { Tends result self.old self.new office.old office.new (λ acts. S.acts sockets.old acts sockets.new) }
     {
         let now = times.now;
-        if let Some(slot) = times.slot() {
-            self.noise.begin(slot);
-        }
+        self.note_slot(&times);
         let has_read = self.receive(office, sockets, journal, now)?;
         self.poll(office, journal, times, orders)?;
         let has_written = self.write(sockets, now)?;
@@ -717,28 +723,37 @@ impl Line {
         times: Times,
         orders: u64,
     ) -> Result<bool, Stop>
-        ensures along { GoesAlong Runs office.old office.new }
-        ensures acts { OfLines (λ acts. S.acts sockets.old acts sockets.new) }
+        ensures { Tends result self.old self.new office.old office.new (λ acts. S.acts sockets.old acts sockets.new) }
     {
         let now = times.now;
-        match self.beat.stage() {
-            Stage::Closed { .. } => {
+        match self.connection {
+            Connection::Down => {
                 self.begin(sockets, now);
                 Ok(false)
             }
-            Stage::Connecting { .. } => self.connect(office, sockets, journal, now),
-            Stage::Resting { .. } | Stage::Polling { .. } => {
-                self.go_on(office, sockets, journal, times, orders)
-            }
+            Connection::Begun => self.connect(office, sockets, journal, now),
+            Connection::Up(_) => self.go_on(office, sockets, journal, times, orders),
         }
     }
 
     /// The store refused: the round that is under way ends, and the slot is begun again a while later.
-    fn refuse(&mut self, now: Moment) {
+    fn refuse(&mut self, now: Moment)
+        ensures { Keeps self.old self.new }
+    {
         self.is_unbegun = false;
         self.end_round();
         self.refusals = self.refusals.longer();
         self.retry = Some(now.after(self.refusals.millis()));
+    }
+
+    /// Tells whether its counters are counted in slots to come, where that is new.
+    fn tell_ahead<K: Keeper>(&mut self, office: &Office<K>, journal: &mut Journal, times: &Times)
+        ensures { Keeps self.old self.new }
+    {
+        if let Some(slot) = times.slot() {
+            let line = self.stations.line();
+            self.lookout.tell(office, journal, line, slot);
+        }
     }
 
     /// Its turn.
@@ -750,16 +765,12 @@ impl Line {
         times: Times,
         orders: u64,
     ) -> Turned
-        ensures along { GoesAlong Runs office.old office.new }
-        ensures acts { OfLines (λ acts. S.acts sockets.old acts sockets.new) }
+        ensures same { IsSame self.old self.new }
+        ensures wired { Wired (name_of self.old) (source_of self.old) office.old office.new (λ acts. S.acts sockets.old acts sockets.new) (wire_at self.old) (wire_at self.new) }
     {
         let now = times.now;
-        let slot = times.slot();
         let acted = self.act(office, sockets, journal, times, orders);
-        if let Some(slot) = slot {
-            let line = self.stations.line();
-            self.lookout.tell(office, journal, line, slot);
-        }
+        self.tell_ahead(office, journal, &times);
         let mut turned = Turned {
             is_more: false,
             refused: None,

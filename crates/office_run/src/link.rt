@@ -1,12 +1,11 @@
 //! A connection to a line that stands, and the round that is under way over it.
-ghost use Rattle.std.specs.Prelude.{◌≡◌, ◌≤◌, ◌<◌, ◌++◌, [], MatchResult, OnOk, drop, length};
+ghost use Rattle.std.specs.Prelude.{◌≡◌, ◌≤◌, ◌<◌, ◌++◌, [], List, ℕ, MatchResult, None, OnOk, drop, false, is_some, length, true};
 ghost use Rattle.mb_mbap.specs.Stream.{spelled};
 ghost use Rattle.run_beat.specs.declared.sockets.Source.{Source as ASource};
 ghost use Rattle.office_core.specs.Proceeding.{GoesAlong, Nothing};
 ghost use Rattle.office_net.specs.Querying.{Makes, Misses};
-ghost use Rattle.office_run.specs.Links.{asked_in, waiting_in, wire_of};
 ghost use Rattle.office_run.specs.Rounds.{query_of};
-ghost use Rattle.office_run.specs.Wires.{Queries, Up, Wire, Wired};
+ghost use Rattle.office_run.specs.Wires.{GivesUp, Queries, Reaches, Sends, Up, Wired, Works, fresh, settled};
 
 use crate::journal::Journal;
 use crate::loss::{Loss, Stop};
@@ -31,6 +30,7 @@ pub(crate) struct Link {
     // The frames that came and weren't taken yet, and why none can follow them.
     frames: VecDeque<Frame>,
     fault: Option<FrameFault>,
+    ghost reading: { fault ≡ None → is_some stream ≡ true },
     // The queries that wait to be written.
     out: Outbox,
     // Those that are neither answered nor given up.
@@ -40,6 +40,17 @@ pub(crate) struct Link {
     heard: Moment,
     // The slot in whose round something was answered last.
     answered: Option<u32>,
+}
+
+/// The connection of a line.
+#[derive(Drop)]
+pub(crate) enum Connection {
+    /// None stands.
+    Down,
+    /// One is begun.
+    Begun,
+    /// One stands.
+    Up(Link),
 }
 
 /// What a frame was.
@@ -61,9 +72,11 @@ fn size_of(frame: &Frame) -> usize {
 }
 
 impl Link {
+    ghost use Rattle.office_run.specs.Links.{asked_in, before, frames_in, standing_of, waiting_in, wire_of};
+
     /// A connection over which nothing was asked yet.
     pub fn new(alloc: Global, conn: Conn, now: Moment) -> Link
-        ensures { wire_of result ≡ Up conn [] }
+        ensures { wire_of result ≡ Up (fresh conn) }
     {
         Link {
             alloc,
@@ -89,7 +102,7 @@ impl Link {
     /// So many of them were written.
     pub fn wrote(&mut self, count: usize)
         requires { count ≤ length (waiting_in self.old) }
-        ensures { wire_of self.new ≡ Up self.old.conn (drop count (waiting_in self.old)) }
+        ensures { standing_of self.new ≡ record (standing_of self.old) { left = drop count (waiting_in self.old) } }
     {
         self.out.wrote(count);
     }
@@ -113,7 +126,7 @@ impl Link {
     /// A query was made: it waits to be written, and to be answered.
     fn send(&mut self, asked: &Asked, now: Moment) -> Result<(), AllocError>
         requires { length (asked_in self.old) < 16 }
-        ensures { OnOk result (wire_of self.new ≡ Up self.old.conn (waiting_in self.old ++ spelled asked.now.query)) }
+        ensures { OnOk result (Sends (standing_of self.old) asked.now.query (wire_of self.new)) }
     {
         let bytes = asked.query.encode();
         self.out.push(bytes.as_bytes())?;
@@ -132,8 +145,7 @@ impl Link {
         stations: &Stations,
     ) -> Result<Option<Asked>, OfficeError>
         ensures made { MatchResult result (λ asked. Makes (Queries self.old.conn) office.old office.new (query_of asked)) (λ _. Misses (Queries self.old.conn) office.old office.new) }
-        ensures window { asked_in self.new ≡ asked_in self.old }
-        ensures wire { wire_of self.new ≡ wire_of self.old }
+        ensures standing { standing_of self.new ≡ standing_of self.old }
     {
         match &mut self.round {
             Some(round) => round.next(office, self.conn, stations, &self.window),
@@ -148,9 +160,7 @@ impl Link {
         stations: &Stations,
         now: Moment,
     ) -> Result<bool, Stop>
-        ensures { (source : ASource) → MatchResult result
-            (λ _. Wired source office.old office.new (λ acts. acts ≡ []) (wire_of self.old) (wire_of self.new))
-            (λ _. (wire : Wire) × Wired source office.old office.new (λ acts. acts ≡ []) (wire_of self.old) wire) }
+        ensures { (line : List ℕ) (source : ASource) → Works result line source office.old office.new (λ acts. acts ≡ []) (wire_of self.old) (wire_of self.new) }
     {
         if self.window.len() >= MOST_WAITING {
             return Ok(false);
@@ -169,9 +179,7 @@ impl Link {
         stations: &Stations,
         now: Moment,
     ) -> Result<(), Stop>
-        ensures { (source : ASource) → MatchResult result
-            (λ _. Wired source office.old office.new (λ acts. acts ≡ []) (wire_of self.old) (wire_of self.new))
-            (λ _. (wire : Wire) × Wired source office.old office.new (λ acts. acts ≡ []) (wire_of self.old) wire) }
+        ensures { (line : List ℕ) (source : ASource) → Works result line source office.old office.new (λ acts. acts ≡ []) (wire_of self.old) (wire_of self.new) }
     {
         for _ in 0..MOST_WAITING {
             let has_asked = self.ask_one(office, stations, now)?;
@@ -191,7 +199,8 @@ impl Link {
         arrival: Option<Arrival>,
         now: Moment,
     )
-        ensures { wire_of self.new ≡ wire_of self.old }
+        ensures settled { standing_of self.new ≡ settled frame.now (standing_of self.old) }
+        ensures name { stations.new.line ≡ stations.old.line }
     {
         self.heard = now;
         let query = self.window.answer(frame.transaction);
@@ -210,19 +219,21 @@ impl Link {
 
     /// Cuts bytes that came into frames, which are taken later.
     pub fn feed(&mut self, piece: &[u8]) -> Result<(), AllocError>
-        ensures { wire_of self.new ≡ wire_of self.old }
+        requires taken { frames_in self.old ≡ [] }
+        requires reading { is_some self.old.stream ≡ true }
+        ensures { OnOk result (Reaches (standing_of self.old) piece.now (wire_of self.new)) }
     {
         let fed = self.stream.feed(piece)?;
-        for frame in fed.frames {
-            self.frames.push_back(frame)?;
-        }
+        self.frames = VecDeque::from_vec(fed.frames);
         self.fault = fed.fault;
         Ok(())
     }
 
-    /// Whether frames came that weren't taken yet.
-    pub fn has_frames(&self) -> bool {
-        !self.frames.is_empty()
+    /// Whether something that came wasn't taken yet: a frame, or why none can follow.
+    pub fn has_more(&self) -> bool
+        ensures { result ≡ false → (frames_in self.now ≡ []) × (is_some self.now.stream ≡ true) }
+    {
+        !self.frames.is_empty() || self.fault.is_some()
     }
 
     /// Takes a frame, whenever it came.
@@ -234,19 +245,22 @@ impl Link {
         frame: &Frame,
         now: Moment,
     ) -> Taken
-        ensures { (source : ASource) → Wired source office.old office.new (λ acts. acts ≡ []) (wire_of self.old) (wire_of self.new) }
+        ensures wired { (line : List ℕ) (source : ASource) → Wired line source office.old office.new (λ acts. acts ≡ []) (Up (before frame.now (standing_of self.old))) (wire_of self.new) }
+        ensures name { stations.new.line ≡ stations.old.line }
     {
         match take_late(office, self.conn, frame) {
             Ok(arrival) => {
                 self.hear(stations, journal, frame, Some(arrival), now);
                 Taken::Answer(arrival)
             }
-            Err(OfficeError::Store(fault)) => {
-                self.hear(stations, journal, frame, None, now);
-                Taken::Refused(fault)
-            }
-            Err(OfficeError::Repeat) => Taken::Repeat,
-            Err(_) => Taken::Noise(size_of(frame)),
+            Err(error) => match error {
+                OfficeError::Store(fault) => {
+                    self.hear(stations, journal, frame, None, now);
+                    Taken::Refused(fault)
+                }
+                OfficeError::Repeat => Taken::Repeat,
+                _ => Taken::Noise(size_of(frame)),
+            },
         }
     }
 
@@ -258,7 +272,8 @@ impl Link {
         journal: &mut Journal,
         now: Moment,
     ) -> Result<Option<Taken>, Loss>
-        ensures { (source : ASource) → Wired source office.old office.new (λ acts. acts ≡ []) (wire_of self.old) (wire_of self.new) }
+        ensures wired { (line : List ℕ) (source : ASource) → Wired line source office.old office.new (λ acts. acts ≡ []) (wire_of self.old) (wire_of self.new) }
+        ensures name { stations.new.line ≡ stations.old.line }
     {
         match (self.frames.pop_front(), self.fault) {
             (Some(frame), _) => {
@@ -279,17 +294,39 @@ impl Link {
         }
     }
 
-    /// Gives up all queries of the device whose query is the oldest, and passes it over in the round that is under
-    /// way; tells where it is.
-    pub fn give_up(&mut self) -> Option<usize>
-        ensures { wire_of self.new ≡ wire_of self.old }
+    /// Passes a device over in the round that is under way.
+    fn pass(&mut self, device: usize)
+        ensures { standing_of self.new ≡ standing_of self.old }
     {
-        let device = self.window.oldest()?.device;
-        self.window.give_up(device);
         if let Some(round) = &mut self.round {
             round.pass(device);
         }
-        Some(device)
+    }
+
+    /// Gives up all queries of the device whose query is the oldest: it is silent, and passed over in the round.
+    fn give_up(&mut self, stations: &mut Stations)
+        ensures given { GivesUp (wire_of self.old) (wire_of self.new) }
+        ensures name { stations.new.line ≡ stations.old.line }
+    {
+        let Some(oldest) = self.window.oldest() else {
+            return;
+        };
+        self.window.give_up(oldest.device);
+        self.pass(oldest.device);
+        stations.fall_silent(oldest.device);
+    }
+
+    /// Gives up the queries of each device that wasn't heard of within so many milliseconds.
+    pub fn give_up_late(&mut self, stations: &mut Stations, timeout: u32, now: Moment)
+        ensures given { GivesUp (wire_of self.old) (wire_of self.new) }
+        ensures name { stations.new.line ≡ stations.old.line }
+    {
+        for _ in 0..MOST_WAITING {
+            match self.waits_from() {
+                Some(from) if from.after(timeout) <= now => self.give_up(stations),
+                _ => return,
+            }
+        }
     }
 
     /// Orders came.

@@ -1,4 +1,9 @@
 //! Why a line's connection is lost, and why its round ends.
+ghost use Rattle.std.specs.Prelude.{◌≡◌};
+ghost use Rattle.office_run.specs.Losses.{stop_of};
+ghost use Rattle.office_run.specs.declared.loss.Loss.TheVariants.{Memory};
+ghost use Rattle.office_run.specs.declared.loss.Stop.TheVariants.{Lost};
+
 use crate::ahead::Ahead;
 use mb_mbap::FrameFault;
 use office_core::OfficeError;
@@ -47,18 +52,24 @@ pub(crate) enum Stop {
 }
 
 impl From<Loss> for Stop {
+    ghost from_gives = { λ loss stop. stop ≡ Lost loss };
+
     fn from(loss: Loss) -> Stop {
         Stop::Lost(loss)
     }
 }
 
 impl From<AllocError> for Stop {
+    ghost from_gives = { λ _ stop. stop ≡ Lost Memory };
+
     fn from(_: AllocError) -> Stop {
         Stop::Lost(Loss::Memory)
     }
 }
 
 impl From<OfficeError> for Stop {
+    ghost from_gives = { λ error stop. stop ≡ stop_of error };
+
     fn from(error: OfficeError) -> Stop {
         match error {
             OfficeError::Store(fault) => Stop::Refused(fault),

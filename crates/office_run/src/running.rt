@@ -1,20 +1,24 @@
 //! The turns of an office that stays up.
 ghost use Rattle.std.specs.Prelude.{◌≡◌, ◌||◌, [], IfOk, is_some};
 ghost use Rattle.run_beat.specs.declared.sockets.Source.TheVariants as source;
+ghost use Rattle.office_core.specs.Offices.{site_of};
 ghost use Rattle.office_core.specs.Proceeding.{GoesAlong, Nothing};
 ghost use Rattle.office_run.specs.Callers.{AreEmpty, session_at};
-ghost use Rattle.office_run.specs.Deeds.{AllOf, GoesBy, IsLine};
+ghost use Rattle.office_run.specs.Deeds.{GoesBy};
 ghost use Rattle.office_run.specs.Doings.{Runs};
+ghost use Rattle.office_run.specs.Lines.{AreDown, Keeps, name_of, names_of, site_names, wire_at};
 ghost use Rattle.office_run.specs.Sessions.{Acting, AreServed, Exchanges};
+ghost use Rattle.office_run.specs.Wires.{AreWired, Wired};
 
 use crate::ahead::Ahead;
 use crate::caller::{Hold, News, orders_of};
 use crate::event::Event;
 use crate::journal::Journal;
-use crate::line::{Line, Turned};
+use crate::line::Line;
 use crate::pass::Pass;
 use crate::place::Place;
 use crate::times::{Times, earlier};
+use crate::turned::Turned;
 use office_core::Office;
 use point_list::Site;
 use poll_book::{Keeper, StoreFault};
@@ -203,6 +207,7 @@ impl<K: Keeper, S: Sockets> Running<'_, K, S> {
         ensures office { self.new.office ≡ self.old.office }
         ensures name { self.new.sockets.ghost_name ≡ self.old.sockets.ghost_name }
         ensures acts { S.acts self.old.sockets.now [] self.new.sockets.now }
+        ensures line { Keeps line.old line.new }
     {
         if self.to_look_up != Some(line.place()) {
             return;
@@ -222,7 +227,8 @@ impl<K: Keeper, S: Sockets> Running<'_, K, S> {
 
     /// Whether a line may do something in this turn. If not, it is noted how it stands.
     fn admit_line(&mut self, line: &mut Line) -> bool
-        ensures { (self.new.office ≡ self.old.office) × (self.new.sockets ≡ self.old.sockets) }
+        ensures same { (self.new.office ≡ self.old.office) × (self.new.sockets ≡ self.old.sockets) }
+        ensures line { Keeps line.old line.new }
     {
         let now = self.moment();
         let is_admitted = self.lines.admit(line.served, now);
@@ -402,9 +408,10 @@ impl<K: Keeper, S: Sockets> World for Running<'_, K, S> {
 }
 
 impl<K: Keeper, S: Sockets> Called<Running<'_, K, S>> for Line {
-    // The office and the sockets are the same ones, and what is done with them is of lines alone.
-    ghost steps = { λ _ old _ _ new. (new.office.ghost_name ≡ old.office.ghost_name) × (new.sockets.ghost_name ≡ old.sockets.ghost_name)
-        × GoesBy old.office.now new.office.now (λ acts. S.acts old.sockets.now acts new.sockets.now) (λ now deeds. AllOf IsLine deeds) };
+    // The office and the sockets are the same ones, and what is done with them is of this line alone, and what its connection allows.
+    ghost steps = { λ line old _ line' new. (new.office.ghost_name ≡ old.office.ghost_name) × (new.sockets.ghost_name ≡ old.sockets.ghost_name)
+        × (line'.place ≡ line.place) × (name_of line' ≡ name_of line)
+        × Wired (name_of line) (source.Line line.place) old.office.now new.office.now (λ acts. S.acts old.sockets.now acts new.sockets.now) (wire_at line) (wire_at line') };
 
     fn call(&mut self, world: &mut Running<'_, K, S>) -> bool {
         if !world.admit_line(self) {
@@ -428,7 +435,7 @@ impl<K: Keeper, S: Sockets> Called<Running<'_, K, S>> for Line {
 }
 
 impl<K: Keeper, S: Sockets> Called<Running<'_, K, S>> for Place {
-    // The same, and what is done with them is of this place alone, and what its caller's session wants.
+    // The same of this place and its caller's session.
     ghost steps = { λ place old _ place' new. (new.office.ghost_name ≡ old.office.ghost_name) × (new.sockets.ghost_name ≡ old.sockets.ghost_name)
         × (place'.at ≡ place.at)
         × Exchanges (source.Caller place.at) old.office.now new.office.now (λ acts. S.acts old.sockets.now acts new.sockets.now) (session_at place) (session_at place') };
@@ -445,9 +452,15 @@ impl<K: Keeper, S: Sockets> Called<Running<'_, K, S>> for Place {
 }
 
 /// The lines of a site, of which none has a connection.
-fn lines_of(alloc: Global, site: &Site, timeout: u32) -> Result<Vec<Line>, AllocError> {
+fn lines_of(alloc: Global, site: &Site, timeout: u32) -> Result<Vec<Line>, AllocError>
+    ensures down { IfOk result (λ lines. AreDown 0 lines.items) }
+    ensures names { IfOk result (λ lines. names_of lines.items ≡ site_names site.now) }
+{
     let mut lines = Vec::new(alloc);
-    for (place, line) in (0u16..).zip(site.lines.as_slice()).take(MOST_LINES) {
+    for place in 0..MOST_LINES {
+        let Some(line) = site.lines.as_slice().get(place) else {
+            return Ok(lines);
+        };
         lines.push(Line::new(alloc, place, line.name.clone()?, timeout))?;
     }
     Ok(lines)
@@ -477,9 +490,11 @@ fn stay<K: Keeper, S: Sockets>(
     places: &mut Vec<Place>,
     world: &mut Running<'_, K, S>,
 ) -> Result<(), RunFault>
-    requires { AreEmpty 0 places.old.items }
+    requires lines { AreDown 0 lines.old.items }
+    requires places { AreEmpty 0 places.old.items }
     ensures { (world.new.office.ghost_name ≡ world.old.office.ghost_name) × (world.new.sockets.ghost_name ≡ world.old.sockets.ghost_name)
-        × GoesBy world.old.office.now world.new.office.now (λ acts. S.acts world.old.sockets.now acts world.new.sockets.now) AreServed }
+        × GoesBy world.old.office.now world.new.office.now (λ acts. S.acts world.old.sockets.now acts world.new.sockets.now)
+        (λ now deeds. AreWired (names_of lines.old.items) now deeds × AreServed now deeds) }
 {
     run_beat::run(lines, places, world)?;
     world.ended()
@@ -495,8 +510,9 @@ fn turns<K: Keeper, S: Sockets>(
     places: &mut Vec<Place>,
     outset: Outset,
 ) -> Result<(), RunFault>
-    requires { AreEmpty 0 places.old.items }
-    ensures { GoesBy office.old office.new (λ acts. S.acts sockets.old acts sockets.new) AreServed }
+    requires lines { AreDown 0 lines.old.items }
+    requires places { AreEmpty 0 places.old.items }
+    ensures { GoesBy office.old office.new (λ acts. S.acts sockets.old acts sockets.new) (λ now deeds. AreWired (names_of lines.old.items) now deeds × AreServed now deeds) }
 {
     let mut world = Running {
         office,
@@ -536,7 +552,8 @@ pub fn run<K: Keeper, S: Sockets>(
     timeout: u32,
 ) -> Result<(), RunFault>
     ensures along { GoesAlong Runs office.old office.new }
-    ensures deeds { GoesBy office.old office.new (λ acts. S.acts sockets.old acts sockets.new) AreServed }
+    ensures deeds { GoesBy office.old office.new (λ acts. S.acts sockets.old acts sockets.new)
+        (λ now deeds. AreWired (site_names (site_of office.old)) now deeds × AreServed now deeds) }
 {
     let mut lines = lines_of(alloc, office.site(), timeout)?;
     let mut places = places(alloc)?;

@@ -55,7 +55,9 @@ fn station_of(
 
 impl Stations {
     /// Those of a line of this name, of which nothing is planned yet.
-    pub fn new(alloc: Global, line: Text) -> Stations {
+    pub fn new(alloc: Global, line: Text) -> Stations
+        ensures { result.line ≡ line }
+    {
         Stations {
             line,
             all: Vec::new(alloc),
@@ -69,14 +71,16 @@ impl Stations {
         alloc: Global,
         site: &Site,
         known: &[PointRow],
-        line: u16,
-    ) -> Result<(), AllocError> {
+        line: usize,
+    ) -> Result<(), AllocError>
+        ensures { self.new.line ≡ self.old.line }
+    {
         if self.known == Some(known.len()) {
             return Ok(());
         }
         let mut all = Vec::new(alloc);
         for device in site.devices.as_slice() {
-            if device.line == line {
+            if usize::from(device.line) == line {
                 let former = self.all.get(all.len());
                 all.push(station_of(alloc, device, known, former)?)?;
             }
@@ -118,14 +122,18 @@ impl Stations {
     }
 
     /// A device didn't answer in time.
-    pub fn fall_silent(&mut self, at: usize) {
+    pub fn fall_silent(&mut self, at: usize)
+        ensures { self.new.line ≡ self.old.line }
+    {
         if let Some(station) = self.all.get_mut(at) {
             station.is_silent = true;
         }
     }
 
     /// A device answers. Where it was told that it is silent, this is told too.
-    pub fn answer(&mut self, at: usize, journal: &mut Journal) {
+    pub fn answer(&mut self, at: usize, journal: &mut Journal)
+        ensures { self.new.line ≡ self.old.line }
+    {
         let Some(station) = self.all.get_mut(at) else {
             return;
         };
@@ -140,7 +148,9 @@ impl Stations {
     }
 
     /// Tells which devices are silent, where that is new.
-    pub fn tell_silent(&mut self, journal: &mut Journal) {
+    pub fn tell_silent(&mut self, journal: &mut Journal)
+        ensures { self.new.line ≡ self.old.line }
+    {
         let line = self.line.as_str();
         for station in &mut self.all {
             if station.is_silent && !station.is_told {

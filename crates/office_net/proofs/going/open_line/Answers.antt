@@ -5,7 +5,7 @@ use Rattle.office_net.specs.Kinds.{Opens}
 use Rattle.office_net.proofs.Querying.{answered_of}
 use Rattle.office_net.proofs.going.open_line.Goals as goal
 
-pub returns : goal.returns
-returns g c =
+pub returns-clause-made : goal.returns-clause-made
+returns-clause-made g c =
     answered_of (Opens c.args.line.now) c.args.office.now c.open_line.new.self (Open c.args.line.now) Opened c.open_line.result (λ now. refl)
     c.open_line.ensures.accounts.2 c.open_line.ensures.went

@@ -1,19 +1,34 @@
-use Rattle.office_net.specs.Kinds.{Opens}
-use Rattle.office_net.proofs.Querying.{answered_along, misses_along}
-use Rattle.office_run.proofs.Widening.{opened_one}
+use Rattle.std.proofs.Common.{◌∙◌, refl}
+use Rattle.office_run.specs.Lines.{wire_at}
+use Rattle.office_run.specs.Wires.{Up, fresh}
+use Rattle.office_run.proofs.Lines.{opened_so, unopened_so}
 use Rattle.office_run.proofs.line.Line.open.Goals as goal
 
 pub returns-in-Err : goal.returns-in-Err
 returns-in-Err g c =
-    opened_one c.args.office.now c.open_line.new.office c.line.result.now
-    (misses_along (Opens c.line.result.now) c.args.office.now c.open_line.new.office c.in-Err.ensures)
+    let line = c.args.self.now in (
+      record { place = refl; name = refl },
+      (wire_at line, unopened_so line c.args.office.now c.open_line.new.office c.line.result.now c.line.ensures c.requires c.in-Err.ensures.made, tt {0}),
+    )
 
 pub returns-then-not-is_of_answers : goal.returns-then-not-is_of_answers
 returns-then-not-is_of_answers g c =
-    opened_one c.args.office.now c.open_line.new.office c.line.result.now
-    (answered_along (Opens c.line.result.now) c.args.office.now c.open_line.new.office _ c.in-Ok.ensures)
+    let line = c.args.self.now in (
+      record { place = c.tell_up.ensures.0.place; name = c.tell_up.ensures.0.name },
+      (
+        Up (fresh c.in-Ok.conn),
+        opened_so line c.args.office.now c.open_line.new.office c.in-Ok.conn c.line.result.now c.line.ensures c.requires c.in-Ok.ensures.made,
+        c.tell_up.ensures.1 ∙ c.new.ensures,
+      ),
+    )
 
 pub returns-else-not-is_of_answers : goal.returns-else-not-is_of_answers
 returns-else-not-is_of_answers g c =
-    opened_one c.args.office.now c.open_line.new.office c.line.result.now
-    (answered_along (Opens c.line.result.now) c.args.office.now c.open_line.new.office _ c.in-Ok.ensures)
+    let line = c.args.self.now in (
+      record { place = refl; name = refl },
+      (
+        Up (fresh c.in-Ok.conn),
+        opened_so line c.args.office.now c.open_line.new.office c.in-Ok.conn c.line.result.now c.line.ensures c.requires c.in-Ok.ensures.made,
+        c.new.ensures,
+      ),
+    )

@@ -1,30 +1,37 @@
-use Rattle.std.proofs.Common.{◌≡◌, [], refl}
-use Rattle.office_net.proofs.Querying.{told_err}
+use Rattle.std.proofs.Common.{◌≡◌, Bool, [], refl, sym, subst}
 use Rattle.office_run.specs.Links.{wire_of}
-use Rattle.office_run.specs.Wires.{WireMoves}
+use Rattle.office_run.specs.Wires.{Wire, WireMoves, Wired}
+use Rattle.office_run.proofs.Lines.{told_on}
 use Rattle.office_run.proofs.Passing.{part_still, then_office}
 use Rattle.office_run.proofs.link.Link.ask.Goals as goal
 
 pub loop-init : goal.loop-init
-loop-init g c = λ source. part_still WireMoves source c.args.office.now (λ acts. acts ≡ []) (wire_of c.args.self.now) refl
+loop-init g c = λ line source. part_still (WireMoves line) source c.args.office.now (λ acts. acts ≡ []) (wire_of c.args.self.now) refl
 
 pub loop-preserved : goal.loop-preserved
-loop-preserved g c = λ source.
-    then_office WireMoves source c.args.office.now c.loop.office c.ask_one.new.office (λ acts. acts ≡ []) (wire_of c.args.self.now) (wire_of c.loop.self) (wire_of c.ask_one.new.self)
-    (c.loop.invariant source) (c.in_ok-has_asked.ensures source)
+loop-preserved g c = λ line source.
+    let asked = c.in_ok-has_asked.ensures line source in
+    subst (λ (wire : Wire). Wired line source c.args.office.now c.ask_one.new.office (λ acts. acts ≡ []) (wire_of c.args.self.now) wire) (sym asked.2)
+    (then_office (WireMoves line) source c.args.office.now c.loop.office c.ask_one.new.office (λ acts. acts ≡ []) (wire_of c.args.self.now) (wire_of c.loop.self) asked.0
+    (c.loop.invariant line source) asked.1)
 
 pub returns-in_err-has_asked : goal.returns-in_err-has_asked
-returns-in_err-has_asked g c = λ source.
-    let missed = c.in_err-has_asked.ensures source in
-    told_err c.from_residual.result _ _ c.from_residual.ensures.0 (
-      missed.0,
-      then_office WireMoves source c.args.office.now c.loop.office c.ask_one.new.office (λ acts. acts ≡ []) (wire_of c.args.self.now) (wire_of c.loop.self) missed.0 (c.loop.invariant source) missed.1,
+returns-in_err-has_asked g c = λ line source.
+    let asked = c.in_err-has_asked.ensures line source in (
+      asked.0,
+      then_office (WireMoves line) source c.args.office.now c.loop.office c.ask_one.new.office (λ acts. acts ≡ []) (wire_of c.args.self.now) (wire_of c.loop.self) asked.0
+          (c.loop.invariant line source) asked.1,
+      told_on Bool _ c.in_err-has_asked.field-0.0 c.from_residual.result asked.0 (wire_of c.ask_one.new.self) c.from_residual.ensures.0 c.from_residual.ensures.1 asked.2,
     )
 
 pub returns-then-not-has_asked : goal.returns-then-not-has_asked
-returns-then-not-has_asked g c = λ source.
-    then_office WireMoves source c.args.office.now c.loop.office c.ask_one.new.office (λ acts. acts ≡ []) (wire_of c.args.self.now) (wire_of c.loop.self) (wire_of c.ask_one.new.self)
-    (c.loop.invariant source) (c.in_ok-has_asked.ensures source)
+returns-then-not-has_asked g c = λ line source.
+    let asked = c.in_ok-has_asked.ensures line source in (
+      asked.0,
+      then_office (WireMoves line) source c.args.office.now c.loop.office c.ask_one.new.office (λ acts. acts ≡ []) (wire_of c.args.self.now) (wire_of c.loop.self) asked.0
+          (c.loop.invariant line source) asked.1,
+      asked.2,
+    )
 
 pub returns : goal.returns
-returns g c = c.loop.invariant
+returns g c = λ line source. (wire_of c.loop.self, c.loop.invariant line source, refl)

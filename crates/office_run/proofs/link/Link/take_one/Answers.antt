@@ -1,23 +1,34 @@
-use Rattle.std.proofs.Common.{◌≡◌, [], sym, subst}
-use Rattle.office_run.specs.Links.{wire_of}
-use Rattle.office_run.specs.Wires.{Wire, Wired}
-use Rattle.office_run.proofs.Wires.{wired_heard}
+use Rattle.std.proofs.Common.{◌≡◌, Result, [], ◌∙◌, ap, sym, subst}
+use Rattle.office_core.specs.declared.event.EventAnswer.TheVariants.{Arrived}
+use Rattle.office_core.specs.Errors.{is_of_store}
+use Rattle.office_core.specs.Offices.{arrived}
+use Rattle.office_core.specs.Standing.{is_store}
+use Rattle.office_run.specs.Links.{before, standing_of}
+use Rattle.office_run.specs.Wires.{Standing, Up, Wired}
+use Rattle.office_run.proofs.Wires.{heard_answer, heard_none, not_store, wired_heard}
 use Rattle.office_run.proofs.link.Link.take_one.Goals as goal
 
-pub returns-in-Ok : goal.returns-in-Ok
-returns-in-Ok g c = λ source.
-    subst (λ (wire : Wire). Wired source c.args.office.now c.take_late.new.office (λ acts. acts ≡ []) (wire_of c.args.self.now) wire) (sym c.hear.ensures)
-    (wired_heard source c.args.office.now c.take_late.new.office c.args.self.now.conn c.args.self.now.out c.args.frame.now c.take_late.ensures)
+pub returns-in-Ok-clause-wired : goal.returns-in-Ok-clause-wired
+returns-in-Ok-clause-wired g c = λ line source.
+    let at = standing_of c.args.self.now in
+    let frame = c.args.frame.now in
+    subst (λ (some : Standing). Wired line source c.args.office.now c.take_late.new.office (λ acts. acts ≡ []) (Up (before frame at)) (Up some)) (sym c.hear.ensures.settled)
+    (wired_heard line source c.args.office.now c.take_late.new.office at frame (Arrived c.in-Ok.arrival) c.in-Ok.ensures.came)
 
-pub returns-in-Err-Store : goal.returns-in-Err-Store
-returns-in-Err-Store g c = λ source.
-    subst (λ (wire : Wire). Wired source c.args.office.now c.take_late.new.office (λ acts. acts ≡ []) (wire_of c.args.self.now) wire) (sym c.hear-in-Err-Store.ensures)
-    (wired_heard source c.args.office.now c.take_late.new.office c.args.self.now.conn c.args.self.now.out c.args.frame.now c.take_late.ensures)
+pub returns-in-Store-clause-wired : goal.returns-in-Store-clause-wired
+returns-in-Store-clause-wired g c = λ line source.
+    let at = standing_of c.args.self.now in
+    let frame = c.args.frame.now in
+    subst (λ (some : Standing). Wired line source c.args.office.now c.take_late.new.office (λ acts. acts ≡ []) (Up (before frame at)) (Up some)) (sym c.hear-in-Store.ensures.settled)
+    (heard_answer line source c.args.office.now c.take_late.new.office at frame c.take_late.result
+    (ap (λ told. is_store (arrived told)) c.in-Err.is ∙ ap is_of_store c.in-Store.is) c.take_late.ensures.came)
 
-pub returns-in-Err-Repeat : goal.returns-in-Err-Repeat
-returns-in-Err-Repeat g c = λ source.
-    wired_heard source c.args.office.now c.take_late.new.office c.args.self.now.conn c.args.self.now.out c.args.frame.now c.take_late.ensures
+pub returns-in-Repeat-clause-wired : goal.returns-in-Repeat-clause-wired
+returns-in-Repeat-clause-wired g c = λ line source.
+    heard_none line source c.args.office.now c.take_late.new.office (standing_of c.args.self.now) c.args.frame.now c.take_late.result c.in-Err.error c.in-Err.is (ap is_of_store c.in-Repeat.is)
+    c.take_late.ensures.came
 
-pub returns-in-Err : goal.returns-in-Err
-returns-in-Err g c = λ source.
-    wired_heard source c.args.office.now c.take_late.new.office c.args.self.now.conn c.args.self.now.out c.args.frame.now c.take_late.ensures
+pub returns-in_default-clause-wired : goal.returns-in_default-clause-wired
+returns-in_default-clause-wired g c = λ line source.
+    heard_none line source c.args.office.now c.take_late.new.office (standing_of c.args.self.now) c.args.frame.now c.take_late.result c.in-Err.error c.in-Err.is (not_store c.in-Err.error c.in_default.not-Store)
+    c.take_late.ensures.came

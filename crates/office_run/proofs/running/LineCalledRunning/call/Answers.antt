@@ -1,29 +1,38 @@
-use Rattle.std.proofs.Common.{◌≡◌, ◌++◌, List, [], ◌∙◌, ap, refl, sym, subst}
-use Rattle.run_beat.specs.Acts.{Act}
-use Rattle.office_core.specs.Proceeding.{GoesAlong}
-use Rattle.office_run.specs.Deeds.{AllOf, GoesBy, IsLine}
-use Rattle.office_run.specs.Doings.{Runs}
-use Rattle.office_run.proofs.Deeds.{all_then, goes_asked, goes_over, goes_then, of_lines_none, of_lines_then}
+use Rattle.std.proofs.Common.{◌≡◌, [], ℕ, List, ◌∙◌, ap, refl, sym, subst}
+use Rattle.run_beat.specs.declared.sockets.Source.TheVariants as source
+use Rattle.office_run.specs.Lines.{name_of, wire_at}
+use Rattle.office_run.specs.Wires.{Wire, WireMoves, Wired}
+use Rattle.office_run.proofs.Lines.{same_then, wired_at}
+use Rattle.office_run.proofs.Passing.{part_asked, part_still, part_then, then_office}
 use Rattle.office_run.proofs.running.LineCalledRunning.call.Goals as goal
 
 pub returns : goal.returns
 returns g c =
+    let line = c.args.self.now in
+    let name = name_of line in
+    let here = source.Line line.place in
     let office = c.args.world.now.office.now in
     let old = c.args.world.now.sockets.now in
     let looked = c.look_up.new.self.sockets.now in
     let turned = c.turn-turned.new.sockets in
-    let same_office = c.look_up.ensures.office ∙ c.admit_line.ensures.0 in
-    let look : g.S.Sockets.acts old [] looked = subst (λ sockets. g.S.Sockets.acts sockets.now [] looked) c.admit_line.ensures.1 c.look_up.ensures.acts in
-    let acts = of_lines_then (λ acts. g.S.Sockets.acts old acts looked) (λ acts. g.S.Sockets.acts looked acts turned) (λ acts. g.S.Sockets.acts old acts turned)
-    (g.S.Sockets.joins old looked turned) (of_lines_none (λ acts. g.S.Sockets.acts old acts looked) look) c.turn-turned.ensures.acts in
-    let along = subst (λ some. GoesAlong Runs some.now c.turn-turned.new.office) same_office c.turn-turned.ensures.along in
-    let went = goes_over office c.turn-turned.new.office c.args.self.now.place (λ acts. g.S.Sockets.acts old acts turned) along acts in
-    let noted = goes_then office c.turn-turned.new.office c.note_line.new.self.office.now (λ acts. g.S.Sockets.acts old acts turned) (λ acts. acts ≡ []) (λ acts. g.S.Sockets.acts old acts turned)
-    (λ now deeds. AllOf IsLine deeds) (λ now deeds. AllOf IsLine deeds) (λ now deeds. AllOf IsLine deeds)
-    (λ first second some none. subst (λ (acts : List Act). g.S.Sockets.acts old (acts ++ first) turned) (sym none) some)
-    (λ now first second earlier later. all_then IsLine second first later earlier)
-    went (goes_asked c.turn-turned.new.office c.note_line.new.self.office.now (λ acts. acts ≡ []) (λ now deeds. AllOf IsLine deeds) c.note_line.ensures.along.1 refl (λ now. tt)) in (
+    let between = c.look_up.new.line in
+    let after = c.turn-turned.new.self in
+    let same_office = c.look_up.ensures.office ∙ c.admit_line.ensures.same.0 in
+    let same = same_then line c.admit_line.new.line between c.admit_line.ensures.line.0 c.look_up.ensures.line.0 in
+    let look : g.S.Sockets.acts old [] looked = subst (λ sockets. g.S.Sockets.acts sockets.now [] looked) c.admit_line.ensures.same.1 c.look_up.ensures.acts in
+    let turn : Wired name here office c.turn-turned.new.office (λ acts. g.S.Sockets.acts looked acts turned) (wire_at line) (wire_at after) =
+    subst (λ some. Wired name here some.now c.turn-turned.new.office (λ acts. g.S.Sockets.acts looked acts turned) (wire_at line) (wire_at after)) same_office
+    (subst (λ (wire : Wire). Wired name here c.look_up.new.self.office.now c.turn-turned.new.office (λ acts. g.S.Sockets.acts looked acts turned) wire (wire_at after))
+    (c.look_up.ensures.line.1 ∙ c.admit_line.ensures.line.1)
+    (wired_at line between c.look_up.new.self.office.now c.turn-turned.new.office (λ acts. g.S.Sockets.acts looked acts turned) (wire_at between) (wire_at after) same c.turn-turned.ensures.wired)) in
+    let went = part_then (WireMoves name) here office office c.turn-turned.new.office (λ acts. g.S.Sockets.acts old acts looked) (λ acts. g.S.Sockets.acts looked acts turned) (λ acts. g.S.Sockets.acts old acts turned)
+    (wire_at line) (wire_at line) (wire_at after) (g.S.Sockets.joins old looked turned) (part_still (WireMoves name) here office (λ acts. g.S.Sockets.acts old acts looked) (wire_at line) look) turn in
+    let noted = then_office (WireMoves name) here office c.turn-turned.new.office c.note_line.new.self.office.now (λ acts. g.S.Sockets.acts old acts turned) (wire_at line) (wire_at after) (wire_at after) went
+    (part_asked (WireMoves name) here c.turn-turned.new.office c.note_line.new.self.office.now (λ acts. acts ≡ []) (wire_at after) c.note_line.ensures.along.1 refl) in
+    let all = same_then line between after same (record { place = c.turn-turned.ensures.same.place; name = c.turn-turned.ensures.same.name }) in (
       c.note_line.ensures.along.0 ∙ ap (λ some. some.ghost_name) same_office,
-      ap (λ some. some.ghost_name) c.note_line.ensures.sockets ∙ c.look_up.ensures.name ∙ ap (λ some. some.ghost_name) c.admit_line.ensures.1,
-      subst (λ sockets. GoesBy office c.note_line.new.self.office.now (λ acts. g.S.Sockets.acts old acts sockets.now) (λ now deeds. AllOf IsLine deeds)) (sym c.note_line.ensures.sockets) noted,
+      ap (λ some. some.ghost_name) c.note_line.ensures.sockets ∙ c.look_up.ensures.name ∙ ap (λ some. some.ghost_name) c.admit_line.ensures.same.1,
+      all.place,
+      all.name,
+      subst (λ sockets. Wired name here office c.note_line.new.self.office.now (λ acts. g.S.Sockets.acts old acts sockets.now) (wire_at line) (wire_at after)) (sym c.note_line.ensures.sockets) noted,
     )

@@ -1,0 +1,159 @@
+-- What calls of a line do, call behind call.
+use Rattle.std.proofs.Common.{◌≡◌, ◌++◌, ℕ, List, [], ◌∷◌, Result, Ok, Err, refl, sym, ◌∙◌, ap, subst}
+use Rattle.std.specs.Prelude.{IsErr, IsErrAnd}
+use Rattle.poll_book.specs.declared.keeper.Neighbours.{Ghosts}
+use Rattle.run_beat.specs.declared.sockets.Source.{Source}
+use Rattle.run_beat.specs.declared.sockets.Source.TheVariants as source
+use Rattle.run_beat.specs.Acts.{Act, Closes}
+use Rattle.office_core.specs.declared.office.Office.{Office}
+use Rattle.office_core.specs.declared.event.EventAnswer.TheVariants.{Opened}
+use Rattle.office_core.specs.Proceeding.{GoesAlong, Nothing}
+use Rattle.office_net.specs.Kinds.{Opens}
+use Rattle.office_net.specs.Querying.{Answered, Misses}
+use Rattle.office_core.proofs.Proceeding.{along_still}
+use Rattle.office_run.specs.declared.line.Line.{Line}
+use Rattle.office_run.specs.declared.link.Connection.TheVariants as connection
+use Rattle.office_run.specs.declared.link.Link.{Link}
+use Rattle.office_run.specs.declared.loss.Loss.{Loss}
+use Rattle.office_run.specs.declared.loss.Stop.{Stop}
+use Rattle.office_run.specs.declared.loss.Stop.TheVariants.{Lost}
+use Rattle.office_run.specs.Lines.{Handles, IsSame, Keeps, Tends, name_of, source_of, wire_at, wire_in}
+use Rattle.office_run.specs.Links.{wire_of}
+use Rattle.office_run.specs.Wires.{Begun, Down, GivesUp, IsShown, Up, Wire, WireMoves, Wired, WiredBy, fresh, without}
+use Rattle.office_run.proofs.Passing.{acting_once, part_acting, part_asked, part_then}
+use Rattle.office_run.proofs.Wires.{shown, shown_on, wired_given, wired_opened, wired_unopened}
+
+pub same_then : (one two three : Line) → IsSame one two → IsSame two three → IsSame one three
+same_then one two three first second = record { place = second.place ∙ first.place; name = second.name ∙ first.name }
+
+pub keeps_then : (one two three : Line) → Keeps one two → Keeps two three → Keeps one three
+keeps_then one two three first second = (same_then one two three first.0 second.0, second.1 ∙ first.1)
+
+-- what was done with its socket, as of the connection that stands and as the call says whose it is
+pub by_link : (line : Line) (from : Source) (acted : List Act → Type 0) (link : Link) (wire : Wire) → line.connection ≡ connection.Up link → from ≡ source_of line
+    → WiredBy (name_of line) from acted (wire_of link) wire → WiredBy (name_of line) (source_of line) acted (wire_at line) wire
+by_link line from acted link wire is own by =
+    subst (λ (some : Wire). WiredBy (name_of line) (source_of line) acted some wire) (sym (ap wire_in is)) (subst (λ (some : Source). WiredBy (name_of line) some acted (wire_of link) wire) own by)
+
+-- a failure that is handed on
+pub told_on : (T X : Type 0) (stop : Stop) (told : Result X Stop) (wire wire' : Wire) → IsErr told → IsErrAnd told (λ some. some ≡ stop) → IsShown {T = T} (Err stop) wire wire' → IsShown told wire wire'
+told_on T X stop (Ok value) wire wire' failed is shows = absurd (cc)
+told_on T X stop (Err other) wire wire' failed is shows = subst (λ (some : Stop). IsShown {T = X} (Err some) wire wire') (sym is) (shown_on T X stop wire wire' shows)
+
+module _ {K : Type 0} {g : Ghosts K} where
+  -- a line of which only what its connection doesn't show changed, while the office was only asked
+  pub tends_kept : {T : Type 0} (told : Result T Stop) (old new : Line) (office office' : Office K g) (acted : List Act → Type 0)
+      → acted [] → Keeps old new → GoesAlong Nothing office office' → Tends told old new office office' acted
+  tends_kept told old new office office' acted none keeps along =
+      (keeps.0, (wire_at old, part_asked (WireMoves (name_of old)) (source_of old) office office' acted (wire_at old) along none, shown told (wire_at old) (wire_at new) keeps.1))
+
+  -- its own, as another line's that is the same
+  pub wired_at : (one two : Line) (office office' : Office K g) (acted : List Act → Type 0) (wire wire' : Wire) → IsSame one two
+      → Wired (name_of two) (source_of two) office office' acted wire wire' → Wired (name_of one) (source_of one) office office' acted wire wire'
+  wired_at one two office office' acted wire wire' same wired =
+      subst (λ (place : ℕ). Wired (name_of one) (source.Line place) office office' acted wire wire') same.place
+      (subst (λ (name : List ℕ). Wired name (source.Line two.place) office office' acted wire wire') same.name wired)
+
+  -- and then a call
+  pub tends_behind : {T : Type 0} (told : Result T Stop) (one two three : Line) (office office' : Office K g) (acted : List Act → Type 0)
+      → Keeps one two → Tends told two three office office' acted → Tends told one three office office' acted
+  tends_behind told one two three office office' acted keeps tends = (
+    same_then one two three keeps.0 tends.0,
+    (
+      tends.1.0,
+      subst (λ (some : Wire). Wired (name_of one) (source_of one) office office' acted some tends.1.0) keeps.1 (wired_at one two office office' acted (wire_at two) tends.1.0 keeps.0 tends.1.1),
+      tends.1.2,
+    ),
+  )
+
+  -- nothing was done at all
+  pub tends_still : {T : Type 0} (told : Result T Stop) (line : Line) (office : Office K g) (acted : List Act → Type 0) → acted [] → Tends told line line office office acted
+  tends_still told line office acted none = tends_kept told line line office office acted none (record { place = refl; name = refl }, refl) (along_still office)
+
+  -- a call behind another one that ended well
+  pub tends_then : {T X : Type 0} (value : X) (told : Result T Stop) (one two three : Line) (office office' office'' : Office K g) (acted acted' acted'' : List Act → Type 0)
+      → ((first second : List Act) → acted first → acted' second → acted'' (second ++ first))
+      → Tends (Ok value) one two office office' acted → Tends told two three office' office'' acted' → Tends told one three office office'' acted''
+  tends_then value told one two three office office' office'' acted acted' acted'' joins first second =
+      let wire = first.1.0 in
+      let end = second.1.0 in (
+        same_then one two three first.0 second.0,
+        (
+          end,
+          part_then (WireMoves (name_of one)) (source_of one) office office' office'' acted acted' acted'' (wire_at one) wire end joins first.1.1
+              (subst (λ (some : Wire). Wired (name_of one) (source_of one) office' office'' acted' some end) first.1.2
+              (wired_at one two office' office'' acted' (wire_at two) end first.0 second.1.1)),
+          second.1.2,
+        ),
+      )
+
+  -- the same, where neither has to do with sockets
+  pub tends_next : {T X : Type 0} (value : X) (told : Result T Stop) (one two three : Line) (office office' office'' : Office K g)
+      → Tends (Ok value) one two office office' (λ acts. acts ≡ []) → Tends told two three office' office'' (λ acts. acts ≡ []) → Tends told one three office office'' (λ acts. acts ≡ [])
+  tends_next value told one two three office office' office'' =
+      tends_then value told one two three office office' office'' (λ acts. acts ≡ []) (λ acts. acts ≡ []) (λ acts. acts ≡ [])
+      (λ first second none none'. ap (λ (acts : List Act). acts ++ first) none' ∙ none)
+
+  -- or the second doesn't
+  pub tends_after : {T X : Type 0} (value : X) (told : Result T Stop) (one two three : Line) (office office' office'' : Office K g) (acted : List Act → Type 0)
+      → Tends (Ok value) one two office office' acted → Tends told two three office' office'' (λ acts. acts ≡ []) → Tends told one three office office'' acted
+  tends_after value told one two three office office' office'' acted =
+      tends_then value told one two three office office' office'' acted (λ acts. acts ≡ []) acted
+      (λ first second some none. subst (λ (acts : List Act). acted (acts ++ first)) (sym none) some)
+
+  -- a failure that is handed on
+  pub tends_on : (T X : Type 0) (stop : Stop) (told : Result X Stop) (old new : Line) (office office' : Office K g) (acted : List Act → Type 0)
+      → IsErr told → IsErrAnd told (λ some. some ≡ stop) → Tends {T = T} (Err stop) old new office office' acted → Tends told old new office office' acted
+  tends_on T X stop told old new office office' acted failed is tends =
+      (tends.0, (tends.1.0, tends.1.1, told_on T X stop told tends.1.0 (wire_at new) failed is tends.1.2))
+
+  -- what was done over the connection that stands
+  pub over_link : (line : Line) (office office' : Office K g) (acted : List Act → Type 0) (link : Link) (wire : Wire) → line.connection ≡ connection.Up link
+      → Wired (name_of line) (source_of line) office office' acted (wire_of link) wire → Wired (name_of line) (source_of line) office office' acted (wire_at line) wire
+  over_link line office office' acted link wire is = subst (λ (some : Wire). Wired (name_of line) (source_of line) office office' acted some wire) (sym (ap wire_in is))
+
+  -- the line was opened, or it wasn't
+  pub opened_so : (line : Line) (office office' : Office K g) (conn : ℕ) (name : List ℕ) → name ≡ name_of line → wire_at line ≡ Begun → Answered (Opens name) office office' (Opened conn)
+      → Wired (name_of line) (source_of line) office office' (λ acts. acts ≡ []) (wire_at line) (Up (fresh conn))
+  opened_so line office office' conn name is begun answered =
+      subst (λ (wire : Wire). Wired (name_of line) (source_of line) office office' (λ acts. acts ≡ []) wire (Up (fresh conn))) (sym begun)
+      (wired_opened (name_of line) (source_of line) office office' conn (subst (λ (some : List ℕ). Answered (Opens some) office office' (Opened conn)) is answered))
+
+  pub unopened_so : (line : Line) (office office' : Office K g) (name : List ℕ) → name ≡ name_of line → wire_at line ≡ Begun → Misses (Opens name) office office'
+      → Wired (name_of line) (source_of line) office office' (λ acts. acts ≡ []) (wire_at line) (wire_at line)
+  unopened_so line office office' name is begun misses =
+      subst (λ (wire : Wire). Wired (name_of line) (source_of line) office office' (λ acts. acts ≡ []) wire wire) (sym begun)
+      (wired_unopened (name_of line) (source_of line) office office' (subst (λ (some : List ℕ). Misses (Opens some) office office') is misses))
+
+  -- what was done with its socket alone
+  pub tends_handled : {T : Type 0} (told : Result T Stop) (old new : Line) (office : Office K g) (acted : List Act → Type 0) → Handles told old new acted → Tends told old new office office acted
+  tends_handled told old new office acted handles =
+      (handles.0, (handles.1.0, part_acting (WireMoves (name_of old)) (source_of old) office acted (wire_at old) handles.1.0 handles.1.1, handles.1.2))
+
+  -- queries of devices were given up
+  pub tends_given : (old new : Line) (office : Office K g) → IsSame old new → GivesUp (wire_at old) (wire_at new) → Tends {T = Unit {0}} (Ok (tt {0})) old new office office (λ acts. acts ≡ [])
+  tends_given old new office same gives = (same, (without gives.0 (wire_at old), wired_given (name_of old) (source_of old) office (wire_at old) gives.0, gives.1))
+
+  -- ---- a turn
+
+  -- it ended as the connection shows
+  pub turned_so : (one two three : Line) (office office' : Office K g) (acted : List Act → Type 0) (wire : Wire) → IsSame one two → Keeps two three
+      → Wired (name_of one) (source_of one) office office' acted (wire_at one) wire → wire_at two ≡ wire
+      → IsSame one three × Wired (name_of one) (source_of one) office office' acted (wire_at one) (wire_at three)
+  turned_so one two three office office' acted wire same keeps wired shows = (
+    same_then one two three same keeps.0,
+    subst (λ (some : Wire). Wired (name_of one) (source_of one) office office' acted (wire_at one) some) (sym (keeps.1 ∙ shows)) wired,
+  )
+
+  -- the connection was lost, and is closed
+  pub turned_lost : (one two three : Line) (office office' : Office K g) (acted acted' acted'' : List Act → Type 0) (wire : Wire)
+      → ((first second : List Act) → acted first → acted' second → acted'' (second ++ first)) → IsSame one two → IsSame two three → wire_at three ≡ Down
+      → Wired (name_of one) (source_of one) office office' acted (wire_at one) wire → acted' (Closes (source_of two) ∷ [])
+      → IsSame one three × Wired (name_of one) (source_of one) office office' acted'' (wire_at one) (wire_at three)
+  turned_lost one two three office office' acted acted' acted'' wire joins same same' down wired closed = (
+    same_then one two three same same',
+    subst (λ (some : Wire). Wired (name_of one) (source_of one) office office' acted'' (wire_at one) some) (sym down)
+        (part_then (WireMoves (name_of one)) (source_of one) office office' office' acted acted' acted'' (wire_at one) wire Down joins wired
+        (part_acting (WireMoves (name_of one)) (source_of one) office' acted' wire Down
+        (acting_once (WireMoves (name_of one)) (source_of one) acted' (Closes (source_of two)) wire Down closed (ap source.Line same.place) (λ now. refl)))),
+  )
