@@ -13,9 +13,9 @@ use Rattle.office_run.specs.declared.line.Line.{Line}
 use Rattle.office_run.specs.declared.place.Place.{Place}
 use Rattle.office_run.specs.Callers.{AreEmpty, session_at}
 use Rattle.office_run.specs.Deeds.{Deed, GoesBy, Passes}
-use Rattle.office_run.specs.Lines.{AreDown, line_name, name_of, names_of, wire_at}
+use Rattle.office_run.specs.Lines.{AreDown, all_terms, terms_in, terms_of, wire_at}
 use Rattle.office_run.specs.Sessions.{AreServed, Free, Session, Through}
-use Rattle.office_run.specs.Wires.{AreWired, Down, Wire, WireMoves, name_at}
+use Rattle.office_run.specs.Wires.{AreWired, Down, Terms, Wire, WireMoves, terms_at}
 use Rattle.office_run.proofs.Callers.{free_empty}
 use Rattle.office_run.proofs.Deeds.{goes_wider}
 use Rattle.office_run.proofs.Staying.{Numbered, known, nth}
@@ -24,14 +24,14 @@ pub one_more_down : (first : ℕ) (lines : List Line) (line : Line) → AreDown 
 one_more_down first [] line down at is = (omega (arith, at), is, tt)
 one_more_down first (other ∷ lines) line down at is = (down.0, down.1, one_more_down (suc first) lines line down.2 (omega (arith, at)) is)
 
-pub one_more_name : (lines : List Line) (line : Line) (all : List SiteLine) (place : ℕ) (one : SiteLine) → names_of lines ≡ map line_name (take place all) → name_of line ≡ line_name one
-    → (place < length all) × (get_or all place one ≡ one) → names_of (lines ++ line ∷ []) ≡ map line_name (take (place + 1) all)
-one_more_name lines line all place one so_far named at =
+pub one_more_terms : (lines : List Line) (line : Line) (all : List SiteLine) (place : ℕ) (one : SiteLine) → all_terms lines ≡ map terms_in (take place all) → terms_of line ≡ terms_in one
+    → (place < length all) × (get_or all place one ≡ one) → all_terms (lines ++ line ∷ []) ≡ map terms_in (take (place + 1) all)
+one_more_terms lines line all place one so_far named at =
     let next : suc place ≡ place + 1 = omega arith in
-    map-append name_of lines (line ∷ []) ∙ ap (λ (names : List (List ℕ)). names ++ name_of line ∷ []) so_far ∙ ap (λ (name : List ℕ). map line_name (take place all) ++ name ∷ []) named
-    ∙ ap (λ (last : SiteLine). map line_name (take place all) ++ line_name last ∷ []) (sym at.1)
-    ∙ sym (map-append line_name (take place all) (get_or all place one ∷ []))
-    ∙ ap (map line_name) (sym (take-suc all place one at.0) ∙ ap (λ (n : ℕ). take n all) next)
+    map-append terms_of lines (line ∷ []) ∙ ap (λ (all' : List Terms). all' ++ terms_of line ∷ []) so_far ∙ ap (λ (terms : Terms). map terms_in (take place all) ++ terms ∷ []) named
+    ∙ ap (λ (last : SiteLine). map terms_in (take place all) ++ terms_in last ∷ []) (sym at.1)
+    ∙ sym (map-append terms_in (take place all) (get_or all place one ∷ []))
+    ∙ ap (map terms_in) (sym (take-suc all place one at.0) ∙ ap (λ (n : ℕ). take n all) next)
 
 pub numbered_down : (first : ℕ) (lines : List Line) → AreDown first lines → Numbered (λ line. line.place) first lines
 numbered_down first [] down = tt
@@ -42,7 +42,7 @@ down_down first [] place down = refl
 down_down first (line ∷ lines) zero down = down.1
 down_down first (line ∷ lines) (suc place) down = down_down (suc first) lines place down.2
 
-named : (lines : List Line) (place : ℕ) → known name_of [] (nth lines place) ≡ name_at (names_of lines) place
+named : (lines : List Line) (place : ℕ) → known terms_of (record { name = []; most = 0 }) (nth lines place) ≡ terms_at (all_terms lines) place
 named [] place = refl
 named (line ∷ lines) zero = refl
 named (line ∷ lines) (suc place) = named lines place
@@ -50,19 +50,19 @@ named (line ∷ lines) (suc place) = named lines place
 -- each line went on from there, and whoever was taken was served
 pub from_nothing : {K : Type 0} {g : Ghosts K} (old new : Office K g) (acted : List Act → Type 0) (lines lines' : List Line) (places places' : List Place) → AreDown 0 lines → AreEmpty 0 places
     → GoesBy old new acted (λ now deeds.
-    ((line : ℕ) → Passes (WireMoves (known name_of [] (nth lines line))) (source.Line line) now (known wire_at Down (nth lines line)) deeds (known wire_at Down (nth lines' line)))
+    ((line : ℕ) → Passes (WireMoves (known terms_of (record { name = []; most = 0 }) (nth lines line))) (source.Line line) now (known wire_at Down (nth lines line)) deeds (known wire_at Down (nth lines' line)))
     × ((caller : ℕ) → Through (source.Caller caller) now (known session_at Free (nth places caller)) deeds (known session_at Free (nth places' caller))))
-    → GoesBy old new acted (λ now deeds. AreWired (names_of lines) now deeds × AreServed now deeds)
+    → GoesBy old new acted (λ now deeds. AreWired (all_terms lines) now deeds × AreServed now deeds)
 from_nothing old new acted lines lines' places places' down empty =
     goes_wider old new acted acted
-    (λ now deeds. ((line : ℕ) → Passes (WireMoves (known name_of [] (nth lines line))) (source.Line line) now (known wire_at Down (nth lines line)) deeds (known wire_at Down (nth lines' line)))
+    (λ now deeds. ((line : ℕ) → Passes (WireMoves (known terms_of (record { name = []; most = 0 }) (nth lines line))) (source.Line line) now (known wire_at Down (nth lines line)) deeds (known wire_at Down (nth lines' line)))
     × ((caller : ℕ) → Through (source.Caller caller) now (known session_at Free (nth places caller)) deeds (known session_at Free (nth places' caller))))
-    (λ now deeds. AreWired (names_of lines) now deeds × AreServed now deeds) (λ acts done. done)
+    (λ now deeds. AreWired (all_terms lines) now deeds × AreServed now deeds) (λ acts done. done)
     (λ now deeds passed. (
       λ line. (
         known wire_at Down (nth lines' line),
-        subst (λ (name : List ℕ). Passes (WireMoves name) (source.Line line) now Down deeds (known wire_at Down (nth lines' line))) (named lines line)
-            (subst (λ (wire : Wire). Passes (WireMoves (known name_of [] (nth lines line))) (source.Line line) now wire deeds (known wire_at Down (nth lines' line))) (down_down 0 lines line down) (passed.0 line)),
+        subst (λ (terms : Terms). Passes (WireMoves terms) (source.Line line) now Down deeds (known wire_at Down (nth lines' line))) (named lines line)
+            (subst (λ (wire : Wire). Passes (WireMoves (known terms_of (record { name = []; most = 0 }) (nth lines line))) (source.Line line) now wire deeds (known wire_at Down (nth lines' line))) (down_down 0 lines line down) (passed.0 line)),
       ),
       λ caller. (
         known session_at Free (nth places' caller),

@@ -17,23 +17,27 @@ use Rattle.office_run.specs.declared.link.Link.{Link}
 use Rattle.office_run.specs.declared.loss.Loss.{Loss}
 use Rattle.office_run.specs.declared.loss.Stop.{Stop}
 use Rattle.office_run.specs.declared.loss.Stop.TheVariants.{Lost}
-use Rattle.office_run.specs.Lines.{Handles, IsSame, Keeps, Tends, name_of, source_of, wire_at, wire_in}
+use Rattle.office_run.specs.Lines.{Handles, IsSame, Keeps, Tends, source_of, terms_of, wire_at, wire_in}
 use Rattle.office_run.specs.Links.{wire_of}
-use Rattle.office_run.specs.Wires.{Begun, Down, GivesUp, IsShown, Up, Wire, WireMoves, Wired, WiredBy, fresh, without}
+use Rattle.office_run.specs.Wires.{Begun, Down, GivesUp, IsShown, Terms, Up, Wire, WireMoves, Wired, WiredBy, fresh, without}
 use Rattle.office_run.proofs.Passing.{acting_once, part_acting, part_asked, part_then}
 use Rattle.office_run.proofs.Wires.{shown, shown_on, wired_given, wired_opened, wired_unopened}
 
 pub same_then : (one two three : Line) → IsSame one two → IsSame two three → IsSame one three
-same_then one two three first second = record { place = second.place ∙ first.place; name = second.name ∙ first.name }
+same_then one two three first second = record { place = second.place ∙ first.place; name = second.name ∙ first.name; most = second.most ∙ first.most }
+
+pub terms_same : (old new : Line) → IsSame old new → terms_of new ≡ terms_of old
+terms_same old new same =
+    ap (λ (name : List ℕ). record { name = name; most = new.most }) same.name ∙ ap (λ (most : ℕ). record { name = old.stations.line; most = most }) same.most
 
 pub keeps_then : (one two three : Line) → Keeps one two → Keeps two three → Keeps one three
 keeps_then one two three first second = (same_then one two three first.0 second.0, second.1 ∙ first.1)
 
 -- what was done with its socket, as of the connection that stands and as the call says whose it is
 pub by_link : (line : Line) (from : Source) (acted : List Act → Type 0) (link : Link) (wire : Wire) → line.connection ≡ connection.Up link → from ≡ source_of line
-    → WiredBy (name_of line) from acted (wire_of link) wire → WiredBy (name_of line) (source_of line) acted (wire_at line) wire
+    → WiredBy (terms_of line) from acted (wire_of link) wire → WiredBy (terms_of line) (source_of line) acted (wire_at line) wire
 by_link line from acted link wire is own by =
-    subst (λ (some : Wire). WiredBy (name_of line) (source_of line) acted some wire) (sym (ap wire_in is)) (subst (λ (some : Source). WiredBy (name_of line) some acted (wire_of link) wire) own by)
+    subst (λ (some : Wire). WiredBy (terms_of line) (source_of line) acted some wire) (sym (ap wire_in is)) (subst (λ (some : Source). WiredBy (terms_of line) some acted (wire_of link) wire) own by)
 
 -- a failure that is handed on
 pub told_on : (T X : Type 0) (stop : Stop) (told : Result X Stop) (wire wire' : Wire) → IsErr told → IsErrAnd told (λ some. some ≡ stop) → IsShown {T = T} (Err stop) wire wire' → IsShown told wire wire'
@@ -45,14 +49,14 @@ module _ {K : Type 0} {g : Ghosts K} where
   pub tends_kept : {T : Type 0} (told : Result T Stop) (old new : Line) (office office' : Office K g) (acted : List Act → Type 0)
       → acted [] → Keeps old new → GoesAlong Nothing office office' → Tends told old new office office' acted
   tends_kept told old new office office' acted none keeps along =
-      (keeps.0, (wire_at old, part_asked (WireMoves (name_of old)) (source_of old) office office' acted (wire_at old) along none, shown told (wire_at old) (wire_at new) keeps.1))
+      (keeps.0, (wire_at old, part_asked (WireMoves (terms_of old)) (source_of old) office office' acted (wire_at old) along none, shown told (wire_at old) (wire_at new) keeps.1))
 
   -- its own, as another line's that is the same
   pub wired_at : (one two : Line) (office office' : Office K g) (acted : List Act → Type 0) (wire wire' : Wire) → IsSame one two
-      → Wired (name_of two) (source_of two) office office' acted wire wire' → Wired (name_of one) (source_of one) office office' acted wire wire'
+      → Wired (terms_of two) (source_of two) office office' acted wire wire' → Wired (terms_of one) (source_of one) office office' acted wire wire'
   wired_at one two office office' acted wire wire' same wired =
-      subst (λ (place : ℕ). Wired (name_of one) (source.Line place) office office' acted wire wire') same.place
-      (subst (λ (name : List ℕ). Wired name (source.Line two.place) office office' acted wire wire') same.name wired)
+      subst (λ (place : ℕ). Wired (terms_of one) (source.Line place) office office' acted wire wire') same.place
+      (subst (λ (terms : Terms). Wired terms (source.Line two.place) office office' acted wire wire') (terms_same one two same) wired)
 
   -- and then a call
   pub tends_behind : {T : Type 0} (told : Result T Stop) (one two three : Line) (office office' : Office K g) (acted : List Act → Type 0)
@@ -61,14 +65,14 @@ module _ {K : Type 0} {g : Ghosts K} where
     same_then one two three keeps.0 tends.0,
     (
       tends.1.0,
-      subst (λ (some : Wire). Wired (name_of one) (source_of one) office office' acted some tends.1.0) keeps.1 (wired_at one two office office' acted (wire_at two) tends.1.0 keeps.0 tends.1.1),
+      subst (λ (some : Wire). Wired (terms_of one) (source_of one) office office' acted some tends.1.0) keeps.1 (wired_at one two office office' acted (wire_at two) tends.1.0 keeps.0 tends.1.1),
       tends.1.2,
     ),
   )
 
   -- nothing was done at all
   pub tends_still : {T : Type 0} (told : Result T Stop) (line : Line) (office : Office K g) (acted : List Act → Type 0) → acted [] → Tends told line line office office acted
-  tends_still told line office acted none = tends_kept told line line office office acted none (record { place = refl; name = refl }, refl) (along_still office)
+  tends_still told line office acted none = tends_kept told line line office office acted none (record { place = refl; name = refl; most = refl }, refl) (along_still office)
 
   -- a call behind another one that ended well
   pub tends_then : {T X : Type 0} (value : X) (told : Result T Stop) (one two three : Line) (office office' office'' : Office K g) (acted acted' acted'' : List Act → Type 0)
@@ -80,8 +84,8 @@ module _ {K : Type 0} {g : Ghosts K} where
         same_then one two three first.0 second.0,
         (
           end,
-          part_then (WireMoves (name_of one)) (source_of one) office office' office'' acted acted' acted'' (wire_at one) wire end joins first.1.1
-              (subst (λ (some : Wire). Wired (name_of one) (source_of one) office' office'' acted' some end) first.1.2
+          part_then (WireMoves (terms_of one)) (source_of one) office office' office'' acted acted' acted'' (wire_at one) wire end joins first.1.1
+              (subst (λ (some : Wire). Wired (terms_of one) (source_of one) office' office'' acted' some end) first.1.2
               (wired_at one two office' office'' acted' (wire_at two) end first.0 second.1.1)),
           second.1.2,
         ),
@@ -109,51 +113,51 @@ module _ {K : Type 0} {g : Ghosts K} where
 
   -- what was done over the connection that stands
   pub over_link : (line : Line) (office office' : Office K g) (acted : List Act → Type 0) (link : Link) (wire : Wire) → line.connection ≡ connection.Up link
-      → Wired (name_of line) (source_of line) office office' acted (wire_of link) wire → Wired (name_of line) (source_of line) office office' acted (wire_at line) wire
-  over_link line office office' acted link wire is = subst (λ (some : Wire). Wired (name_of line) (source_of line) office office' acted some wire) (sym (ap wire_in is))
+      → Wired (terms_of line) (source_of line) office office' acted (wire_of link) wire → Wired (terms_of line) (source_of line) office office' acted (wire_at line) wire
+  over_link line office office' acted link wire is = subst (λ (some : Wire). Wired (terms_of line) (source_of line) office office' acted some wire) (sym (ap wire_in is))
 
   -- the line was opened, or it wasn't
-  pub opened_so : (line : Line) (office office' : Office K g) (conn : ℕ) (name : List ℕ) → name ≡ name_of line → wire_at line ≡ Begun → Answered (Opens name) office office' (Opened conn)
-      → Wired (name_of line) (source_of line) office office' (λ acts. acts ≡ []) (wire_at line) (Up (fresh conn))
+  pub opened_so : (line : Line) (office office' : Office K g) (conn : ℕ) (name : List ℕ) → name ≡ line.stations.line → wire_at line ≡ Begun → Answered (Opens name) office office' (Opened conn)
+      → Wired (terms_of line) (source_of line) office office' (λ acts. acts ≡ []) (wire_at line) (Up (fresh conn))
   opened_so line office office' conn name is begun answered =
-      subst (λ (wire : Wire). Wired (name_of line) (source_of line) office office' (λ acts. acts ≡ []) wire (Up (fresh conn))) (sym begun)
-      (wired_opened (name_of line) (source_of line) office office' conn (subst (λ (some : List ℕ). Answered (Opens some) office office' (Opened conn)) is answered))
+      subst (λ (wire : Wire). Wired (terms_of line) (source_of line) office office' (λ acts. acts ≡ []) wire (Up (fresh conn))) (sym begun)
+      (wired_opened (terms_of line) (source_of line) office office' conn (subst (λ (some : List ℕ). Answered (Opens some) office office' (Opened conn)) is answered))
 
-  pub unopened_so : (line : Line) (office office' : Office K g) (name : List ℕ) → name ≡ name_of line → wire_at line ≡ Begun → Misses (Opens name) office office'
-      → Wired (name_of line) (source_of line) office office' (λ acts. acts ≡ []) (wire_at line) (wire_at line)
+  pub unopened_so : (line : Line) (office office' : Office K g) (name : List ℕ) → name ≡ line.stations.line → wire_at line ≡ Begun → Misses (Opens name) office office'
+      → Wired (terms_of line) (source_of line) office office' (λ acts. acts ≡ []) (wire_at line) (wire_at line)
   unopened_so line office office' name is begun misses =
-      subst (λ (wire : Wire). Wired (name_of line) (source_of line) office office' (λ acts. acts ≡ []) wire wire) (sym begun)
-      (wired_unopened (name_of line) (source_of line) office office' (subst (λ (some : List ℕ). Misses (Opens some) office office') is misses))
+      subst (λ (wire : Wire). Wired (terms_of line) (source_of line) office office' (λ acts. acts ≡ []) wire wire) (sym begun)
+      (wired_unopened (terms_of line) (source_of line) office office' (subst (λ (some : List ℕ). Misses (Opens some) office office') is misses))
 
   -- what was done with its socket alone
   pub tends_handled : {T : Type 0} (told : Result T Stop) (old new : Line) (office : Office K g) (acted : List Act → Type 0) → Handles told old new acted → Tends told old new office office acted
   tends_handled told old new office acted handles =
-      (handles.0, (handles.1.0, part_acting (WireMoves (name_of old)) (source_of old) office acted (wire_at old) handles.1.0 handles.1.1, handles.1.2))
+      (handles.0, (handles.1.0, part_acting (WireMoves (terms_of old)) (source_of old) office acted (wire_at old) handles.1.0 handles.1.1, handles.1.2))
 
   -- queries of devices were given up
   pub tends_given : (old new : Line) (office : Office K g) → IsSame old new → GivesUp (wire_at old) (wire_at new) → Tends {T = Unit {0}} (Ok (tt {0})) old new office office (λ acts. acts ≡ [])
-  tends_given old new office same gives = (same, (without gives.0 (wire_at old), wired_given (name_of old) (source_of old) office (wire_at old) gives.0, gives.1))
+  tends_given old new office same gives = (same, (without gives.0 (wire_at old), wired_given (terms_of old) (source_of old) office (wire_at old) gives.0, gives.1))
 
   -- ---- a turn
 
   -- it ended as the connection shows
   pub turned_so : (one two three : Line) (office office' : Office K g) (acted : List Act → Type 0) (wire : Wire) → IsSame one two → Keeps two three
-      → Wired (name_of one) (source_of one) office office' acted (wire_at one) wire → wire_at two ≡ wire
-      → IsSame one three × Wired (name_of one) (source_of one) office office' acted (wire_at one) (wire_at three)
+      → Wired (terms_of one) (source_of one) office office' acted (wire_at one) wire → wire_at two ≡ wire
+      → IsSame one three × Wired (terms_of one) (source_of one) office office' acted (wire_at one) (wire_at three)
   turned_so one two three office office' acted wire same keeps wired shows = (
     same_then one two three same keeps.0,
-    subst (λ (some : Wire). Wired (name_of one) (source_of one) office office' acted (wire_at one) some) (sym (keeps.1 ∙ shows)) wired,
+    subst (λ (some : Wire). Wired (terms_of one) (source_of one) office office' acted (wire_at one) some) (sym (keeps.1 ∙ shows)) wired,
   )
 
   -- the connection was lost, and is closed
   pub turned_lost : (one two three : Line) (office office' : Office K g) (acted acted' acted'' : List Act → Type 0) (wire : Wire)
       → ((first second : List Act) → acted first → acted' second → acted'' (second ++ first)) → IsSame one two → IsSame two three → wire_at three ≡ Down
-      → Wired (name_of one) (source_of one) office office' acted (wire_at one) wire → acted' (Closes (source_of two) ∷ [])
-      → IsSame one three × Wired (name_of one) (source_of one) office office' acted'' (wire_at one) (wire_at three)
+      → Wired (terms_of one) (source_of one) office office' acted (wire_at one) wire → acted' (Closes (source_of two) ∷ [])
+      → IsSame one three × Wired (terms_of one) (source_of one) office office' acted'' (wire_at one) (wire_at three)
   turned_lost one two three office office' acted acted' acted'' wire joins same same' down wired closed = (
     same_then one two three same same',
-    subst (λ (some : Wire). Wired (name_of one) (source_of one) office office' acted'' (wire_at one) some) (sym down)
-        (part_then (WireMoves (name_of one)) (source_of one) office office' office' acted acted' acted'' (wire_at one) wire Down joins wired
-        (part_acting (WireMoves (name_of one)) (source_of one) office' acted' wire Down
-        (acting_once (WireMoves (name_of one)) (source_of one) acted' (Closes (source_of two)) wire Down closed (ap source.Line same.place) (λ now. refl)))),
+    subst (λ (some : Wire). Wired (terms_of one) (source_of one) office office' acted'' (wire_at one) some) (sym down)
+        (part_then (WireMoves (terms_of one)) (source_of one) office office' office' acted acted' acted'' (wire_at one) wire Down joins wired
+        (part_acting (WireMoves (terms_of one)) (source_of one) office' acted' wire Down
+        (acting_once (WireMoves (terms_of one)) (source_of one) acted' (Closes (source_of two)) wire Down closed (ap source.Line same.place) (λ now. refl)))),
   )

@@ -1,5 +1,5 @@
 -- How lines' connections stand, deed by deed.
-use Rattle.std.proofs.Common.{◌≡◌, ◌⊎◌, inl, inr, Bool, true, false, ℕ, List, [], ◌∷◌, ◌++◌, Option, Some, None, Result, Ok, Err, refl, sym, ◌∙◌, ap, subst}
+use Rattle.std.proofs.Common.{◌≡◌, ◌<◌, ◌⊎◌, inl, inr, Bool, true, false, ℕ, List, [], ◌∷◌, ◌++◌, length, Option, Some, None, Result, Ok, Err, refl, sym, ◌∙◌, ap, subst}
 use Rattle.std.specs.Prelude.{IsErrAnd, IsSome, MatchResult, if◌then◌else◌, is_some}
 use Rattle.std.specs.List.{flat_map}
 use Rattle.std.proofs.lemmas.List.{append-nil}
@@ -39,7 +39,7 @@ use Rattle.office_run.specs.declared.loss.Loss.{Loss}
 use Rattle.office_run.specs.declared.loss.Stop.{Stop}
 use Rattle.office_run.specs.declared.loss.Stop.TheVariants.{Ahead, Lost, Refused}
 use Rattle.office_run.specs.Links.{before, held_in}
-use Rattle.office_run.specs.Wires.{AsksOver, Begun, GivesUp, IsShown, Queries, Reaches, Sends, SendsOver, Standing, Up, Wire, WireMoves, Wired, WiredBy, fresh, given_up, heard, settled, without}
+use Rattle.office_run.specs.Wires.{AsksOver, Begun, GivesUp, IsShown, Queries, Reaches, Sends, SendsOver, Standing, Terms, Up, Wire, WireMoves, Wired, WiredBy, fresh, given_up, heard, settled, without}
 use Rattle.office_run.proofs.Passing.{acting_once, acting_still, part_still, then_office}
 
 -- ---- queries over a connection
@@ -75,10 +75,10 @@ then_asked conn one two three (Err e) along misses = nothing_then_misses (Querie
 
 -- ---- one event over a connection
 
-module _ {K : Type 0} {g : Ghosts K} (line : List ℕ) (source : Source) (old new : Office K g) (kind : History → Happening → Type 0) (before after : Wire) where
+module _ {K : Type 0} {g : Ghosts K} (terms : Terms) (source : Source) (old new : Office K g) (kind : History → Happening → Type 0) (before after : Wire) where
   -- it happened
-  wired_answered : (told : EventAnswer) → ((now : History) (event : Happening) → kind now event → answer_of now event ≡ told → Runs now event × WireMoves line now before (Over source (Did event)) after)
-      → Answered kind old new told → Wired line source old new (λ acts. acts ≡ []) before after
+  wired_answered : (told : EventAnswer) → ((now : History) (event : Happening) → kind now event → answer_of now event ≡ told → Runs now event × WireMoves terms now before (Over source (Did event)) after)
+      → Answered kind old new told → Wired terms source old new (λ acts. acts ≡ []) before after
   wired_answered told is answered clean =
       let went = answered clean in (
         went.0,
@@ -96,16 +96,16 @@ module _ {K : Type 0} {g : Ghosts K} (line : List ℕ) (source : Source) (old ne
       )
 
 -- it was refused, or nothing was tried
-wired_refused : {K : Type 0} {g : Ghosts K} (line : List ℕ) (source : Source) (old new : Office K g) (kind : History → Happening → Type 0) (wire : Wire)
-    → ((now : History) (event : Happening) → kind now event → Runs now event × WireMoves line now wire (Over source (Missed event)) wire)
-    → Misses kind old new → Wired line source old new (λ acts. acts ≡ []) wire wire
-wired_refused line source old new kind wire is misses clean =
+wired_refused : {K : Type 0} {g : Ghosts K} (terms : Terms) (source : Source) (old new : Office K g) (kind : History → Happening → Type 0) (wire : Wire)
+    → ((now : History) (event : Happening) → kind now event → Runs now event × WireMoves terms now wire (Over source (Missed event)) wire)
+    → Misses kind old new → Wired terms source old new (λ acts. acts ≡ []) wire wire
+wired_refused terms source old new kind wire is misses clean =
     let went = misses clean in (
       went.0,
       λ now follows.
           let missed = went.1 now follows in
           elim missed.1 as (λ _. Deeds (Follows new) (MayLeave old) (MayLeave new) (λ acts. acts ≡ [])
-          (λ deeds. AllOf (Is source) deeds × Passes (WireMoves line) source now wire deeds wire) now) [
+          (λ deeds. AllOf (Is source) deeds × Passes (WireMoves terms) source now wire deeds wire) now) [
             | inl none ↦ record { deeds = []; are = tt; follows = missed.0; leaves = none; has_acted = refl; has_kept = (tt, refl) }
             | inr some ↦
                 let moved = is now some.0 some.1 in
@@ -125,10 +125,10 @@ abbrev pub heard_or : Bool → EventAnswer → Frame → Standing → Standing
 heard_or true told frame at = settled frame at
 heard_or false told frame at = heard told frame at
 
-module _ {K : Type 0} {g : Ghosts K} (line : List ℕ) (source : Source) (old new : Office K g) (at : Standing) (frame : Frame) (told : EventAnswer) where
+module _ {K : Type 0} {g : Ghosts K} (terms : Terms) (source : Source) (old new : Office K g) (at : Standing) (frame : Frame) (told : EventAnswer) where
   heard_to : (now : History) (event : Happening) → Hears at.conn frame now event → (refused : Bool) → CameTo old new now event told refused
       → Deeds (Follows new) (MayLeave old) (MayLeave new) (λ acts. acts ≡ [])
-      (λ deeds. AllOf (Is source) deeds × Passes (WireMoves line) source now (Up (before frame at)) deeds (Up (heard_or refused told frame at))) now
+      (λ deeds. AllOf (Is source) deeds × Passes (WireMoves terms) source now (Up (before frame at)) deeds (Up (heard_or refused told frame at))) now
   heard_to now event hears true kept = record {
     deeds = Over source (Missed event) ∷ [];
     are = (HearsOne at.conn frame hears, tt);
@@ -152,42 +152,42 @@ query_runs : (now : History) (event : Happening) (conn : ℕ) → Queries conn n
 query_runs now event conn (AsksOver slot device read asks) = AsksOne conn slot device read asks
 query_runs now event conn (SendsOver device sends) = SendsOne conn device sends
 
-module _ {K : Type 0} {g : Ghosts K} (line : List ℕ) (source : Source) (old new : Office K g) where
+module _ {K : Type 0} {g : Ghosts K} (terms : Terms) (source : Source) (old new : Office K g) where
   -- the line was opened, or it wasn't
-  pub wired_opened : (conn : ℕ) → Answered (Opens line) old new (Opened conn) → Wired line source old new (λ acts. acts ≡ []) Begun (Up (fresh conn))
-  wired_opened conn = wired_answered line source old new (Opens line) Begun (Up (fresh conn)) (Opened conn) (λ now event opens told. (OpensOne line opens, (conn, opens, told, refl)))
+  pub wired_opened : (conn : ℕ) → Answered (Opens terms.name) old new (Opened conn) → Wired terms source old new (λ acts. acts ≡ []) Begun (Up (fresh conn))
+  wired_opened conn = wired_answered terms source old new (Opens terms.name) Begun (Up (fresh conn)) (Opened conn) (λ now event opens told. (OpensOne terms.name opens, (conn, opens, told, refl)))
 
-  pub wired_unopened : Misses (Opens line) old new → Wired line source old new (λ acts. acts ≡ []) Begun Begun
-  wired_unopened = wired_refused line source old new (Opens line) Begun (λ now event opens. (OpensOne line opens, (opens, refl)))
+  pub wired_unopened : Misses (Opens terms.name) old new → Wired terms source old new (λ acts. acts ≡ []) Begun Begun
+  wired_unopened = wired_refused terms source old new (Opens terms.name) Begun (λ now event opens. (OpensOne terms.name opens, (opens, refl)))
 
   module _ (at : Standing) where
     -- a query was made
-    pub wired_query : (query : Frame) (wire : Wire) → Sends at query wire → Answered (Queries at.conn) old new (Query query) → Wired line source old new (λ acts. acts ≡ []) (Up at) wire
-    wired_query query wire sends = wired_answered line source old new (Queries at.conn) (Up at) wire (Query query) (λ now event queries told. (query_runs now event at.conn queries, inl (query, queries, told, sends)))
+    pub wired_query : (query : Frame) (wire : Wire) → length at.waiting < terms.most → Sends at query wire → Answered (Queries at.conn) old new (Query query) → Wired terms source old new (λ acts. acts ≡ []) (Up at) wire
+    wired_query query wire few sends = wired_answered terms source old new (Queries at.conn) (Up at) wire (Query query) (λ now event queries told. (query_runs now event at.conn queries, inl (query, queries, told, few, sends)))
 
     -- none was made
-    pub wired_missed : Misses (Queries at.conn) old new → Wired line source old new (λ acts. acts ≡ []) (Up at) (Up at)
-    wired_missed = wired_refused line source old new (Queries at.conn) (Up at) (λ now event queries. (query_runs now event at.conn queries, inl (queries, refl)))
+    pub wired_missed : Misses (Queries at.conn) old new → Wired terms source old new (λ acts. acts ≡ []) (Up at) (Up at)
+    wired_missed = wired_refused terms source old new (Queries at.conn) (Up at) (λ now event queries. (query_runs now event at.conn queries, inl (queries, refl)))
 
     -- a frame came
     pub wired_heard : (frame : Frame) (told : EventAnswer) → Tries (Hears at.conn frame) old new told
-        → Wired line source old new (λ acts. acts ≡ []) (Up (before frame at)) (Up (heard_or (is_store told) told frame at))
+        → Wired terms source old new (λ acts. acts ≡ []) (Up (before frame at)) (Up (heard_or (is_store told) told frame at))
     wired_heard frame told tries clean =
         let went = tries clean in
-        (went.0, λ now follows. let tried = went.1 now follows in heard_to line source old new at frame told now tried.0 tried.1 (is_store told) tried.2)
+        (went.0, λ now follows. let tried = went.1 now follows in heard_to terms source old new at frame told now tried.0 tried.1 (is_store told) tried.2)
 
 -- by what the office answered
-module _ {K : Type 0} {g : Ghosts K} (line : List ℕ) (source : Source) (old new : Office K g) (at : Standing) (frame : Frame) (told : Result Arrival OfficeError) where
+module _ {K : Type 0} {g : Ghosts K} (terms : Terms) (source : Source) (old new : Office K g) (at : Standing) (frame : Frame) (told : Result Arrival OfficeError) where
   -- an answer, or one that the store refused
-  pub heard_answer : is_store (arrived told) ≡ true → Tries (Hears at.conn frame) old new (arrived told) → Wired line source old new (λ acts. acts ≡ []) (Up (before frame at)) (Up (settled frame at))
+  pub heard_answer : is_store (arrived told) ≡ true → Tries (Hears at.conn frame) old new (arrived told) → Wired terms source old new (λ acts. acts ≡ []) (Up (before frame at)) (Up (settled frame at))
   heard_answer refused tries =
-      subst (λ (some : Bool). Wired line source old new (λ acts. acts ≡ []) (Up (before frame at)) (Up (heard_or some (arrived told) frame at))) refused (wired_heard line source old new at frame (arrived told) tries)
+      subst (λ (some : Bool). Wired terms source old new (λ acts. acts ≡ []) (Up (before frame at)) (Up (heard_or some (arrived told) frame at))) refused (wired_heard terms source old new at frame (arrived told) tries)
 
-  pub heard_none : (e : OfficeError) → told ≡ Err e → is_of_store e ≡ false → Tries (Hears at.conn frame) old new (arrived told) → Wired line source old new (λ acts. acts ≡ []) (Up (before frame at)) (Up at)
+  pub heard_none : (e : OfficeError) → told ≡ Err e → is_of_store e ≡ false → Tries (Hears at.conn frame) old new (arrived told) → Wired terms source old new (λ acts. acts ≡ []) (Up (before frame at)) (Up at)
   heard_none e is other tries =
-      subst (λ (some : Bool). Wired line source old new (λ acts. acts ≡ []) (Up (before frame at)) (Up (heard_or some (answer.Refused e) frame at))) other
-      (subst (λ (some : Result Arrival OfficeError). Wired line source old new (λ acts. acts ≡ []) (Up (before frame at)) (Up (heard_or (is_store (arrived some)) (arrived some) frame at))) is
-      (wired_heard line source old new at frame (arrived told) tries))
+      subst (λ (some : Bool). Wired terms source old new (λ acts. acts ≡ []) (Up (before frame at)) (Up (heard_or some (answer.Refused e) frame at))) other
+      (subst (λ (some : Result Arrival OfficeError). Wired terms source old new (λ acts. acts ≡ []) (Up (before frame at)) (Up (heard_or (is_store (arrived some)) (arrived some) frame at))) is
+      (wired_heard terms source old new at frame (arrived told) tries))
 
 pub not_store : (e : OfficeError) → ((fault : StoreFault) → e ≡ error.Store fault → ⊥) → is_of_store e ≡ false
 not_store (error.Store fault) not = absurd (not fault refl)
@@ -230,18 +230,18 @@ reaches_so at piece frames fault (Some held) new of reads is fed =
     (reaches_by at held piece frames fed.0 of reads fed.1 (fault_of fed.0) refl)
 
 -- nothing more comes, or the connection failed
-pub ended_so : (line : List ℕ) (source : Source) (piece : List ℕ) (acted : List Act → Type 0) (at : Standing) (told : Came) → acted (read_so source piece told)
-    → (told ≡ came.Ended) ⊎ (told ≡ came.Failed) → WiredBy line source acted (Up at) (Up at)
-ended_so line source piece acted at told acts (inl ended) =
-    acting_once (WireMoves line) source acted (Ends source) (Up at) (Up at) (subst (λ (some : Came). acted (read_so source piece some)) ended acts) refl (λ now. refl)
-ended_so line source piece acted at told acts (inr failed) =
-    acting_still (WireMoves line) source acted (Up at) (subst (λ (some : Came). acted (read_so source piece some)) failed acts)
+pub ended_so : (terms : Terms) (source : Source) (piece : List ℕ) (acted : List Act → Type 0) (at : Standing) (told : Came) → acted (read_so source piece told)
+    → (told ≡ came.Ended) ⊎ (told ≡ came.Failed) → WiredBy terms source acted (Up at) (Up at)
+ended_so terms source piece acted at told acts (inl ended) =
+    acting_once (WireMoves terms) source acted (Ends source) (Up at) (Up at) (subst (λ (some : Came). acted (read_so source piece some)) ended acts) refl (λ now. refl)
+ended_so terms source piece acted at told acts (inr failed) =
+    acting_still (WireMoves terms) source acted (Up at) (subst (λ (some : Came). acted (read_so source piece some)) failed acts)
 
 -- bytes came, and then memory was refused
-pub read_so_far : (line : List ℕ) (source : Source) (bytes : List ℕ) (acted : List Act → Type 0) (at : Standing) → at.reading ≡ true → acted (Reads source bytes ∷ [])
-    → WiredBy line source acted (Up at) (Up (record at { unread = at.unread ++ bytes }))
-read_so_far line source bytes acted at reads acts =
-    acting_once (WireMoves line) source acted (Reads source bytes) (Up at) (Up (record at { unread = at.unread ++ bytes })) acts refl (λ now. (reads, inl refl))
+pub read_so_far : (terms : Terms) (source : Source) (bytes : List ℕ) (acted : List Act → Type 0) (at : Standing) → at.reading ≡ true → acted (Reads source bytes ∷ [])
+    → WiredBy terms source acted (Up at) (Up (record at { unread = at.unread ++ bytes }))
+read_so_far terms source bytes acted at reads acts =
+    acting_once (WireMoves terms) source acted (Reads source bytes) (Up at) (Up (record at { unread = at.unread ++ bytes })) acts refl (λ now. (reads, inl refl))
 
 -- ---- given up
 
@@ -253,11 +253,11 @@ pub gives_then : (one two three : Wire) → GivesUp one two → GivesUp two thre
 gives_then one two three first second = (second.0 ++ first.0, second.1 ∙ ap (without second.0) first.1 ∙ sym (without_more second.0 first.0 one))
 
 -- queries of devices were given up
-pub wired_given : {K : Type 0} {g : Ghosts K} (line : List ℕ) (source : Source) (office : Office K g) (wire : Wire) (devices : List ℕ)
-    → Wired line source office office (λ acts. acts ≡ []) wire (without devices wire)
-wired_given line source office wire [] = part_still (WireMoves line) source office (λ acts. acts ≡ []) wire refl
-wired_given line source office wire (device ∷ devices) =
-    then_office (WireMoves line) source office office office (λ acts. acts ≡ []) wire (without devices wire) (without (device ∷ devices) wire) (wired_given line source office wire devices)
+pub wired_given : {K : Type 0} {g : Ghosts K} (terms : Terms) (source : Source) (office : Office K g) (wire : Wire) (devices : List ℕ)
+    → Wired terms source office office (λ acts. acts ≡ []) wire (without devices wire)
+wired_given terms source office wire [] = part_still (WireMoves terms) source office (λ acts. acts ≡ []) wire refl
+wired_given terms source office wire (device ∷ devices) =
+    then_office (WireMoves terms) source office office office (λ acts. acts ≡ []) wire (without devices wire) (without (device ∷ devices) wire) (wired_given terms source office wire devices)
     (λ clean. (
       clean,
       λ now follows.

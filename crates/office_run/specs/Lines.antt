@@ -12,7 +12,7 @@ use Rattle.office_run.specs.declared.link.Connection.TheVariants as connection
 use Rattle.office_run.specs.declared.line.Line.{Line}
 use Rattle.office_run.specs.declared.loss.Stop.{Stop}
 use Rattle.office_run.specs.Links.{wire_of}
-use Rattle.office_run.specs.Wires.{Acted, Begun, Down, Wire, Works}
+use Rattle.office_run.specs.Wires.{Acted, Begun, Down, Terms, Wire, Works}
 
 abbrev pub wire_in : Connection → Wire
 wire_in connection.Down = Down
@@ -23,8 +23,8 @@ wire_in (connection.Up link) = wire_of link
 abbrev pub wire_at : Line → Wire
 wire_at line = wire_in line.connection
 
-abbrev pub name_of : Line → List ℕ
-name_of line = line.stations.line
+abbrev pub terms_of : Line → Terms
+terms_of line = record { name = line.stations.line; most = line.most }
 
 -- whose sockets are its own
 abbrev pub source_of : Line → Source
@@ -33,7 +33,8 @@ source_of line = source.Line line.place
 -- the same line
 pub record IsSame (old new : Line) : Type 0 where
   pub place : new.place ≡ old.place
-  pub name : name_of new ≡ name_of old
+  pub name : new.stations.line ≡ old.stations.line
+  pub most : new.most ≡ old.most
 
 -- its connection stands as it did
 abbrev pub Keeps : Line → Line → Type 0
@@ -41,23 +42,23 @@ Keeps old new = IsSame old new × (wire_at new ≡ wire_at old)
 
 -- what a call that may fail did over its connection
 abbrev pub Tends : {K T : Type 0} {g : Ghosts K} → Result T Stop → Line → Line → Office K g → Office K g → (List Act → Type 0) → Type 0
-Tends told old new office office' acted = IsSame old new × Works told (name_of old) (source_of old) office office' acted (wire_at old) (wire_at new)
+Tends told old new office office' acted = IsSame old new × Works told (terms_of old) (source_of old) office office' acted (wire_at old) (wire_at new)
 
 -- what it did with its socket alone
 abbrev pub Handles : {T : Type 0} → Result T Stop → Line → Line → (List Act → Type 0) → Type 0
-Handles told old new acted = IsSame old new × Acted told (name_of old) (source_of old) acted (wire_at old) (wire_at new)
+Handles told old new acted = IsSame old new × Acted told (terms_of old) (source_of old) acted (wire_at old) (wire_at new)
 
 -- lines without a connection, numbered from a first one on
 abbrev pub AreDown : ℕ → List Line → Type 0
 AreDown first [] = ⊤
 AreDown first (line ∷ lines) = (line.place ≡ first) × (wire_at line ≡ Down) × AreDown (suc first) lines
 
-abbrev pub names_of : List Line → List (List ℕ)
-names_of = map name_of
+abbrev pub all_terms : List Line → List Terms
+all_terms = map terms_of
 
-abbrev pub line_name : SiteLine → List ℕ
-line_name line = line.name
+abbrev pub terms_in : SiteLine → Terms
+terms_in line = record { name = line.name; most = line.outstanding }
 
--- the names of the lines that are polled
-abbrev pub site_names : Site → List (List ℕ)
-site_names site = map line_name (take 64 site.lines)
+-- what the site says of the lines that are polled
+abbrev pub site_terms : Site → List Terms
+site_terms site = map terms_in (take 64 site.lines)

@@ -21,6 +21,11 @@ use Rattle.office_run.specs.declared.window.Query.{Query as Waiting}
 use Rattle.office_run.specs.Windows.{is_of_another, is_under_another}
 use Rattle.office_run.specs.Deeds.{Deed, GivesUpOn, Over, PartOf, Passes, PassesBy, With}
 
+-- what the site says of a line: its name, and how many of its queries may wait
+pub record Terms : Type 0 where
+  pub name : List ℕ
+  pub most : ℕ
+
 -- a connection that stands
 pub record Standing : Type 0 where
   -- its number, which the office gave it
@@ -56,12 +61,12 @@ Reaches at bytes wire' =
     (wire' ≡ Up (record at { unread = at.unread ++ bytes }))
     ⊎ ((whole : List ℕ) × (bad : List ℕ) × (at.unread ++ bytes ≡ whole ++ bad) × IsSome (fault_of bad) × (wire' ≡ Up (record at { unread = whole; reading = false })))
 
--- a query was made: it is to be written behind the others, and one of fewer than sixteen that wait
+-- a query was made: it is to be written behind the others, and waits
 abbrev pub sent : Frame → Waiting → Standing → Standing
 sent query asked at = record at { left = at.left ++ spelled query; waiting = at.waiting ++ asked ∷ [] }
 
 abbrev pub Sends : Standing → Frame → Wire → Type 0
-Sends at query wire' = (asked : Waiting) × (asked.transaction ≡ query.transaction) × (length at.waiting < 16) × (wire' ≡ Up (sent query asked at))
+Sends at query wire' = (asked : Waiting) × (asked.transaction ≡ query.transaction) × (wire' ≡ Up (sent query asked at))
 
 -- the queries that wait behind the reply to one
 abbrev pub settled : Frame → Standing → Standing
@@ -88,43 +93,43 @@ without (device ∷ devices) wire = given_up device (without devices wire)
 abbrev pub GivesUp : Wire → Wire → Type 0
 GivesUp wire wire' = (devices : List ℕ) × (wire' ≡ without devices wire)
 
--- What a deed makes of the connection of a line of this name. It is begun where none stands, and stands under the number that
--- the office gives as the line is opened; what is asked goes over it, query behind query, and nothing else, while fewer than
--- sixteen wait; and the frames that are heard are those of the bytes that were read over it, each once, in their order
-abbrev pub WireMoves : List ℕ → History → Wire → Deed → Wire → Type 0
-WireMoves line now wire (With (Closes source)) wire' = wire' ≡ Down
-WireMoves line now wire (GivesUpOn source device) wire' = wire' ≡ given_up device wire
-WireMoves line now Down (With (Begins source)) wire' = wire' ≡ Begun
-WireMoves line now Begun (Over source (Did event)) wire' = (conn : ℕ) × Opens line now event × (answer_of now event ≡ Opened conn) × (wire' ≡ Up (fresh conn))
-WireMoves line now Begun (Over source (Missed event)) wire' = Opens line now event × (wire' ≡ Begun)
-WireMoves line now (Up at) (With (Reads source bytes)) wire' = (at.reading ≡ true) × Reaches at bytes wire'
-WireMoves line now (Up at) (With (Ends source)) wire' = wire' ≡ Up at
-WireMoves line now (Up at) (With (Writes source bytes)) wire' = (rest : List ℕ) × (at.left ≡ bytes ++ rest) × (wire' ≡ Up (record at { left = rest }))
-WireMoves line now (Up at) (Over source (Did event)) wire' =
-    ((query : Frame) × Queries at.conn now event × (answer_of now event ≡ Query query) × Sends at query wire')
+-- What a deed makes of the connection of a line. It is begun where none stands, and stands under the number that the office
+-- gives as the line is opened; what is asked goes over it, query behind query, and nothing else, while fewer wait than may; and
+-- the frames that are heard are those of the bytes that were read over it, each once, in their order
+abbrev pub WireMoves : Terms → History → Wire → Deed → Wire → Type 0
+WireMoves terms now wire (With (Closes source)) wire' = wire' ≡ Down
+WireMoves terms now wire (GivesUpOn source device) wire' = wire' ≡ given_up device wire
+WireMoves terms now Down (With (Begins source)) wire' = wire' ≡ Begun
+WireMoves terms now Begun (Over source (Did event)) wire' = (conn : ℕ) × Opens terms.name now event × (answer_of now event ≡ Opened conn) × (wire' ≡ Up (fresh conn))
+WireMoves terms now Begun (Over source (Missed event)) wire' = Opens terms.name now event × (wire' ≡ Begun)
+WireMoves terms now (Up at) (With (Reads source bytes)) wire' = (at.reading ≡ true) × Reaches at bytes wire'
+WireMoves terms now (Up at) (With (Ends source)) wire' = wire' ≡ Up at
+WireMoves terms now (Up at) (With (Writes source bytes)) wire' = (rest : List ℕ) × (at.left ≡ bytes ++ rest) × (wire' ≡ Up (record at { left = rest }))
+WireMoves terms now (Up at) (Over source (Did event)) wire' =
+    ((query : Frame) × Queries at.conn now event × (answer_of now event ≡ Query query) × (length at.waiting < terms.most) × Sends at query wire')
     ⊎ ((frame : Frame) × (rest : List ℕ) × Hears at.conn frame now event × IsNext at frame rest × (wire' ≡ Up (heard (answer_of now event) frame (record at { unread = rest }))))
-WireMoves line now (Up at) (Over source (Missed event)) wire' =
+WireMoves terms now (Up at) (Over source (Missed event)) wire' =
     (Queries at.conn now event × (wire' ≡ Up at))
     ⊎ ((frame : Frame) × (rest : List ℕ) × Hears at.conn frame now event × IsNext at frame rest × (wire' ≡ Up (settled frame (record at { unread = rest }))))
-WireMoves line now _ _ _ = ⊥
+WireMoves terms now _ _ _ = ⊥
 
 -- what is done with a line's socket alone
-abbrev pub WiredBy : List ℕ → Source → (List Act → Type 0) → Wire → Wire → Type 0
-WiredBy line = PassesBy (WireMoves line)
+abbrev pub WiredBy : Terms → Source → (List Act → Type 0) → Wire → Wire → Type 0
+WiredBy terms = PassesBy (WireMoves terms)
 
 -- a line's part of a run
-abbrev pub Wired : {K : Type 0} {g : Ghosts K} → List ℕ → Source → Office K g → Office K g → (List Act → Type 0) → Wire → Wire → Type 0
-Wired line source old new acted wire wire' = PartOf (WireMoves line) source old new acted wire wire'
+abbrev pub Wired : {K : Type 0} {g : Ghosts K} → Terms → Source → Office K g → Office K g → (List Act → Type 0) → Wire → Wire → Type 0
+Wired terms source old new acted wire wire' = PartOf (WireMoves terms) source old new acted wire wire'
 
--- the name of the line at a place
-abbrev pub name_at : List (List ℕ) → ℕ → List ℕ
-name_at [] place = []
-name_at (name ∷ names) zero = name
-name_at (name ∷ names) (suc place) = name_at names place
+-- what the site says of the line at a place: where there is none, none of its queries may wait
+abbrev pub terms_at : List Terms → ℕ → Terms
+terms_at [] place = record { name = []; most = 0 }
+terms_at (terms ∷ all) zero = terms
+terms_at (terms ∷ all) (suc place) = terms_at all place
 
 -- what was done with the socket of each line, and happened over it, is what its connection allows, none of which stood at first
-abbrev pub AreWired : List (List ℕ) → History → List Deed → Type 0
-AreWired names now deeds = (place : ℕ) → (wire : Wire) × Passes (WireMoves (name_at names place)) (Line place) now Down deeds wire
+abbrev pub AreWired : List Terms → History → List Deed → Type 0
+AreWired all now deeds = (place : ℕ) → (wire : Wire) × Passes (WireMoves (terms_at all place)) (Line place) now Down deeds wire
 
 -- the connection stands as it is shown, unless a call told that it is lost: it is closed then, whatever waits
 abbrev pub IsShown : {T : Type 0} → Result T Stop → Wire → Wire → Type 0
@@ -132,8 +137,8 @@ IsShown (Err (Lost why)) wire shown = ⊤
 IsShown _ wire shown = shown ≡ wire
 
 -- the same of a call that may fail
-abbrev pub Works : {K T : Type 0} {g : Ghosts K} → Result T Stop → List ℕ → Source → Office K g → Office K g → (List Act → Type 0) → Wire → Wire → Type 0
-Works told line source old new acted before shown = (wire : Wire) × Wired line source old new acted before wire × IsShown told wire shown
+abbrev pub Works : {K T : Type 0} {g : Ghosts K} → Result T Stop → Terms → Source → Office K g → Office K g → (List Act → Type 0) → Wire → Wire → Type 0
+Works told terms source old new acted before shown = (wire : Wire) × Wired terms source old new acted before wire × IsShown told wire shown
 
-abbrev pub Acted : {T : Type 0} → Result T Stop → List ℕ → Source → (List Act → Type 0) → Wire → Wire → Type 0
-Acted told line source acted before shown = (wire : Wire) × WiredBy line source acted before wire × IsShown told wire shown
+abbrev pub Acted : {T : Type 0} → Result T Stop → Terms → Source → (List Act → Type 0) → Wire → Wire → Type 0
+Acted told terms source acted before shown = (wire : Wire) × WiredBy terms source acted before wire × IsShown told wire shown

@@ -1,7 +1,6 @@
 //! A line of the site: its connection, its rounds, and when something of it is due.
-ghost use Rattle.std.specs.Prelude.{◌≡◌, ◌∷◌, []};
+ghost use Rattle.std.specs.Prelude.{◌≡◌, ◌≤◌, ◌∷◌, []};
 ghost use Rattle.office_core.specs.Proceeding.{GoesAlong, Nothing};
-ghost use Rattle.office_run.specs.Lines.{Handles, IsSame, Keeps, Tends, name_of, source_of, wire_at};
 ghost use Rattle.office_run.specs.Wires.{Begun, Down, GivesUp, Wired, WiredBy};
 ghost use Rattle.run_beat.specs.Acts.{Closes};
 ghost use Rattle.run_beat.specs.Beats.{Wants};
@@ -32,6 +31,9 @@ const PIECE: usize = 260;
 pub(crate) struct Line {
     alloc: Global,
     place: usize,
+    // So many of its queries may wait.
+    most: usize,
+    ghost few: { most ≤ 16 },
     // For so many milliseconds its devices are waited for.
     timeout: u32,
     beat: Beat,
@@ -80,13 +82,18 @@ fn is_kept(arrival: Arrival) -> bool {
 }
 
 impl Line {
-    /// A line without a connection, of a name, whose devices are given so many milliseconds.
-    pub fn new(alloc: Global, place: usize, name: Text, timeout: u32) -> Line
-        ensures { (result.place ≡ place) × (name_of result ≡ name) × (wire_at result ≡ Down) }
+    ghost use Rattle.office_run.specs.Lines.{Handles, IsSame, Keeps, Tends, source_of, terms_of, wire_at};
+
+    /// A line without a connection, of a name, of whose queries so many may wait, and whose devices are given so many
+    /// milliseconds.
+    pub fn new(alloc: Global, place: usize, name: Text, most: usize, timeout: u32) -> Line
+        requires { most ≤ 16 }
+        ensures { (result.place ≡ place) × (terms_of result ≡ record { name = name; most = most }) × (wire_at result ≡ Down) }
     {
         Line {
             alloc,
             place,
+            most,
             timeout,
             beat: Beat::new(timeout),
             stations: Stations::new(alloc, name),
@@ -206,7 +213,7 @@ impl Line {
     fn begin<S: Sockets>(&mut self, sockets: &mut S, now: Moment)
         requires { wire_at self.old ≡ Down }
         ensures same { IsSame self.old self.new }
-        ensures acts { WiredBy (name_of self.old) (source_of self.old) (λ acts. S.acts sockets.old acts sockets.new) (wire_at self.old) (wire_at self.new) }
+        ensures acts { WiredBy (terms_of self.old) (source_of self.old) (λ acts. S.acts sockets.old acts sockets.new) (wire_at self.old) (wire_at self.new) }
     {
         if !self.beat.is_due(now) || now < self.noise.until() {
             return;
@@ -403,7 +410,7 @@ impl Line {
         ensures { Tends result self.old self.new office.old office.new (λ acts. acts ≡ []) }
     {
         match &mut self.connection {
-            Connection::Up(link) => link.ask(office, &self.stations, now),
+            Connection::Up(link) => link.ask(office, &self.stations, self.most, now),
             _ => Err(Stop::Lost(Loss::Ended)),
         }
     }
@@ -766,7 +773,7 @@ impl Line {
         orders: u64,
     ) -> Turned
         ensures same { IsSame self.old self.new }
-        ensures wired { Wired (name_of self.old) (source_of self.old) office.old office.new (λ acts. S.acts sockets.old acts sockets.new) (wire_at self.old) (wire_at self.new) }
+        ensures wired { Wired (terms_of self.old) (source_of self.old) office.old office.new (λ acts. S.acts sockets.old acts sockets.new) (wire_at self.old) (wire_at self.new) }
     {
         let now = times.now;
         let acted = self.act(office, sockets, journal, times, orders);

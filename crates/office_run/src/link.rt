@@ -1,11 +1,11 @@
 //! A connection to a line that stands, and the round that is under way over it.
-ghost use Rattle.std.specs.Prelude.{◌≡◌, ◌≤◌, ◌<◌, ◌++◌, [], List, ℕ, MatchResult, None, OnOk, drop, false, is_some, length, true};
+ghost use Rattle.std.specs.Prelude.{◌≡◌, ◌≤◌, ◌<◌, ◌++◌, [], MatchResult, None, OnOk, drop, false, is_some, length, true};
 ghost use Rattle.mb_mbap.specs.Stream.{spelled};
 ghost use Rattle.run_beat.specs.declared.sockets.Source.{Source as ASource};
 ghost use Rattle.office_core.specs.Proceeding.{GoesAlong, Nothing};
 ghost use Rattle.office_net.specs.Querying.{Makes, Misses};
 ghost use Rattle.office_run.specs.Rounds.{query_of};
-ghost use Rattle.office_run.specs.Wires.{GivesUp, Queries, Reaches, Sends, Up, Wired, Works, fresh, settled};
+ghost use Rattle.office_run.specs.Wires.{GivesUp, Queries, Reaches, Sends, Terms, Up, Wired, Works, fresh, settled};
 
 use crate::journal::Journal;
 use crate::loss::{Loss, Stop};
@@ -153,16 +153,19 @@ impl Link {
         }
     }
 
-    /// Makes one query, if one may be made in the round that is under way; tells whether it did.
+    /// Makes one query, if one may be made in the round that is under way, and fewer than so many wait; tells whether it
+    /// did.
     fn ask_one<K: Keeper>(
         &mut self,
         office: &mut Office<K>,
         stations: &Stations,
+        most: usize,
         now: Moment,
     ) -> Result<bool, Stop>
-        ensures { (line : List ℕ) (source : ASource) → Works result line source office.old office.new (λ acts. acts ≡ []) (wire_of self.old) (wire_of self.new) }
+        requires { most ≤ 16 }
+        ensures { (terms : Terms) (source : ASource) → terms.most ≡ most → Works result terms source office.old office.new (λ acts. acts ≡ []) (wire_of self.old) (wire_of self.new) }
     {
-        if self.window.len() >= MOST_WAITING {
+        if self.window.len() >= most {
             return Ok(false);
         }
         let Some(asked) = self.next(office, stations)? else {
@@ -172,17 +175,19 @@ impl Link {
         Ok(true)
     }
 
-    /// Makes the queries that may be made in the round that is under way.
+    /// Makes the queries that may be made in the round that is under way, until so many wait.
     pub fn ask<K: Keeper>(
         &mut self,
         office: &mut Office<K>,
         stations: &Stations,
+        most: usize,
         now: Moment,
     ) -> Result<(), Stop>
-        ensures { (line : List ℕ) (source : ASource) → Works result line source office.old office.new (λ acts. acts ≡ []) (wire_of self.old) (wire_of self.new) }
+        requires { most ≤ 16 }
+        ensures { (terms : Terms) (source : ASource) → terms.most ≡ most → Works result terms source office.old office.new (λ acts. acts ≡ []) (wire_of self.old) (wire_of self.new) }
     {
-        for _ in 0..MOST_WAITING {
-            let has_asked = self.ask_one(office, stations, now)?;
+        for _ in 0..most {
+            let has_asked = self.ask_one(office, stations, most, now)?;
             if !has_asked {
                 return Ok(());
             }
@@ -245,7 +250,7 @@ impl Link {
         frame: &Frame,
         now: Moment,
     ) -> Taken
-        ensures wired { (line : List ℕ) (source : ASource) → Wired line source office.old office.new (λ acts. acts ≡ []) (Up (before frame.now (standing_of self.old))) (wire_of self.new) }
+        ensures wired { (terms : Terms) (source : ASource) → Wired terms source office.old office.new (λ acts. acts ≡ []) (Up (before frame.now (standing_of self.old))) (wire_of self.new) }
         ensures name { stations.new.line ≡ stations.old.line }
     {
         match take_late(office, self.conn, frame) {
@@ -272,7 +277,7 @@ impl Link {
         journal: &mut Journal,
         now: Moment,
     ) -> Result<Option<Taken>, Loss>
-        ensures wired { (line : List ℕ) (source : ASource) → Wired line source office.old office.new (λ acts. acts ≡ []) (wire_of self.old) (wire_of self.new) }
+        ensures wired { (terms : Terms) (source : ASource) → Wired terms source office.old office.new (λ acts. acts ≡ []) (wire_of self.old) (wire_of self.new) }
         ensures name { stations.new.line ≡ stations.old.line }
     {
         match (self.frames.pop_front(), self.fault) {

@@ -1,12 +1,13 @@
 //! The turns of an office that stays up.
 ghost use Rattle.std.specs.Prelude.{◌≡◌, ◌||◌, [], IfOk, is_some};
 ghost use Rattle.run_beat.specs.declared.sockets.Source.TheVariants as source;
+ghost use Rattle.point_list.specs.Sites.{IsSound};
 ghost use Rattle.office_core.specs.Offices.{site_of};
 ghost use Rattle.office_core.specs.Proceeding.{GoesAlong, Nothing};
 ghost use Rattle.office_run.specs.Callers.{AreEmpty, session_at};
 ghost use Rattle.office_run.specs.Deeds.{GoesBy};
 ghost use Rattle.office_run.specs.Doings.{Runs};
-ghost use Rattle.office_run.specs.Lines.{AreDown, Keeps, name_of, names_of, site_names, wire_at};
+ghost use Rattle.office_run.specs.Lines.{AreDown, Keeps, all_terms, site_terms, terms_of, wire_at};
 ghost use Rattle.office_run.specs.Sessions.{Acting, AreServed, Exchanges};
 ghost use Rattle.office_run.specs.Wires.{AreWired, Wired};
 
@@ -410,8 +411,8 @@ impl<K: Keeper, S: Sockets> World for Running<'_, K, S> {
 impl<K: Keeper, S: Sockets> Called<Running<'_, K, S>> for Line {
     // The office and the sockets are the same ones, and what is done with them is of this line alone, and what its connection allows.
     ghost steps = { λ line old _ line' new. (new.office.ghost_name ≡ old.office.ghost_name) × (new.sockets.ghost_name ≡ old.sockets.ghost_name)
-        × (line'.place ≡ line.place) × (name_of line' ≡ name_of line)
-        × Wired (name_of line) (source.Line line.place) old.office.now new.office.now (λ acts. S.acts old.sockets.now acts new.sockets.now) (wire_at line) (wire_at line') };
+        × (line'.place ≡ line.place) × (terms_of line' ≡ terms_of line)
+        × Wired (terms_of line) (source.Line line.place) old.office.now new.office.now (λ acts. S.acts old.sockets.now acts new.sockets.now) (wire_at line) (wire_at line') };
 
     fn call(&mut self, world: &mut Running<'_, K, S>) -> bool {
         if !world.admit_line(self) {
@@ -453,15 +454,18 @@ impl<K: Keeper, S: Sockets> Called<Running<'_, K, S>> for Place {
 
 /// The lines of a site, of which none has a connection.
 fn lines_of(alloc: Global, site: &Site, timeout: u32) -> Result<Vec<Line>, AllocError>
+    requires { IsSound site.now }
     ensures down { IfOk result (λ lines. AreDown 0 lines.items) }
-    ensures names { IfOk result (λ lines. names_of lines.items ≡ site_names site.now) }
+    ensures terms { IfOk result (λ lines. all_terms lines.items ≡ site_terms site.now) }
 {
     let mut lines = Vec::new(alloc);
     for place in 0..MOST_LINES {
         let Some(line) = site.lines.as_slice().get(place) else {
             return Ok(lines);
         };
-        lines.push(Line::new(alloc, place, line.name.clone()?, timeout))?;
+        let most = usize::from(site.outstanding(place as u16));
+        let name = line.name.clone()?;
+        lines.push(Line::new(alloc, place, name, most, timeout))?;
     }
     Ok(lines)
 }
@@ -494,7 +498,7 @@ fn stay<K: Keeper, S: Sockets>(
     requires places { AreEmpty 0 places.old.items }
     ensures { (world.new.office.ghost_name ≡ world.old.office.ghost_name) × (world.new.sockets.ghost_name ≡ world.old.sockets.ghost_name)
         × GoesBy world.old.office.now world.new.office.now (λ acts. S.acts world.old.sockets.now acts world.new.sockets.now)
-        (λ now deeds. AreWired (names_of lines.old.items) now deeds × AreServed now deeds) }
+        (λ now deeds. AreWired (all_terms lines.old.items) now deeds × AreServed now deeds) }
 {
     run_beat::run(lines, places, world)?;
     world.ended()
@@ -512,7 +516,7 @@ fn turns<K: Keeper, S: Sockets>(
 ) -> Result<(), RunFault>
     requires lines { AreDown 0 lines.old.items }
     requires places { AreEmpty 0 places.old.items }
-    ensures { GoesBy office.old office.new (λ acts. S.acts sockets.old acts sockets.new) (λ now deeds. AreWired (names_of lines.old.items) now deeds × AreServed now deeds) }
+    ensures { GoesBy office.old office.new (λ acts. S.acts sockets.old acts sockets.new) (λ now deeds. AreWired (all_terms lines.old.items) now deeds × AreServed now deeds) }
 {
     let mut world = Running {
         office,
@@ -553,7 +557,7 @@ pub fn run<K: Keeper, S: Sockets>(
 ) -> Result<(), RunFault>
     ensures along { GoesAlong Runs office.old office.new }
     ensures deeds { GoesBy office.old office.new (λ acts. S.acts sockets.old acts sockets.new)
-        (λ now deeds. AreWired (site_names (site_of office.old)) now deeds × AreServed now deeds) }
+        (λ now deeds. AreWired (site_terms (site_of office.old)) now deeds × AreServed now deeds) }
 {
     let mut lines = lines_of(alloc, office.site(), timeout)?;
     let mut places = places(alloc)?;

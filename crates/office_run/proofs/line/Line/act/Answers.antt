@@ -1,5 +1,5 @@
 use Rattle.std.proofs.Common.{refl}
-use Rattle.office_run.specs.Lines.{name_of, source_of, wire_at}
+use Rattle.office_run.specs.Lines.{terms_of, source_of, wire_at}
 use Rattle.office_run.specs.Wires.{WireMoves}
 use Rattle.office_run.proofs.Passing.{part_acting}
 use Rattle.office_run.proofs.line.Line.act.Goals as goal
@@ -11,7 +11,7 @@ returns-in-Down g c =
       c.begin.ensures.same,
       (
         wire_at begun.self,
-        part_acting (WireMoves (name_of line)) (source_of line) c.args.office.now (λ acts. g.S.Sockets.acts c.args.sockets.now acts begun.sockets) (wire_at line) (wire_at begun.self) c.begin.ensures.acts,
+        part_acting (WireMoves (terms_of line)) (source_of line) c.args.office.now (λ acts. g.S.Sockets.acts c.args.sockets.now acts begun.sockets) (wire_at line) (wire_at begun.self) c.begin.ensures.acts,
         refl,
       ),
     )

@@ -1,10 +1,10 @@
 use Rattle.std.proofs.Common.{◌≡◌, [], refl}
-use Rattle.office_run.specs.Lines.{name_of, source_of}
+use Rattle.office_run.specs.Lines.{terms_of, source_of}
 use Rattle.office_run.proofs.Lines.{over_link}
 use Rattle.office_run.proofs.line.Line.ask.Goals as goal
 
 pub returns-in-Up : goal.returns-in-Up
 returns-in-Up g c =
     let line = c.args.self.now in
-    let works = c.ask.ensures (name_of line) (source_of line) in
-    (record { place = refl; name = refl }, (works.0, over_link line c.args.office.now c.ask.new.office (λ acts. acts ≡ []) c.in-Up.link works.0 c.in-Up.is works.1, works.2))
+    let works = c.ask.ensures (terms_of line) (source_of line) refl in
+    (record { place = refl; name = refl; most = refl }, (works.0, over_link line c.args.office.now c.ask.new.office (λ acts. acts ≡ []) c.in-Up.link works.0 c.in-Up.is works.1, works.2))

@@ -1,7 +1,7 @@
 use Rattle.std.proofs.Common.{◌++◌, refl}
 use Rattle.std.specs.Prelude.{take}
 use Rattle.office_run.specs.declared.loss.Loss.TheVariants.{Memory}
-use Rattle.office_run.specs.Lines.{name_of}
+use Rattle.office_run.specs.Lines.{terms_of}
 use Rattle.office_run.specs.Links.{standing_of, wire_of}
 use Rattle.office_run.specs.Wires.{Up}
 use Rattle.office_run.proofs.Lines.{by_link}
@@ -15,11 +15,11 @@ returns-in_err-feed-in-Bytes g c =
     let at = standing_of c.in-Up.link in
     let bytes = take c.in-Bytes.count c.read.new.piece in
     let wire = Up (record at { unread = at.unread ++ bytes }) in (
-      record { place = refl; name = refl },
+      record { place = refl; name = refl; most = refl },
       (
         wire,
         by_link line from (λ acts. g.S.Sockets.acts c.args.sockets.now acts c.read.new.self) c.in-Up.link wire c.in-Up.is c.source-source.ensures
-            (read_so_far (name_of line) from bytes (λ acts. g.S.Sockets.acts c.args.sockets.now acts c.read.new.self) at (c.has_more.ensures c.if-has_more.false).1 c.in-Bytes.ensures.acts),
+            (read_so_far (terms_of line) from bytes (λ acts. g.S.Sockets.acts c.args.sockets.now acts c.read.new.self) at (c.has_more.ensures c.if-has_more.false).1 c.in-Bytes.ensures.acts),
         shown_lost _ c.from_residual.result Memory wire (wire_of c.feed.new.self) c.from_residual.ensures.1,
       ),
     )
@@ -29,11 +29,11 @@ returns-in-Ended g c =
     let line = c.args.self.now in
     let from = c.source-source.result in
     let at = standing_of c.in-Up.link in (
-      record { place = refl; name = refl },
+      record { place = refl; name = refl; most = refl },
       (
         Up at,
         by_link line from (λ acts. g.S.Sockets.acts c.args.sockets.now acts c.read.new.self) c.in-Up.link (Up at) c.in-Up.is c.source-source.ensures
-            (ended_so (name_of line) from c.read.new.piece (λ acts. g.S.Sockets.acts c.args.sockets.now acts c.read.new.self) at c.read.result c.read.ensures.acts c.in-Ended.is),
+            (ended_so (terms_of line) from c.read.new.piece (λ acts. g.S.Sockets.acts c.args.sockets.now acts c.read.new.self) at c.read.result c.read.ensures.acts c.in-Ended.is),
         tt {0},
       ),
     )

@@ -1,5 +1,5 @@
 use Rattle.std.proofs.Common.{◌≡◌, ◌∙◌, [], refl}
-use Rattle.office_run.specs.Lines.{name_of, source_of}
+use Rattle.office_run.specs.Lines.{terms_of, source_of}
 use Rattle.office_run.specs.Links.{wire_of}
 use Rattle.office_run.proofs.Lines.{over_link}
 use Rattle.office_run.proofs.Wires.{shown}
@@ -8,10 +8,10 @@ use Rattle.office_run.proofs.line.Line.take_one.Goals as goal
 pub returns-in_err-arrival : goal.returns-in_err-arrival
 returns-in_err-arrival g c =
     let line = c.args.self.now in (
-      record { place = refl; name = c.take.ensures.name },
+      record { place = refl; name = c.take.ensures.name; most = refl },
       (
         wire_of c.take.new.self,
-        over_link line c.args.office.now c.take.new.office (λ acts. acts ≡ []) c.in-Up.link (wire_of c.take.new.self) c.in-Up.is (c.take.ensures.wired (name_of line) (source_of line)),
+        over_link line c.args.office.now c.take.new.office (λ acts. acts ≡ []) c.in-Up.link (wire_of c.take.new.self) c.in-Up.is (c.take.ensures.wired (terms_of line) (source_of line)),
         shown c.from_residual.result (wire_of c.take.new.self) (wire_of c.take.new.self) refl,
       ),
     )
@@ -19,10 +19,10 @@ returns-in_err-arrival g c =
 pub returns-in-Some-Answer : goal.returns-in-Some-Answer
 returns-in-Some-Answer g c =
     let line = c.args.self.now in (
-      record { place = c.tell_up.ensures.0.place; name = c.tell_up.ensures.0.name ∙ c.take.ensures.name },
+      record { place = c.tell_up.ensures.0.place; name = c.tell_up.ensures.0.name ∙ c.take.ensures.name; most = c.tell_up.ensures.0.most },
       (
         wire_of c.take.new.self,
-        over_link line c.args.office.now c.take.new.office (λ acts. acts ≡ []) c.in-Up.link (wire_of c.take.new.self) c.in-Up.is (c.take.ensures.wired (name_of line) (source_of line)),
+        over_link line c.args.office.now c.take.new.office (λ acts. acts ≡ []) c.in-Up.link (wire_of c.take.new.self) c.in-Up.is (c.take.ensures.wired (terms_of line) (source_of line)),
         c.tell_up.ensures.1,
       ),
     )
@@ -30,10 +30,10 @@ returns-in-Some-Answer g c =
 pub returns-in-Some-Refused : goal.returns-in-Some-Refused
 returns-in-Some-Refused g c =
     let line = c.args.self.now in (
-      record { place = refl; name = c.take.ensures.name },
+      record { place = refl; name = c.take.ensures.name; most = refl },
       (
         wire_of c.take.new.self,
-        over_link line c.args.office.now c.take.new.office (λ acts. acts ≡ []) c.in-Up.link (wire_of c.take.new.self) c.in-Up.is (c.take.ensures.wired (name_of line) (source_of line)),
+        over_link line c.args.office.now c.take.new.office (λ acts. acts ≡ []) c.in-Up.link (wire_of c.take.new.self) c.in-Up.is (c.take.ensures.wired (terms_of line) (source_of line)),
         refl,
       ),
     )
@@ -41,10 +41,10 @@ returns-in-Some-Refused g c =
 pub returns-in-Some-Repeat : goal.returns-in-Some-Repeat
 returns-in-Some-Repeat g c =
     let line = c.args.self.now in (
-      record { place = refl; name = c.take.ensures.name },
+      record { place = refl; name = c.take.ensures.name; most = refl },
       (
         wire_of c.take.new.self,
-        over_link line c.args.office.now c.take.new.office (λ acts. acts ≡ []) c.in-Up.link (wire_of c.take.new.self) c.in-Up.is (c.take.ensures.wired (name_of line) (source_of line)),
+        over_link line c.args.office.now c.take.new.office (λ acts. acts ≡ []) c.in-Up.link (wire_of c.take.new.self) c.in-Up.is (c.take.ensures.wired (terms_of line) (source_of line)),
         refl,
       ),
     )
@@ -52,10 +52,10 @@ returns-in-Some-Repeat g c =
 pub returns-in-Some-Noise : goal.returns-in-Some-Noise
 returns-in-Some-Noise g c =
     let line = c.args.self.now in (
-      record { place = refl; name = c.take.ensures.name },
+      record { place = refl; name = c.take.ensures.name; most = refl },
       (
         wire_of c.take.new.self,
-        over_link line c.args.office.now c.take.new.office (λ acts. acts ≡ []) c.in-Up.link (wire_of c.take.new.self) c.in-Up.is (c.take.ensures.wired (name_of line) (source_of line)),
+        over_link line c.args.office.now c.take.new.office (λ acts. acts ≡ []) c.in-Up.link (wire_of c.take.new.self) c.in-Up.is (c.take.ensures.wired (terms_of line) (source_of line)),
         refl,
       ),
     )
@@ -63,10 +63,10 @@ returns-in-Some-Noise g c =
 pub returns-in-None : goal.returns-in-None
 returns-in-None g c =
     let line = c.args.self.now in (
-      record { place = refl; name = c.take.ensures.name },
+      record { place = refl; name = c.take.ensures.name; most = refl },
       (
         wire_of c.take.new.self,
-        over_link line c.args.office.now c.take.new.office (λ acts. acts ≡ []) c.in-Up.link (wire_of c.take.new.self) c.in-Up.is (c.take.ensures.wired (name_of line) (source_of line)),
+        over_link line c.args.office.now c.take.new.office (λ acts. acts ≡ []) c.in-Up.link (wire_of c.take.new.self) c.in-Up.is (c.take.ensures.wired (terms_of line) (source_of line)),
         refl,
       ),
     )

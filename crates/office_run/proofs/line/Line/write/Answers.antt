@@ -1,5 +1,5 @@
 use Rattle.std.proofs.Common.{refl}
-use Rattle.office_run.specs.Lines.{name_of, source_of, wire_at}
+use Rattle.office_run.specs.Lines.{terms_of, source_of, wire_at}
 use Rattle.office_run.specs.Wires.{WireMoves}
 use Rattle.office_run.proofs.Passing.{acting_still}
 use Rattle.office_run.proofs.line.Line.write.Goals as goal
@@ -7,10 +7,10 @@ use Rattle.office_run.proofs.line.Line.write.Goals as goal
 pub returns-then-le : goal.returns-then-le
 returns-then-le g c =
     let line = c.args.self.now in (
-      record { place = refl; name = refl },
+      record { place = refl; name = refl; most = refl },
       (
         wire_at line,
-        acting_still (WireMoves (name_of line)) (source_of line) (λ acts. g.S.Sockets.acts c.args.sockets.now acts c.write.new.self) (wire_at line) c.in-Nothing.ensures.acts,
+        acting_still (WireMoves (terms_of line)) (source_of line) (λ acts. g.S.Sockets.acts c.args.sockets.now acts c.write.new.self) (wire_at line) c.in-Nothing.ensures.acts,
         tt {0},
       ),
     )
@@ -18,10 +18,10 @@ returns-then-le g c =
 pub returns-in-Failed : goal.returns-in-Failed
 returns-in-Failed g c =
     let line = c.args.self.now in (
-      record { place = refl; name = refl },
+      record { place = refl; name = refl; most = refl },
       (
         wire_at line,
-        acting_still (WireMoves (name_of line)) (source_of line) (λ acts. g.S.Sockets.acts c.args.sockets.now acts c.write.new.self) (wire_at line) c.in-Failed.ensures.acts,
+        acting_still (WireMoves (terms_of line)) (source_of line) (λ acts. g.S.Sockets.acts c.args.sockets.now acts c.write.new.self) (wire_at line) c.in-Failed.ensures.acts,
         tt {0},
       ),
     )

@@ -1,15 +1,15 @@
 use Rattle.std.proofs.Common.{◌≡◌, [], ℕ, List, ◌∙◌, ap, refl, sym, subst}
 use Rattle.run_beat.specs.declared.sockets.Source.TheVariants as source
-use Rattle.office_run.specs.Lines.{name_of, wire_at}
+use Rattle.office_run.specs.Lines.{terms_of, wire_at}
 use Rattle.office_run.specs.Wires.{Wire, WireMoves, Wired}
-use Rattle.office_run.proofs.Lines.{same_then, wired_at}
+use Rattle.office_run.proofs.Lines.{same_then, terms_same, wired_at}
 use Rattle.office_run.proofs.Passing.{part_asked, part_still, part_then, then_office}
 use Rattle.office_run.proofs.running.LineCalledRunning.call.Goals as goal
 
 pub returns : goal.returns
 returns g c =
     let line = c.args.self.now in
-    let name = name_of line in
+    let name = terms_of line in
     let here = source.Line line.place in
     let office = c.args.world.now.office.now in
     let old = c.args.world.now.sockets.now in
@@ -29,10 +29,10 @@ returns g c =
     (wire_at line) (wire_at line) (wire_at after) (g.S.Sockets.joins old looked turned) (part_still (WireMoves name) here office (λ acts. g.S.Sockets.acts old acts looked) (wire_at line) look) turn in
     let noted = then_office (WireMoves name) here office c.turn-turned.new.office c.note_line.new.self.office.now (λ acts. g.S.Sockets.acts old acts turned) (wire_at line) (wire_at after) (wire_at after) went
     (part_asked (WireMoves name) here c.turn-turned.new.office c.note_line.new.self.office.now (λ acts. acts ≡ []) (wire_at after) c.note_line.ensures.along.1 refl) in
-    let all = same_then line between after same (record { place = c.turn-turned.ensures.same.place; name = c.turn-turned.ensures.same.name }) in (
+    let all = same_then line between after same (record { place = c.turn-turned.ensures.same.place; name = c.turn-turned.ensures.same.name; most = c.turn-turned.ensures.same.most }) in (
       c.note_line.ensures.along.0 ∙ ap (λ some. some.ghost_name) same_office,
       ap (λ some. some.ghost_name) c.note_line.ensures.sockets ∙ c.look_up.ensures.name ∙ ap (λ some. some.ghost_name) c.admit_line.ensures.same.1,
       all.place,
-      all.name,
+      terms_same line after all,
       subst (λ sockets. Wired name here office c.note_line.new.self.office.now (λ acts. g.S.Sockets.acts old acts sockets.now) (wire_at line) (wire_at after)) (sym c.note_line.ensures.sockets) noted,
     )
