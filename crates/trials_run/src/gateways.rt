@@ -16,6 +16,10 @@ use telling::{Trial, twice};
 const SITE: &str =
     "[[line]]\nname = \"roof\"\naddress = \"127.0.0.1:502\"\n[[device]]\nname = \"near\"\nline = \"roof\"\nunit = 1\n[[device]]\nname = \"far\"\nline = \"roof\"\nunit = 2\n";
 
+/// The same, of which two queries may wait.
+const SITE_OF_TWO: &str =
+    "[[line]]\nname = \"roof\"\naddress = \"127.0.0.1:502\"\noutstanding = 2\n[[device]]\nname = \"near\"\nline = \"roof\"\nunit = 1\n[[device]]\nname = \"far\"\nline = \"roof\"\nunit = 2\n";
+
 const IMAGE: &str =
     "[[unit]]\nid = 1\nholding_start = 41\nholding = [0]\n[[unit]]\nid = 2\nholding_start = 41\nholding = [0]\n";
 
@@ -69,23 +73,30 @@ fn gateway(alloc: Global, ends: u64, spells: &'static [Spell]) -> Result<World, 
     world_of(alloc, ends, &lines, &[])
 }
 
-fn assert_run(trial: &Trial<'_>, run: &Run) -> Result<(), OfficeError> {
+fn assert_run(trial: &Trial<'_>, site: &str, run: &Run) -> Result<(), OfficeError> {
     let alloc = trial.alloc();
-    let office = office_over(alloc, MemKeeper::new(alloc), SITE, POINTS)?;
+    let office = office_over(alloc, MemKeeper::new(alloc), site, POINTS)?;
     let world = gateway(alloc, run.ends, run.spells)?;
     look_behind(trial, office, world, run)
 }
 
 /// The near device answers nothing.
+const NEAR_IS_SILENT: &[Spell] = &[Spell {
+    trouble: Trouble::Silent,
+    unit: Some(1),
+    from: 0,
+    to: u64::MAX,
+}];
+
+const SAID_SILENT: &str =
+    "1970-01-01T00:08:22Z office: line roof is up\n1970-01-01T00:08:25Z office: device near of line roof is silent\n";
+
+const FAR_ALONE: &[(u32, u16)] = &[(100, 2), (101, 3), (102, 8)];
+
 const DEAD: Run = Run {
     ends: 13_000,
-    spells: &[Spell {
-        trouble: Trouble::Silent,
-        unit: Some(1),
-        from: 0,
-        to: u64::MAX,
-    }],
-    told: "1970-01-01T00:08:22Z office: line roof is up\n1970-01-01T00:08:25Z office: device near of line roof is silent\n",
+    spells: NEAR_IS_SILENT,
+    told: SAID_SILENT,
     asked: &[
         (0, 1, 16),
         (2000, 2, 1),
@@ -95,16 +106,42 @@ const DEAD: Run = Run {
         (8000, 2, 1),
     ],
     near: &[],
-    far: &[(100, 2), (101, 3), (102, 8)],
+    far: FAR_ALONE,
 };
 
 fn dead(trial: &Trial<'_>) -> Result<(), OfficeError> {
-    assert_run(trial, &DEAD)
+    assert_run(trial, SITE, &DEAD)
 }
 
 #[test]
 fn a_dead_device_costs_those_behind_its_gateway_one_time_out(rt: HostRuntime) -> Result<(), Fail> {
     Ok(twice!(rt, dead)?)
+}
+
+/// The same, of whose queries two may wait.
+const DEAD_OF_TWO: Run = Run {
+    ends: 13_000,
+    spells: NEAR_IS_SILENT,
+    told: SAID_SILENT,
+    asked: &[
+        (0, 1, 2),
+        (2000, 2, 1),
+        (3000, 1, 1),
+        (3000, 2, 1),
+        (8000, 1, 1),
+        (8000, 2, 1),
+    ],
+    near: &[],
+    far: FAR_ALONE,
+};
+
+fn dead_of_two(trial: &Trial<'_>) -> Result<(), OfficeError> {
+    assert_run(trial, SITE_OF_TWO, &DEAD_OF_TWO)
+}
+
+#[test]
+fn as_many_queries_wait_as_the_site_says(rt: HostRuntime) -> Result<(), Fail> {
+    Ok(twice!(rt, dead_of_two)?)
 }
 
 /// The near device answers three seconds after the question, and two are waited for.
@@ -143,7 +180,7 @@ const LATE: Run = Run {
 };
 
 fn late(trial: &Trial<'_>) -> Result<(), OfficeError> {
-    assert_run(trial, &LATE)
+    assert_run(trial, SITE, &LATE)
 }
 
 #[test]
@@ -175,7 +212,7 @@ const BEHIND: Run = Run {
 };
 
 fn behind(trial: &Trial<'_>) -> Result<(), OfficeError> {
-    assert_run(trial, &BEHIND)
+    assert_run(trial, SITE, &BEHIND)
 }
 
 #[test]
