@@ -209,3 +209,21 @@ fn short_ends(trial: &Trial<'_>) -> Result<(), OfficeError> {
 fn a_head_may_end_by_line_feeds_alone(rt: HostRuntime) -> Result<(), Fail> {
     Ok(twice!(rt, short_ends)?)
 }
+
+/// One stays once its answer is written: it is closed a second later, so that the answer comes whole.
+fn staying(trial: &Trial<'_>) -> Result<(), OfficeError> {
+    let speech = Speech {
+        stays: true,
+        ..Speech::at_once(4_000, WHOLE)
+    };
+    let each = Each {
+        heard: ANSWER,
+        gone: 5_000,
+    };
+    look_at_guests(trial, &[speech], usize::MAX, &each)
+}
+
+#[test]
+fn a_caller_has_a_second_behind_its_answer(rt: HostRuntime) -> Result<(), Fail> {
+    Ok(twice!(rt, staying)?)
+}

@@ -14,6 +14,8 @@ pub(crate) struct Speech {
     pub text: &'static str,
     pub most: usize,
     pub pause: u64,
+    /// Whether it stays once it was told that no more is written to it.
+    pub stays: bool,
 }
 
 impl Speech {
@@ -24,6 +26,7 @@ impl Speech {
             text,
             most: usize::MAX,
             pause: u64::MAX,
+            stays: false,
         }
     }
 
@@ -59,7 +62,7 @@ pub(crate) struct Guest {
     // So many bytes were read of it.
     read: usize,
     is_taken: bool,
-    // Whether it was told that no more is written; it ends then.
+    // Whether it was told that no more is written; it ends then, unless it stays.
     is_told: bool,
     /// What was written to it.
     pub heard: Vec<u8>,
@@ -104,7 +107,7 @@ impl Guest {
         if count > 0 {
             self.read = self.read.saturating_add(count);
             Came::Bytes(count)
-        } else if self.is_told {
+        } else if self.is_told && !self.speech.stays {
             Came::Ended
         } else {
             Came::Nothing

@@ -175,3 +175,45 @@ fn repeated(trial: &Trial<'_>) -> Result<(), OfficeError> {
 fn a_request_that_is_repeated_wakes_no_line(rt: HostRuntime) -> Result<(), Fail> {
     Ok(twice!(rt, repeated)?)
 }
+
+/// The roof answers a second later.
+const ROOF_LATE: [Behind; 2] = [
+    Behind {
+        image: IMAGE,
+        spells: &[Spell {
+            trouble: Trouble::Late(1_000),
+            unit: None,
+            from: 0,
+            to: u64::MAX,
+        }],
+    },
+    Behind {
+        image: IMAGE,
+        spells: &[],
+    },
+];
+
+/// The roof was asked for its reading as each slot began, and for the order in the midst of the second round.
+struct SentBetween;
+
+impl Look<MemKeeper> for SentBetween {
+    fn look(&self, trial: &Trial<'_>, left: &mut Left<MemKeeper>) -> Result<(), OfficeError> {
+        assert_heard(trial, &left.world);
+        let asked = left.world.wires.first().map(|wire| wire.asked.as_slice());
+        let expected: [(u64, u8); 3] = [(0, 17), (3_000, 17), (3_500, 17)];
+        trial.told(&"asked", &asked, &Some(expected.as_slice()));
+        Ok(())
+    }
+}
+
+/// An order comes while a round waits for an answer.
+fn between(trial: &Trial<'_>) -> Result<(), OfficeError> {
+    let speeches = [Speech::at_once(3_500, ORDER), Speech::at_once(4_501, ASKED)];
+    let world = world_of(trial.alloc(), ENDS, &ROOF_LATE, &speeches)?;
+    look_behind_new(trial, &[], world, &SentBetween)
+}
+
+#[test]
+fn an_order_is_sent_while_a_round_is_under_way(rt: HostRuntime) -> Result<(), Fail> {
+    Ok(twice!(rt, between)?)
+}

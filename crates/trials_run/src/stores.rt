@@ -1,4 +1,6 @@
 //! Stores that refuse.
+use crate::guest::Speech;
+use crate::orders::{ORDER, WAITING};
 use crate::scenes::{assert_readings, assert_told, keep_up_in, world};
 use office_core::{Office, OfficeError};
 use office_plays::refusing::Refusing;
@@ -83,4 +85,52 @@ fn broken(trial: &Trial<'_>) -> Result<(), OfficeError> {
 #[test]
 fn a_run_ends_where_the_store_is_broken(rt: HostRuntime) -> Result<(), Fail> {
     Ok(twice!(rt, broken)?)
+}
+
+/// The store is full as the first line is to be opened: it is opened a second later.
+fn unopened(trial: &Trial<'_>) -> Result<(), OfficeError> {
+    let keeper = Refusing::changes(trial.alloc(), 1, 2, StoreFault::Full);
+    let mut office = ran_over(
+        trial,
+        keeper,
+        Ok(()),
+        "1970-01-01T00:08:22Z office: line roof is down: store full\n1970-01-01T00:08:22Z office: the store refuses: full\n1970-01-01T00:08:22Z office: line cellar is up\n1970-01-01T00:08:22Z office: the store takes what comes again\n1970-01-01T00:08:23Z office: line roof is up\n",
+    )?;
+    assert_readings(
+        trial,
+        &mut office,
+        "e",
+        &[(100, 1), (101, 3), (102, 8), (103, 13)],
+    )
+}
+
+#[test]
+fn a_line_that_could_not_be_opened_is_opened_again(rt: HostRuntime) -> Result<(), Fail> {
+    Ok(twice!(rt, unopened)?)
+}
+
+const UNAVAILABLE: &str =
+    "HTTP/1.1 503 Service Unavailable\r\nContent-Type: application/json\r\nContent-Length: 17\r\nConnection: close\r\n\r\n{\"error\":\"store\"}";
+
+/// The store is full as an order comes.
+fn unordered(trial: &Trial<'_>) -> Result<(), OfficeError> {
+    let alloc = trial.alloc();
+    let keeper = Refusing::changes(alloc, 5, 6, StoreFault::Full);
+    let speeches = [Speech::at_once(1_000, ORDER), Speech::at_once(2_000, ORDER)];
+    let world = world(alloc, 2_500, &[], &speeches)?;
+    let left = keep_up_in(alloc, keeper, &[], world)?;
+    for (guest, expected) in left.world.guests.all.iter().zip([UNAVAILABLE, WAITING]) {
+        trial.told(&"heard", &guest.heard.as_slice(), &expected.as_bytes());
+    }
+    assert_told(
+        trial,
+        &left.world,
+        "1970-01-01T00:08:22Z office: line roof is up\n1970-01-01T00:08:22Z office: line cellar is up\n1970-01-01T00:08:23Z office: the store refuses: full\n1970-01-01T00:08:24Z office: the store takes what comes again\n",
+    );
+    Ok(())
+}
+
+#[test]
+fn an_order_that_was_refused_may_come_again(rt: HostRuntime) -> Result<(), Fail> {
+    Ok(twice!(rt, unordered)?)
 }
