@@ -13,14 +13,14 @@ use Rattle.office_run.specs.declared.line.Line.{Line}
 use Rattle.office_run.specs.declared.place.Place.{Place}
 use Rattle.office_run.specs.Callers.{AreEmpty, session_at}
 use Rattle.office_run.specs.Deeds.{Deed, GoesBy, Passes}
-use Rattle.office_run.specs.Lines.{AreDown, all_terms, terms_in, terms_of, wire_at}
+use Rattle.office_run.specs.Lines.{AreDown, all_terms, state_at, terms_in, terms_of}
 use Rattle.office_run.specs.Sessions.{AreServed, Free, Session, Through}
-use Rattle.office_run.specs.Wires.{AreWired, Down, Terms, Wire, WireMoves, terms_at}
+use Rattle.office_run.specs.Wires.{AreWired, Down, LineMoves, State, Terms, terms_at}
 use Rattle.office_run.proofs.Callers.{free_empty}
 use Rattle.office_run.proofs.Deeds.{goes_wider}
 use Rattle.office_run.proofs.Staying.{Numbered, known, nth}
 
-pub one_more_down : (first : ℕ) (lines : List Line) (line : Line) → AreDown first lines → line.place ≡ first + length lines → wire_at line ≡ Down → AreDown first (lines ++ line ∷ [])
+pub one_more_down : (first : ℕ) (lines : List Line) (line : Line) → AreDown first lines → line.place ≡ first + length lines → state_at line ≡ record { from = 0; wire = Down } → AreDown first (lines ++ line ∷ [])
 one_more_down first [] line down at is = (omega (arith, at), is, tt)
 one_more_down first (other ∷ lines) line down at is = (down.0, down.1, one_more_down (suc first) lines line down.2 (omega (arith, at)) is)
 
@@ -37,7 +37,7 @@ pub numbered_down : (first : ℕ) (lines : List Line) → AreDown first lines �
 numbered_down first [] down = tt
 numbered_down first (line ∷ lines) down = (down.0, numbered_down (suc first) lines down.2)
 
-down_down : (first : ℕ) (lines : List Line) (place : ℕ) → AreDown first lines → known wire_at Down (nth lines place) ≡ Down
+down_down : (first : ℕ) (lines : List Line) (place : ℕ) → AreDown first lines → known state_at (record { from = 0; wire = Down }) (nth lines place) ≡ record { from = 0; wire = Down }
 down_down first [] place down = refl
 down_down first (line ∷ lines) zero down = down.1
 down_down first (line ∷ lines) (suc place) down = down_down (suc first) lines place down.2
@@ -50,19 +50,19 @@ named (line ∷ lines) (suc place) = named lines place
 -- each line went on from there, and whoever was taken was served
 pub from_nothing : {K : Type 0} {g : Ghosts K} (old new : Office K g) (acted : List Act → Type 0) (lines lines' : List Line) (places places' : List Place) → AreDown 0 lines → AreEmpty 0 places
     → GoesBy old new acted (λ now deeds.
-    ((line : ℕ) → Passes (WireMoves (known terms_of (record { name = []; most = 0 }) (nth lines line))) (source.Line line) now (known wire_at Down (nth lines line)) deeds (known wire_at Down (nth lines' line)))
+    ((line : ℕ) → Passes (LineMoves (known terms_of (record { name = []; most = 0 }) (nth lines line))) (source.Line line) now (known state_at (record { from = 0; wire = Down }) (nth lines line)) deeds (known state_at (record { from = 0; wire = Down }) (nth lines' line)))
     × ((caller : ℕ) → Through (source.Caller caller) now (known session_at Free (nth places caller)) deeds (known session_at Free (nth places' caller))))
     → GoesBy old new acted (λ now deeds. AreWired (all_terms lines) now deeds × AreServed now deeds)
 from_nothing old new acted lines lines' places places' down empty =
     goes_wider old new acted acted
-    (λ now deeds. ((line : ℕ) → Passes (WireMoves (known terms_of (record { name = []; most = 0 }) (nth lines line))) (source.Line line) now (known wire_at Down (nth lines line)) deeds (known wire_at Down (nth lines' line)))
+    (λ now deeds. ((line : ℕ) → Passes (LineMoves (known terms_of (record { name = []; most = 0 }) (nth lines line))) (source.Line line) now (known state_at (record { from = 0; wire = Down }) (nth lines line)) deeds (known state_at (record { from = 0; wire = Down }) (nth lines' line)))
     × ((caller : ℕ) → Through (source.Caller caller) now (known session_at Free (nth places caller)) deeds (known session_at Free (nth places' caller))))
     (λ now deeds. AreWired (all_terms lines) now deeds × AreServed now deeds) (λ acts done. done)
     (λ now deeds passed. (
       λ line. (
-        known wire_at Down (nth lines' line),
-        subst (λ (terms : Terms). Passes (WireMoves terms) (source.Line line) now Down deeds (known wire_at Down (nth lines' line))) (named lines line)
-            (subst (λ (wire : Wire). Passes (WireMoves (known terms_of (record { name = []; most = 0 }) (nth lines line))) (source.Line line) now wire deeds (known wire_at Down (nth lines' line))) (down_down 0 lines line down) (passed.0 line)),
+        known state_at (record { from = 0; wire = Down }) (nth lines' line),
+        subst (λ (terms : Terms). Passes (LineMoves terms) (source.Line line) now (record { from = 0; wire = Down }) deeds (known state_at (record { from = 0; wire = Down }) (nth lines' line))) (named lines line)
+            (subst (λ (state : State). Passes (LineMoves (known terms_of (record { name = []; most = 0 }) (nth lines line))) (source.Line line) now state deeds (known state_at (record { from = 0; wire = Down }) (nth lines' line))) (down_down 0 lines line down) (passed.0 line)),
       ),
       λ caller. (
         known session_at Free (nth places' caller),

@@ -12,7 +12,7 @@ use Rattle.office_core.specs.History.{History}
 use Rattle.office_core.specs.Proceeding.{stepped}
 use Rattle.office_run.specs.Deeds.{AllOf, Deed, GoesBy, Is, Passes, steps_of}
 use Rattle.office_run.specs.Sessions.{Exchanges, Free, Moves, Session, Through}
-use Rattle.office_run.specs.Wires.{Down, Terms, Wire, WireMoves, Wired}
+use Rattle.office_run.specs.Wires.{Down, LineMoves, Lined, State, Terms}
 use Rattle.office_run.proofs.Deeds.{goes_still, goes_then, goes_wider}
 use Rattle.office_run.proofs.Passing.{passes_others, passes_then}
 
@@ -72,7 +72,7 @@ another_line place line same = let alike : place ≡ line = cc in omega (arith, 
 module _ {K S M N L C W : Type 0} {g : Ghosts K} (office_of : W → Office K g) (sockets_of : W → S) (office_name : W → M) (sockets_name : W → N)
     (acts : S → List Act → S → Type 0) (rests : (sockets : S) → acts sockets [] sockets)
     (joins : (one two three : S) (first second : List Act) → acts one first two → acts two second three → acts one (second ++ first) three)
-    (line_at : L → ℕ) (terms_of : L → Terms) (wire_of : L → Wire) (at_of : C → ℕ) (session_of : C → Session)
+    (line_at : L → ℕ) (terms_of : L → Terms) (state_of : L → State) (at_of : C → ℕ) (session_of : C → Session)
     (of_line : L → W → Bool → L → W → Type 0) (of_caller : C → W → Bool → C → W → Type 0) (waits : W → Bool → Result (Unit {0}) SocketFault → W → Type 0) where
   abbrev Acted : W → W → List Act → Type 0
   Acted one two some = acts (sockets_of one) some (sockets_of two)
@@ -80,8 +80,8 @@ module _ {K S M N L C W : Type 0} {g : Ghosts K} (office_of : W → Office K g) 
   abbrev pub terms_by : List L → ℕ → Terms
   terms_by ls line = known terms_of (record { name = []; most = 0 }) (nth ls line)
 
-  abbrev pub wire_in : List L → ℕ → Wire
-  wire_in ls line = known wire_of Down (nth ls line)
+  abbrev pub state_in : List L → ℕ → State
+  state_in ls line = known state_of (record { from = 0; wire = Down }) (nth ls line)
 
   abbrev pub session_in : List C → ℕ → Session
   session_in cs caller = known session_of Free (nth cs caller)
@@ -89,7 +89,7 @@ module _ {K S M N L C W : Type 0} {g : Ghosts K} (office_of : W → Office K g) 
   -- the lines' connections and the callers' sessions
   abbrev pub Passed : List L → List C → List L → List C → History → List Deed → Type 0
   Passed ls cs ls' cs' now deeds =
-      ((line : ℕ) → Passes (WireMoves (terms_by ls line)) (Line line) now (wire_in ls line) deeds (wire_in ls' line))
+      ((line : ℕ) → Passes (LineMoves (terms_by ls line)) (Line line) now (state_in ls line) deeds (state_in ls' line))
       × ((caller : ℕ) → Through (Caller caller) now (session_in cs caller) deeds (session_in cs' caller))
 
   abbrev pub Goes : List L → List C → W → List L → List C → W → Type 0
@@ -116,8 +116,8 @@ module _ {K S M N L C W : Type 0} {g : Ghosts K} (office_of : W → Office K g) 
             (joins (sockets_of one) (sockets_of two) (sockets_of three))
             (λ now some more before after. (
               λ line.
-                  passes_then (WireMoves (terms_by ls line)) (Line line) now more some (wire_in ls line) (wire_in ls' line) (wire_in ls'' line)
-                  (subst (λ (terms : Terms). Passes (WireMoves terms) (Line line) (stepped now (steps_of some)) (wire_in ls' line) more (wire_in ls'' line)) (earlier.0.2 line) (after.0 line)) (before.0 line),
+                  passes_then (LineMoves (terms_by ls line)) (Line line) now more some (state_in ls line) (state_in ls' line) (state_in ls'' line)
+                  (subst (λ (terms : Terms). Passes (LineMoves terms) (Line line) (stepped now (steps_of some)) (state_in ls' line) more (state_in ls'' line)) (earlier.0.2 line) (after.0 line)) (before.0 line),
               λ caller. passes_then Moves (Caller caller) now more some (session_in cs caller) (session_in cs' caller) (session_in cs'' caller) (after.1 caller) (before.1 caller),
             ))
             earlier.3 later.3,
@@ -125,7 +125,7 @@ module _ {K S M N L C W : Type 0} {g : Ghosts K} (office_of : W → Office K g) 
 
   module _ (line_went : (line : L) (one : W) (more : Bool) (line' : L) (two : W) → of_line line one more line' two
       → (office_name two ≡ office_name one) × (sockets_name two ≡ sockets_name one) × (line_at line' ≡ line_at line) × (terms_of line' ≡ terms_of line)
-      × Wired (terms_of line) (Line (line_at line)) (office_of one) (office_of two) (Acted one two) (wire_of line) (wire_of line'))
+      × Lined (terms_of line) (Line (line_at line)) (office_of one) (office_of two) (Acted one two) (state_of line) (state_of line'))
       (caller_went : (place : C) (one : W) (more : Bool) (place' : C) (two : W) → of_caller place one more place' two
       → (office_name two ≡ office_name one) × (sockets_name two ≡ sockets_name one) × (at_of place' ≡ at_of place)
       × Exchanges (Caller (at_of place)) (office_of one) (office_of two) (Acted one two) (session_of place) (session_of place'))
@@ -141,19 +141,19 @@ module _ {K S M N L C W : Type 0} {g : Ghosts K} (office_of : W → Office K g) 
           went.0,
           went.1,
           goes_wider (office_of one) (office_of two) (Acted one two) (Acted one two)
-              (λ now deeds. AllOf (Is (Line (line_at line))) deeds × Passes (WireMoves (terms_of line)) (Line (line_at line)) now (wire_of line) deeds (wire_of line'))
+              (λ now deeds. AllOf (Is (Line (line_at line))) deeds × Passes (LineMoves (terms_of line)) (Line (line_at line)) now (state_of line) deeds (state_of line'))
               (Passed before cs after cs) (λ some acted. acted)
               (λ now deeds kept. (
                 λ at. elim (found line_at 0 front line line' back at numbered.0) as (λ _.
-                    Passes (WireMoves (terms_by before at)) (Line at) now (wire_in before at) deeds (wire_in after at)) [
+                    Passes (LineMoves (terms_by before at)) (Line at) now (state_in before at) deeds (state_in after at)) [
                       | inl here ↦
-                          subst (λ (some : Option L). Passes (WireMoves (known terms_of (record { name = []; most = 0 }) some)) (Line at) now (known wire_of Down some) deeds (wire_in after at)) (sym here.0)
-                          (subst (λ (some : Option L). Passes (WireMoves (terms_of line)) (Line at) now (wire_of line) deeds (known wire_of Down some)) (sym here.1)
-                          (subst (λ (place : ℕ). Passes (WireMoves (terms_of line)) (Line place) now (wire_of line) deeds (wire_of line')) (omega (arith, here.2)) kept.1))
+                          subst (λ (some : Option L). Passes (LineMoves (known terms_of (record { name = []; most = 0 }) some)) (Line at) now (known state_of (record { from = 0; wire = Down }) some) deeds (state_in after at)) (sym here.0)
+                          (subst (λ (some : Option L). Passes (LineMoves (terms_of line)) (Line at) now (state_of line) deeds (known state_of (record { from = 0; wire = Down }) some)) (sym here.1)
+                          (subst (λ (place : ℕ). Passes (LineMoves (terms_of line)) (Line place) now (state_of line) deeds (state_of line')) (omega (arith, here.2)) kept.1))
                       | inr there ↦
-                          subst (λ (some : Option L). Passes (WireMoves (terms_by before at)) (Line at) now (wire_in before at) deeds (known wire_of Down some)) there.0
-                          (passes_others (WireMoves (terms_by before at)) (Line at) (Is (Line (line_at line))) (λ some is same. there.1 (another_line (line_at line) at (sym is ∙ same))) now
-                          (wire_in before at) deeds kept.0)
+                          subst (λ (some : Option L). Passes (LineMoves (terms_by before at)) (Line at) now (state_in before at) deeds (known state_of (record { from = 0; wire = Down }) some)) there.0
+                          (passes_others (LineMoves (terms_by before at)) (Line at) (Is (Line (line_at line))) (λ some is same. there.1 (another_line (line_at line) at (sym is ∙ same))) now
+                          (state_in before at) deeds kept.0)
                     ],
                 λ caller. passes_others Moves (Caller caller) (Is (Line (line_at line))) (λ some is same. absurd (cc (is, same))) now (session_in cs caller) deeds kept.0,
               ))
@@ -173,7 +173,7 @@ module _ {K S M N L C W : Type 0} {g : Ghosts K} (office_of : W → Office K g) 
               (λ now deeds. AllOf (Is (Caller (at_of place))) deeds × Through (Caller (at_of place)) now (session_of place) deeds (session_of place'))
               (Passed ls before ls after) (λ some acted. acted)
               (λ now deeds kept. (
-                λ line. passes_others (WireMoves (terms_by ls line)) (Line line) (Is (Caller (at_of place))) (λ some is same. absurd (cc (is, same))) now (wire_in ls line) deeds kept.0,
+                λ line. passes_others (LineMoves (terms_by ls line)) (Line line) (Is (Caller (at_of place))) (λ some is same. absurd (cc (is, same))) now (state_in ls line) deeds kept.0,
                 λ caller. elim (found at_of 0 front place place' back caller numbered.1) as (λ _. Through (Caller caller) now (session_in before caller) deeds (session_in after caller)) [
                   | inl here ↦
                       subst (λ (some : Option C). Through (Caller caller) now (known session_of Free some) deeds (session_in after caller)) (sym here.0)

@@ -1,5 +1,5 @@
 -- How lines' connections stand, deed by deed.
-use Rattle.std.proofs.Common.{◌≡◌, ◌<◌, ◌⊎◌, inl, inr, Bool, true, false, ℕ, List, [], ◌∷◌, ◌++◌, length, Option, Some, None, Result, Ok, Err, refl, sym, ◌∙◌, ap, subst}
+use Rattle.std.proofs.Common.{◌≡◌, ◌≤◌, ◌<◌, ◌⊎◌, inl, inr, Bool, true, false, ℕ, List, [], ◌∷◌, ◌++◌, length, Option, Some, None, Result, Ok, Err, refl, sym, ◌∙◌, ap, subst}
 use Rattle.std.specs.Prelude.{IsErrAnd, IsSome, MatchResult, if◌then◌else◌, is_some}
 use Rattle.std.specs.List.{flat_map}
 use Rattle.std.proofs.lemmas.List.{append-nil}
@@ -26,36 +26,37 @@ use Rattle.office_core.specs.declared.event.EventAnswer.TheVariants.{Opened, Que
 use Rattle.office_core.specs.Answers.{answer_of}
 use Rattle.office_core.specs.Following.{Follows, MayLeave}
 use Rattle.office_core.specs.History.{Happening, History}
-use Rattle.office_core.specs.Proceeding.{Did, GoesAlong, Missed, Nothing}
+use Rattle.office_core.specs.Proceeding.{Did, GoesAlong, Missed, Nothing, stepped}
 use Rattle.office_core.specs.Standing.{is_store}
 use Rattle.office_net.specs.Kinds.{Asks, Hears, Opens, SendsUpTo}
 use Rattle.office_net.specs.Querying.{Answered, CameTo, Makes, Misses, Tries}
 use Rattle.office_net.proofs.Querying.{makes_wider, misses_wider, nothing_then_makes, nothing_then_misses}
 use Rattle.office_run.specs.declared.round.Asked.{Asked}
 use Rattle.office_run.specs.Doings.{AsksOne, HearsOne, OpensOne, Runs, SendsOne}
-use Rattle.office_run.specs.Deeds.{AllOf, Deeds, GivesUpOn, Is, Over, Passes}
+use Rattle.office_run.specs.Deeds.{AllOf, Deed, Deeds, GivesUpOn, Is, Next, Over, Passes, Replies, Rests, Starts, With, steps_of}
 use Rattle.office_run.specs.Rounds.{query_of}
 use Rattle.office_run.specs.declared.loss.Loss.{Loss}
 use Rattle.office_run.specs.declared.loss.Stop.{Stop}
 use Rattle.office_run.specs.declared.loss.Stop.TheVariants.{Ahead, Lost, Refused}
 use Rattle.office_run.specs.Links.{before, held_in}
-use Rattle.office_run.specs.Wires.{AsksOver, Begun, GivesUp, IsShown, Queries, Reaches, Sends, SendsOver, Standing, Terms, Up, Wire, WireMoves, Wired, WiredBy, fresh, given_up, heard, settled, without}
+use Rattle.office_run.specs.Wires.{AsksOver, Begun, GivesUp, IsShown, LineMoves, Lined, Queries, Reaches, Sends, SendsOver, Settles, Standing, Terms, Up, Wire, WireMoves, Wired, WiredBy, fresh, given_up, heard, settled, without}
+use Rattle.office_run.proofs.Deeds.{goes_wider}
 use Rattle.office_run.proofs.Passing.{acting_once, acting_still, part_still, then_office}
 
 -- ---- queries over a connection
 
-module _ {K : Type 0} {g : Ghosts K} (old new : Office K g) (conn : ℕ) (device : List ℕ) where
-  pub sends_made : (last : ℕ) (told : Option Frame) → Makes (SendsUpTo last conn device) old new told → Makes (Queries conn) old new told
-  sends_made last = makes_wider (SendsUpTo last conn device) (Queries conn) (λ now event sends. SendsOver device sends.0) old new
+module _ {K : Type 0} {g : Ghosts K} (old new : Office K g) (conn slot : ℕ) (device : List ℕ) where
+  pub sends_made : (last : ℕ) (told : Option Frame) → Makes (SendsUpTo last conn device) old new told → Makes (Queries conn (Some slot)) old new told
+  sends_made last = makes_wider (SendsUpTo last conn device) (Queries conn (Some slot)) (λ now event sends. SendsOver slot device refl sends.0) old new
 
-  pub sends_missed : (last : ℕ) → Misses (SendsUpTo last conn device) old new → Misses (Queries conn) old new
-  sends_missed last = misses_wider (SendsUpTo last conn device) (Queries conn) (λ now event sends. SendsOver device sends.0) old new
+  pub sends_missed : (last : ℕ) → Misses (SendsUpTo last conn device) old new → Misses (Queries conn (Some slot)) old new
+  sends_missed last = misses_wider (SendsUpTo last conn device) (Queries conn (Some slot)) (λ now event sends. SendsOver slot device refl sends.0) old new
 
-  pub asks_made : (slot : ℕ) (read : Read) (told : Option Frame) → Makes (Asks conn slot device read) old new told → Makes (Queries conn) old new told
-  asks_made slot read = makes_wider (Asks conn slot device read) (Queries conn) (λ now event asks. AsksOver slot device read asks) old new
+  pub asks_made : (read : Read) (told : Option Frame) → Makes (Asks conn slot device read) old new told → Makes (Queries conn (Some slot)) old new told
+  asks_made read = makes_wider (Asks conn slot device read) (Queries conn (Some slot)) (λ now event asks. AsksOver slot device read refl asks) old new
 
-  pub asks_missed : (slot : ℕ) (read : Read) → Misses (Asks conn slot device read) old new → Misses (Queries conn) old new
-  asks_missed slot read = misses_wider (Asks conn slot device read) (Queries conn) (λ now event asks. AsksOver slot device read asks) old new
+  pub asks_missed : (read : Read) → Misses (Asks conn slot device read) old new → Misses (Queries conn (Some slot)) old new
+  asks_missed read = misses_wider (Asks conn slot device read) (Queries conn (Some slot)) (λ now event asks. AsksOver slot device read refl asks) old new
 
 -- nothing happened where no query was made
 pub made_none : {K : Type 0} {g : Ghosts K} (kind : History → Happening → Type 0) (old new : Office K g) (told : Option Frame) → is_some told ≡ false → Makes kind old new told → GoesAlong Nothing old new
@@ -67,11 +68,11 @@ none_asked None none = none
 none_asked (Some asked) none = none
 
 -- the office was only asked, and then a query was made or missed
-pub then_asked : {K : Type 0} {g : Ghosts K} (conn : ℕ) (one two three : Office K g) (told : Result (Option Asked) OfficeError) → GoesAlong Nothing one two
-    → MatchResult told (λ asked. Makes (Queries conn) two three (query_of asked)) (λ _. Misses (Queries conn) two three)
-    → MatchResult told (λ asked. Makes (Queries conn) one three (query_of asked)) (λ _. Misses (Queries conn) one three)
-then_asked conn one two three (Ok asked) along makes = nothing_then_makes (Queries conn) one two three (query_of asked) along makes
-then_asked conn one two three (Err e) along misses = nothing_then_misses (Queries conn) one two three along misses
+pub then_asked : {K : Type 0} {g : Ghosts K} (conn slot : ℕ) (one two three : Office K g) (told : Result (Option Asked) OfficeError) → GoesAlong Nothing one two
+    → MatchResult told (λ asked. Makes (Queries conn (Some slot)) two three (query_of asked)) (λ _. Misses (Queries conn (Some slot)) two three)
+    → MatchResult told (λ asked. Makes (Queries conn (Some slot)) one three (query_of asked)) (λ _. Misses (Queries conn (Some slot)) one three)
+then_asked conn slot one two three (Ok asked) along makes = nothing_then_makes (Queries conn (Some slot)) one two three (query_of asked) along makes
+then_asked conn slot one two three (Err e) along misses = nothing_then_misses (Queries conn (Some slot)) one two three along misses
 
 -- ---- one event over a connection
 
@@ -148,9 +149,9 @@ module _ {K : Type 0} {g : Ghosts K} (terms : Terms) (source : Source) (old new 
 
 -- ---- of each kind
 
-query_runs : (now : History) (event : Happening) (conn : ℕ) → Queries conn now event → Runs now event
-query_runs now event conn (AsksOver slot device read asks) = AsksOne conn slot device read asks
-query_runs now event conn (SendsOver device sends) = SendsOne conn device sends
+query_runs : (now : History) (event : Happening) (conn : ℕ) (round : Option ℕ) → Queries conn round now event → Runs now event
+query_runs now event conn round (AsksOver slot device read is asks) = AsksOne conn slot device read asks
+query_runs now event conn round (SendsOver slot device is sends) = SendsOne conn device sends
 
 module _ {K : Type 0} {g : Ghosts K} (terms : Terms) (source : Source) (old new : Office K g) where
   -- the line was opened, or it wasn't
@@ -162,12 +163,12 @@ module _ {K : Type 0} {g : Ghosts K} (terms : Terms) (source : Source) (old new 
 
   module _ (at : Standing) where
     -- a query was made
-    pub wired_query : (query : Frame) (wire : Wire) → length at.waiting < terms.most → Sends at query wire → Answered (Queries at.conn) old new (Query query) → Wired terms source old new (λ acts. acts ≡ []) (Up at) wire
-    wired_query query wire few sends = wired_answered terms source old new (Queries at.conn) (Up at) wire (Query query) (λ now event queries told. (query_runs now event at.conn queries, inl (query, queries, told, few, sends)))
+    pub wired_query : (query : Frame) (wire : Wire) → length at.waiting < terms.most → Sends at query wire → Answered (Queries at.conn at.round) old new (Query query) → Wired terms source old new (λ acts. acts ≡ []) (Up at) wire
+    wired_query query wire few sends = wired_answered terms source old new (Queries at.conn at.round) (Up at) wire (Query query) (λ now event queries told. (query_runs now event at.conn at.round queries, inl (query, queries, told, few, sends)))
 
     -- none was made
-    pub wired_missed : Misses (Queries at.conn) old new → Wired terms source old new (λ acts. acts ≡ []) (Up at) (Up at)
-    wired_missed = wired_refused terms source old new (Queries at.conn) (Up at) (λ now event queries. (query_runs now event at.conn queries, inl (queries, refl)))
+    pub wired_missed : Misses (Queries at.conn at.round) old new → Wired terms source old new (λ acts. acts ≡ []) (Up at) (Up at)
+    wired_missed = wired_refused terms source old new (Queries at.conn at.round) (Up at) (λ now event queries. (query_runs now event at.conn at.round queries, inl (queries, refl)))
 
     -- a frame came
     pub wired_heard : (frame : Frame) (told : EventAnswer) → Tries (Hears at.conn frame) old new told
@@ -271,6 +272,64 @@ wired_given terms source office wire (device ∷ devices) =
           },
     ))
 
+-- its round ended, or didn't
+pub wired_settled : {K : Type 0} {g : Ghosts K} (terms : Terms) (source : Source) (office : Office K g) (wire wire' : Wire) → Settles wire wire' → Wired terms source office office (λ acts. acts ≡ []) wire wire'
+wired_settled terms source office wire wire' (inl same) =
+    subst (λ (some : Wire). Wired terms source office office (λ acts. acts ≡ []) wire some) (sym same) (part_still (WireMoves terms) source office (λ acts. acts ≡ []) wire refl)
+wired_settled terms source office wire wire' (inr rest) = λ clean. (
+  clean,
+  λ now follows.
+      record { deeds = Rests source ∷ []; are = tt; follows = follows; leaves = λ left may. may; has_acted = refl; has_kept = ((refl, tt), (wire, refl, inl (refl, rest))) },
+)
+
+-- ---- of a line
+
+module _ (terms : Terms) (source : Source) (from : ℕ) where
+  lined_one : (now : History) (wire wire' : Wire) (deed : Deed) → WireMoves terms now wire deed wire'
+      → LineMoves terms now (record { from = from; wire = wire }) deed (record { from = from; wire = wire' })
+  lined_one now wire wire' (With act) moves = (refl, moves)
+  lined_one now wire wire' (Over other step) moves = (refl, moves)
+  lined_one now wire wire' (Starts other slot) moves = absurd moves
+  lined_one now wire wire' (Rests other) moves = (refl, moves)
+  lined_one now wire wire' (GivesUpOn other device) moves = (refl, moves)
+  lined_one now wire wire' (Replies other became text) moves = (refl, moves)
+
+  lined_all : (now : History) (wire wire' : Wire) (deeds : List Deed) → Passes (WireMoves terms) source now wire deeds wire'
+      → Passes (LineMoves terms) source now (record { from = from; wire = wire }) deeds (record { from = from; wire = wire' })
+  lined_all now wire wire' [] same = ap (λ (some : Wire). record { from = from; wire = some }) same
+  lined_all now wire wire' (deed ∷ deeds) passes = (
+    record { from = from; wire = passes.0 },
+    lined_all now wire passes.0 deeds passes.1,
+    elim passes.2 as (λ _. Next (LineMoves terms) source (stepped now (steps_of deeds)) (record { from = from; wire = passes.0 }) deed (record { from = from; wire = wire' })) [
+      | inl own ↦ inl (own.0, lined_one (stepped now (steps_of deeds)) passes.0 wire' deed own.1)
+      | inr other ↦ inr (other.0, ap (λ (some : Wire). record { from = from; wire = some }) other.1)
+    ],
+  )
+
+  -- what is done over its connection, where no round begins
+  pub lined_of : {K : Type 0} {g : Ghosts K} (old new : Office K g) (acted : List Act → Type 0) (wire wire' : Wire) → Wired terms source old new acted wire wire'
+      → Lined terms source old new acted (record { from = from; wire = wire }) (record { from = from; wire = wire' })
+  lined_of old new acted wire wire' =
+      goes_wider old new acted acted (λ now deeds. AllOf (Is source) deeds × Passes (WireMoves terms) source now wire deeds wire')
+      (λ now deeds. AllOf (Is source) deeds × Passes (LineMoves terms) source now (record { from = from; wire = wire }) deeds (record { from = from; wire = wire' })) (λ acts done. done)
+      (λ now deeds kept. (kept.0, lined_all now wire wire' deeds kept.1))
+
+  -- the round of a slot is begun
+  pub lined_start : {K : Type 0} {g : Ghosts K} (office : Office K g) (at : Standing) (slot : ℕ) → from ≤ slot
+      → Lined terms source office office (λ acts. acts ≡ []) (record { from = from; wire = Up at }) (record { from = slot; wire = Up (record at { round = Some slot }) })
+  lined_start office at slot later = λ clean. (
+    clean,
+    λ now follows.
+        record {
+          deeds = Starts source slot ∷ [];
+          are = tt;
+          follows = follows;
+          leaves = λ left may. may;
+          has_acted = refl;
+          has_kept = ((refl, tt), (record { from = from; wire = Up at }, refl, inl (refl, (at, refl, later, refl))));
+        },
+  )
+
 -- ---- how it is shown
 
 pub shown : {T : Type 0} (told : Result T Stop) (wire wire' : Wire) → wire' ≡ wire → IsShown told wire wire'
@@ -282,6 +341,10 @@ shown (Err (Ahead ahead)) wire wire' same = same
 pub shown_lost : (T : Type 0) (told : Result T Stop) (why : Loss) (wire wire' : Wire) → IsErrAnd told (λ stop. stop ≡ Lost why) → IsShown told wire wire'
 shown_lost T (Ok value) why wire wire' is = absurd is
 shown_lost T (Err stop) why wire wire' is = subst (λ (some : Stop). IsShown {T = T} (Err some) wire wire') (sym is) tt
+
+pub shown_refused : (T : Type 0) (told : Result T Stop) (stop : Stop) (fault : StoreFault) (wire wire' : Wire) → told ≡ Err stop → stop ≡ Refused fault → IsShown told wire wire' → wire' ≡ wire
+shown_refused T told stop fault wire wire' is kind shows =
+    subst (λ (some : Stop). IsShown {T = T} (Err some) wire wire') kind (subst (λ (some : Result T Stop). IsShown some wire wire') is shows)
 
 -- a failure that is handed on
 pub shown_on : (T X : Type 0) (stop : Stop) (wire wire' : Wire) → IsShown {T = T} (Err stop) wire wire' → IsShown {T = X} (Err stop) wire wire'

@@ -27,6 +27,9 @@ pub data Deed : Type 0 where
   With : Act → Deed
   -- something happens over a line, or the store refuses it
   Over : Source → Step → Deed
+  -- a line begins the round of a slot, or its round ends
+  Starts : Source → (slot : ℕ) → Deed
+  Rests : Source → Deed
   -- the queries of a line's device are given up
   GivesUpOn : Source → (device : ℕ) → Deed
   -- what a caller asked for came to that, and these bytes are the answer
@@ -44,6 +47,8 @@ source_of_act (Closes source) = source
 abbrev pub source_of : Deed → Source
 source_of (With act) = source_of_act act
 source_of (Over source step) = source
+source_of (Starts source slot) = source
+source_of (Rests source) = source
 source_of (GivesUpOn source device) = source
 source_of (Replies source became text) = source
 
@@ -55,6 +60,8 @@ steps_made make (Some event) = make event ∷ []
 abbrev pub steps_in : Deed → List Step
 steps_in (With act) = []
 steps_in (Over source step) = step ∷ []
+steps_in (Starts source slot) = []
+steps_in (Rests source) = []
 steps_in (GivesUpOn source device) = []
 steps_in (Replies source (Done meaning) text) = steps_made Did (event_of meaning)
 steps_in (Replies source (Undone meaning) text) = steps_made Missed (event_of meaning)

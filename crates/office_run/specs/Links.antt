@@ -4,6 +4,7 @@ use Rattle.std.specs.List.{flat_map}
 use Rattle.mb_mbap.specs.declared.frame.Frame.{Frame}
 use Rattle.mb_mbap.specs.Stream.{spelled}
 use Rattle.office_run.specs.declared.link.Link.{Link}
+use Rattle.office_run.specs.declared.round.Round.{Round}
 use Rattle.office_run.specs.declared.window.Query.{Query}
 use Rattle.office_run.specs.Wires.{Standing, Up, Wire}
 
@@ -28,9 +29,14 @@ held_in (Some held) = held
 abbrev pub unread_in : Link → List ℕ
 unread_in link = flat_map spelled (frames_in link) ++ held_in link.stream
 
+-- the slot of the round that is under way
+abbrev pub slot_of : Option Round → Option ℕ
+slot_of None = None
+slot_of (Some round) = Some round.slot
+
 -- how the connection stands
 abbrev pub standing_of : Link → Standing
-standing_of link = record { conn = link.conn; left = link.out; unread = unread_in link; reading = is_some link.stream; waiting = link.window }
+standing_of link = record { conn = link.conn; left = link.out; unread = unread_in link; reading = is_some link.stream; waiting = link.window; round = slot_of link.round }
 
 abbrev pub wire_of : Link → Wire
 wire_of link = Up (standing_of link)

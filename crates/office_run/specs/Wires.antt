@@ -1,5 +1,5 @@
 -- How a line's connection stands, deed by deed.
-use Rattle.std.specs.Prelude.{◌≡◌, ◌⊎◌, ◌<◌, ⊤, ℕ, zero, suc, Bool, true, false, IsSome, List, [], ◌∷◌, ◌++◌, length, Result, Ok, Err}
+use Rattle.std.specs.Prelude.{◌≡◌, ◌⊎◌, ◌≤◌, ◌<◌, ⊤, ℕ, zero, suc, Bool, true, false, IsSome, List, [], ◌∷◌, ◌++◌, length, Option, Some, None, Result, Ok, Err}
 use Rattle.std.specs.List.{filter}
 use Rattle.mb_mbap.specs.declared.frame.Frame.{Frame}
 use Rattle.mb_mbap.specs.Stream.{fault_of, spelled}
@@ -19,7 +19,7 @@ use Rattle.office_run.specs.declared.loss.Stop.{Stop}
 use Rattle.office_run.specs.declared.loss.Stop.TheVariants.{Lost}
 use Rattle.office_run.specs.declared.window.Query.{Query as Waiting}
 use Rattle.office_run.specs.Windows.{is_of_another, is_under_another}
-use Rattle.office_run.specs.Deeds.{Deed, GivesUpOn, Over, PartOf, Passes, PassesBy, With}
+use Rattle.office_run.specs.Deeds.{Deed, GivesUpOn, Over, PartOf, Passes, PassesBy, Rests, Starts, With}
 
 -- what the site says of a line: its name, and how many of its queries may wait
 pub record Terms : Type 0 where
@@ -38,6 +38,8 @@ pub record Standing : Type 0 where
   pub reading : Bool
   -- the queries that are neither answered nor given up
   pub waiting : List Waiting
+  -- the slot of the round that is under way
+  pub round : Option ℕ
 
 pub data Wire : Type 0 where
   -- no connection stands
@@ -48,12 +50,12 @@ pub data Wire : Type 0 where
 
 -- one over which nothing went yet
 abbrev pub fresh : ℕ → Standing
-fresh conn = record { conn = conn; left = []; unread = []; reading = true; waiting = [] }
+fresh conn = record { conn = conn; left = []; unread = []; reading = true; waiting = []; round = None }
 
--- a query over a connection: a read is asked, or an order is sent
-pub data Queries (conn : ℕ) (now : History) (event : Happening) : Type 0 where
-  AsksOver : (slot : ℕ) (device : List ℕ) (read : Read) → Asks conn slot device read now event → Queries conn now event
-  SendsOver : (device : List ℕ) → SendsOne conn device now event → Queries conn now event
+-- a query over a connection in the round of a slot: a read is asked for it, or an order is sent
+pub data Queries (conn : ℕ) (round : Option ℕ) (now : History) (event : Happening) : Type 0 where
+  AsksOver : (slot : ℕ) (device : List ℕ) (read : Read) → round ≡ Some slot → Asks conn slot device read now event → Queries conn round now event
+  SendsOver : (slot : ℕ) (device : List ℕ) → round ≡ Some slot → SendsOne conn device now event → Queries conn round now event
 
 -- bytes were read behind others; what begins with a bad header is dropped, and then no frame can follow
 abbrev pub Reaches : Standing → List ℕ → Wire → Type 0
@@ -85,6 +87,15 @@ abbrev pub given_up : ℕ → Wire → Wire
 given_up device (Up at) = Up (record at { waiting = filter (is_of_another device) at.waiting })
 given_up device wire = wire
 
+-- no round is under way any more
+abbrev pub rested : Wire → Wire
+rested (Up at) = Up (record at { round = None })
+rested wire = wire
+
+-- it is as it was, or no round is under way any more
+abbrev pub Settles : Wire → Wire → Type 0
+Settles wire wire' = (wire' ≡ wire) ⊎ (wire' ≡ rested wire)
+
 -- the queries of devices were given up, the last of them first
 abbrev pub without : List ℕ → Wire → Wire
 without [] wire = wire
@@ -99,6 +110,7 @@ GivesUp wire wire' = (devices : List ℕ) × (wire' ≡ without devices wire)
 abbrev pub WireMoves : Terms → History → Wire → Deed → Wire → Type 0
 WireMoves terms now wire (With (Closes source)) wire' = wire' ≡ Down
 WireMoves terms now wire (GivesUpOn source device) wire' = wire' ≡ given_up device wire
+WireMoves terms now wire (Rests source) wire' = wire' ≡ rested wire
 WireMoves terms now Down (With (Begins source)) wire' = wire' ≡ Begun
 WireMoves terms now Begun (Over source (Did event)) wire' = (conn : ℕ) × Opens terms.name now event × (answer_of now event ≡ Opened conn) × (wire' ≡ Up (fresh conn))
 WireMoves terms now Begun (Over source (Missed event)) wire' = Opens terms.name now event × (wire' ≡ Begun)
@@ -106,18 +118,29 @@ WireMoves terms now (Up at) (With (Reads source bytes)) wire' = (at.reading ≡ 
 WireMoves terms now (Up at) (With (Ends source)) wire' = wire' ≡ Up at
 WireMoves terms now (Up at) (With (Writes source bytes)) wire' = (rest : List ℕ) × (at.left ≡ bytes ++ rest) × (wire' ≡ Up (record at { left = rest }))
 WireMoves terms now (Up at) (Over source (Did event)) wire' =
-    ((query : Frame) × Queries at.conn now event × (answer_of now event ≡ Query query) × (length at.waiting < terms.most) × Sends at query wire')
+    ((query : Frame) × Queries at.conn at.round now event × (answer_of now event ≡ Query query) × (length at.waiting < terms.most) × Sends at query wire')
     ⊎ ((frame : Frame) × (rest : List ℕ) × Hears at.conn frame now event × IsNext at frame rest × (wire' ≡ Up (heard (answer_of now event) frame (record at { unread = rest }))))
 WireMoves terms now (Up at) (Over source (Missed event)) wire' =
-    (Queries at.conn now event × (wire' ≡ Up at))
+    (Queries at.conn at.round now event × (wire' ≡ Up at))
     ⊎ ((frame : Frame) × (rest : List ℕ) × Hears at.conn frame now event × IsNext at frame rest × (wire' ≡ Up (settled frame (record at { unread = rest }))))
 WireMoves terms now _ _ _ = ⊥
+
+-- how a line stands: no slot before this one is begun, and its connection
+pub record State : Type 0 where
+  pub from : ℕ
+  pub wire : Wire
+
+-- What a deed makes of a line: a round is begun over a connection that stands, and none for a slot before one that was begun
+abbrev pub LineMoves : Terms → History → State → Deed → State → Type 0
+LineMoves terms now state (Starts source slot) state' =
+    (at : Standing) × (state.wire ≡ Up at) × (state.from ≤ slot) × (state' ≡ record { from = slot; wire = Up (record at { round = Some slot }) })
+LineMoves terms now state deed state' = (state'.from ≡ state.from) × WireMoves terms now state.wire deed state'.wire
 
 -- what is done with a line's socket alone
 abbrev pub WiredBy : Terms → Source → (List Act → Type 0) → Wire → Wire → Type 0
 WiredBy terms = PassesBy (WireMoves terms)
 
--- a line's part of a run
+-- what is done over a line's connection
 abbrev pub Wired : {K : Type 0} {g : Ghosts K} → Terms → Source → Office K g → Office K g → (List Act → Type 0) → Wire → Wire → Type 0
 Wired terms source old new acted wire wire' = PartOf (WireMoves terms) source old new acted wire wire'
 
@@ -127,9 +150,13 @@ terms_at [] place = record { name = []; most = 0 }
 terms_at (terms ∷ all) zero = terms
 terms_at (terms ∷ all) (suc place) = terms_at all place
 
--- what was done with the socket of each line, and happened over it, is what its connection allows, none of which stood at first
+-- a line's part of a run
+abbrev pub Lined : {K : Type 0} {g : Ghosts K} → Terms → Source → Office K g → Office K g → (List Act → Type 0) → State → State → Type 0
+Lined terms source old new acted state state' = PartOf (LineMoves terms) source old new acted state state'
+
+-- what each line did is what it may, where no round was begun at first and no connection stood
 abbrev pub AreWired : List Terms → History → List Deed → Type 0
-AreWired all now deeds = (place : ℕ) → (wire : Wire) × Passes (WireMoves (terms_at all place)) (Line place) now Down deeds wire
+AreWired all now deeds = (place : ℕ) → (state : State) × Passes (LineMoves (terms_at all place)) (Line place) now (record { from = 0; wire = Down }) deeds state
 
 -- the connection stands as it is shown, unless a call told that it is lost: it is closed then, whatever waits
 abbrev pub IsShown : {T : Type 0} → Result T Stop → Wire → Wire → Type 0
@@ -139,6 +166,9 @@ IsShown _ wire shown = shown ≡ wire
 -- the same of a call that may fail
 abbrev pub Works : {K T : Type 0} {g : Ghosts K} → Result T Stop → Terms → Source → Office K g → Office K g → (List Act → Type 0) → Wire → Wire → Type 0
 Works told terms source old new acted before shown = (wire : Wire) × Wired terms source old new acted before wire × IsShown told wire shown
+
+abbrev pub Goes : {K T : Type 0} {g : Ghosts K} → Result T Stop → Terms → Source → Office K g → Office K g → (List Act → Type 0) → State → State → Type 0
+Goes told terms source old new acted before shown = (state : State) × Lined terms source old new acted before state × (shown.from ≡ state.from) × IsShown told state.wire shown.wire
 
 abbrev pub Acted : {T : Type 0} → Result T Stop → Terms → Source → (List Act → Type 0) → Wire → Wire → Type 0
 Acted told terms source acted before shown = (wire : Wire) × WiredBy terms source acted before wire × IsShown told wire shown

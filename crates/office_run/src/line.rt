@@ -1,7 +1,7 @@
 //! A line of the site: its connection, its rounds, and when something of it is due.
-ghost use Rattle.std.specs.Prelude.{◌≡◌, ◌≤◌, ◌∷◌, []};
+ghost use Rattle.std.specs.Prelude.{◌≡◌, ◌≤◌, ◌∷◌, [], IfSome};
 ghost use Rattle.office_core.specs.Proceeding.{GoesAlong, Nothing};
-ghost use Rattle.office_run.specs.Wires.{Begun, Down, GivesUp, Wired, WiredBy};
+ghost use Rattle.office_run.specs.Wires.{Begun, Down, GivesUp, Lined, Settles, WiredBy, rested};
 ghost use Rattle.run_beat.specs.Acts.{Closes};
 ghost use Rattle.run_beat.specs.Beats.{Wants};
 
@@ -82,13 +82,13 @@ fn is_kept(arrival: Arrival) -> bool {
 }
 
 impl Line {
-    ghost use Rattle.office_run.specs.Lines.{Handles, IsSame, Keeps, Tends, source_of, terms_of, wire_at};
+    ghost use Rattle.office_run.specs.Lines.{Advances, Handles, IsOne, IsSame, Keeps, Tends, source_of, state_at, terms_of, wire_at};
 
     /// A line without a connection, of a name, of whose queries so many may wait, and whose devices are given so many
     /// milliseconds.
     pub fn new(alloc: Global, place: usize, name: Text, most: usize, timeout: u32) -> Line
         requires { most ≤ 16 }
-        ensures { (result.place ≡ place) × (terms_of result ≡ record { name = name; most = most }) × (wire_at result ≡ Down) }
+        ensures { (result.place ≡ place) × (terms_of result ≡ record { name = name; most = most }) × (state_at result ≡ record { from = 0; wire = Down }) }
     {
         Line {
             alloc,
@@ -435,7 +435,7 @@ impl Line {
         times: Times,
         orders: u64,
     ) -> Result<(), Stop>
-        ensures { Tends result self.old self.new office.old office.new (λ acts. acts ≡ []) }
+        ensures { Advances result self.old self.new office.old office.new (λ acts. acts ≡ []) }
     {
         let now = times.now;
         let has_begun = self.start(office, times, orders)?;
@@ -455,7 +455,8 @@ impl Line {
 
     /// Ends the round that is under way.
     fn end_round(&mut self)
-        ensures { Keeps self.old self.new }
+        ensures same { IsSame self.old self.new }
+        ensures rested { wire_at self.new ≡ rested (wire_at self.old) }
     {
         if let Connection::Up(link) = &mut self.connection {
             link.end_round();
@@ -511,7 +512,8 @@ impl Line {
 
     /// Ends the round that is under way where it is done, or its slot is over.
     fn settle(&mut self, journal: &mut Journal, times: Times) -> Result<(), Stop>
-        ensures { Keeps self.old self.new }
+        ensures same { IsSame self.old self.new }
+        ensures settles { Settles (wire_at self.old) (wire_at self.new) }
     {
         let now = times.now;
         match self.judge(times) {
@@ -545,8 +547,7 @@ impl Line {
         orders: u64,
     ) -> Result<(), Stop>
         requires { Wants self.old.beat slot }
-        ensures along { GoesAlong Nothing office.old office.new }
-        ensures keeps { Keeps self.old self.new }
+        ensures { Advances result self.old self.new office.old office.new (λ acts. acts ≡ []) }
     {
         self.stations
             .plan(self.alloc, office.site(), office.points(), self.place)?;
@@ -591,45 +592,61 @@ impl Line {
         }
     }
 
-    /// Begins the slot's round, if it isn't begun, and no counter of the line is counted in a later one. Where orders came since, or while no slot may be begun, since the
-    /// clock jumped ahead or stands behind one that was begun, it begins one of orders alone. Tells whether it begins
-    /// one.
-    fn start<K: Keeper>(
-        &mut self,
-        office: &mut Office<K>,
-        times: Times,
-        orders: u64,
-    ) -> Result<bool, Stop>
-        ensures along { GoesAlong Nothing office.old office.new }
-        ensures keeps { Keeps self.old self.new }
+    /// The round is begun again, where that is due.
+    fn retry_if_due(&mut self, now: Moment)
+        ensures { Keeps self.old self.new }
     {
-        let is_due = self.retry.is_some_and(|moment| moment <= times.now);
+        let is_due = self.retry.is_some_and(|moment| moment <= now);
         if is_due {
             self.retry = None;
             self.orders = None;
             self.beat.again();
         }
+    }
+
+    /// The round that is to be begun: the slot's, if it isn't begun, and no counter of the line is counted in a later
+    /// one. Where orders came since, or while no slot may be begun, since the clock jumped ahead or stands behind one
+    /// that was begun, it is one of orders alone.
+    fn choose(&mut self, times: &Times, orders: u64) -> Option<(u32, Kind)>
+        ensures keeps { Keeps self.old self.new }
+        ensures wanted { IfSome result (λ chosen. Wants self.new.beat chosen.0) }
+    {
+        self.retry_if_due(times.now);
         let Stage::Resting { polled } = self.beat.stage() else {
-            return Ok(false);
+            return None;
         };
         if let Some(slot) = times.slot()
             && self.beat.wants(slot)
             && self.lookout.admits(slot)
         {
             self.is_unbegun = false;
-            self.begin_round(office, slot, Kind::Whole, times.now, orders)?;
-            return Ok(true);
+            return Some((slot, Kind::Whole));
         }
         if self.orders == Some(orders) {
-            return Ok(false);
+            return None;
         }
         self.beat.again();
         let last = self.beat.from();
         if !self.beat.wants(last) {
-            return Ok(false);
+            return None;
         }
         self.is_unbegun = polled.is_none();
-        self.begin_round(office, last, Kind::OrdersAlone, times.now, orders)?;
+        Some((last, Kind::OrdersAlone))
+    }
+
+    /// Begins a round, where one is to be begun; tells whether it did.
+    fn start<K: Keeper>(
+        &mut self,
+        office: &mut Office<K>,
+        times: Times,
+        orders: u64,
+    ) -> Result<bool, Stop>
+        ensures { Advances result self.old self.new office.old office.new (λ acts. acts ≡ []) }
+    {
+        let Some((slot, kind)) = self.choose(&times, orders) else {
+            return Ok(false);
+        };
+        self.begin_round(office, slot, kind, times.now, orders)?;
         Ok(true)
     }
 
@@ -686,7 +703,7 @@ impl Line {
         times: Times,
         orders: u64,
     ) -> Result<(), Stop>
-        ensures { Tends result self.old self.new office.old office.new (λ acts. acts ≡ []) }
+        ensures { Advances result self.old self.new office.old office.new (λ acts. acts ≡ []) }
     {
         self.go_on_round(office, journal, &times, orders)?;
         self.look_ahead(office, &times)?;
@@ -711,7 +728,7 @@ impl Line {
         times: Times,
         orders: u64,
     ) -> Result<bool, Stop>
-        ensures { Tends result self.old self.new office.old office.new (λ acts. S.acts sockets.old acts sockets.new) }
+        ensures { Advances result self.old self.new office.old office.new (λ acts. S.acts sockets.old acts sockets.new) }
     {
         let now = times.now;
         self.note_slot(&times);
@@ -730,7 +747,7 @@ impl Line {
         times: Times,
         orders: u64,
     ) -> Result<bool, Stop>
-        ensures { Tends result self.old self.new office.old office.new (λ acts. S.acts sockets.old acts sockets.new) }
+        ensures { Advances result self.old self.new office.old office.new (λ acts. S.acts sockets.old acts sockets.new) }
     {
         let now = times.now;
         match self.connection {
@@ -745,7 +762,8 @@ impl Line {
 
     /// The store refused: the round that is under way ends, and the slot is begun again a while later.
     fn refuse(&mut self, now: Moment)
-        ensures { Keeps self.old self.new }
+        ensures same { IsSame self.old self.new }
+        ensures rested { wire_at self.new ≡ rested (wire_at self.old) }
     {
         self.is_unbegun = false;
         self.end_round();
@@ -772,8 +790,8 @@ impl Line {
         times: Times,
         orders: u64,
     ) -> Turned
-        ensures same { IsSame self.old self.new }
-        ensures wired { Wired (terms_of self.old) (source_of self.old) office.old office.new (λ acts. S.acts sockets.old acts sockets.new) (wire_at self.old) (wire_at self.new) }
+        ensures one { IsOne self.old self.new }
+        ensures lined { Lined (terms_of self.old) (source_of self.old) office.old office.new (λ acts. S.acts sockets.old acts sockets.new) (state_at self.old) (state_at self.new) }
     {
         let now = times.now;
         let acted = self.act(office, sockets, journal, times, orders);
@@ -786,16 +804,18 @@ impl Line {
         };
         match acted {
             Ok(is_more) => turned.is_more = is_more,
-            Err(Stop::Lost(why)) => {
-                self.lose(sockets, journal, now, why);
-                turned.refused = refused_in(why);
-            }
-            Err(Stop::Refused(fault)) => {
-                self.refuse(now);
-                turned.is_more = true;
-                turned.refused = Some(fault);
-            }
-            Err(Stop::Ahead(ahead)) => turned.ahead = Some(ahead),
+            Err(stop) => match stop {
+                Stop::Lost(why) => {
+                    self.lose(sockets, journal, now, why);
+                    turned.refused = refused_in(why);
+                }
+                Stop::Refused(fault) => {
+                    self.refuse(now);
+                    turned.is_more = true;
+                    turned.refused = Some(fault);
+                }
+                Stop::Ahead(ahead) => turned.ahead = Some(ahead),
+            },
         }
         turned
     }

@@ -1,11 +1,11 @@
 //! A connection to a line that stands, and the round that is under way over it.
-ghost use Rattle.std.specs.Prelude.{◌≡◌, ◌≤◌, ◌<◌, ◌++◌, [], MatchResult, None, OnOk, drop, false, is_some, length, true};
+ghost use Rattle.std.specs.Prelude.{◌≡◌, ◌≤◌, ◌<◌, ◌++◌, [], MatchResult, None, OnOk, Some, drop, false, is_some, length, true};
 ghost use Rattle.mb_mbap.specs.Stream.{spelled};
 ghost use Rattle.run_beat.specs.declared.sockets.Source.{Source as ASource};
 ghost use Rattle.office_core.specs.Proceeding.{GoesAlong, Nothing};
 ghost use Rattle.office_net.specs.Querying.{Makes, Misses};
 ghost use Rattle.office_run.specs.Rounds.{query_of};
-ghost use Rattle.office_run.specs.Wires.{GivesUp, Queries, Reaches, Sends, Terms, Up, Wired, Works, fresh, settled};
+ghost use Rattle.office_run.specs.Wires.{GivesUp, Queries, Reaches, Sends, Terms, Up, Wired, Works, fresh, rested, settled};
 
 use crate::journal::Journal;
 use crate::loss::{Loss, Stop};
@@ -72,7 +72,7 @@ fn size_of(frame: &Frame) -> usize {
 }
 
 impl Link {
-    ghost use Rattle.office_run.specs.Links.{asked_in, before, frames_in, standing_of, waiting_in, wire_of};
+    ghost use Rattle.office_run.specs.Links.{asked_in, before, frames_in, slot_of, standing_of, waiting_in, wire_of};
 
     /// A connection over which nothing was asked yet.
     pub fn new(alloc: Global, conn: Conn, now: Moment) -> Link
@@ -117,7 +117,7 @@ impl Link {
         now: Moment,
     ) -> Result<(), OfficeError>
         ensures along { GoesAlong Nothing office.old office.new }
-        ensures wire { wire_of self.new ≡ wire_of self.old }
+        ensures begun { MatchResult result (λ _. standing_of self.new ≡ record (standing_of self.old) { round = Some slot }) (λ _. standing_of self.new ≡ standing_of self.old) }
     {
         self.round = Some(Round::begin(self.alloc, office, devices, slot, kind, now)?);
         Ok(())
@@ -144,7 +144,7 @@ impl Link {
         office: &mut Office<K>,
         stations: &Stations,
     ) -> Result<Option<Asked>, OfficeError>
-        ensures made { MatchResult result (λ asked. Makes (Queries self.old.conn) office.old office.new (query_of asked)) (λ _. Misses (Queries self.old.conn) office.old office.new) }
+        ensures made { MatchResult result (λ asked. Makes (Queries self.old.conn (slot_of self.old.round)) office.old office.new (query_of asked)) (λ _. Misses (Queries self.old.conn (slot_of self.old.round)) office.old office.new) }
         ensures standing { standing_of self.new ≡ standing_of self.old }
     {
         match &mut self.round {
@@ -370,7 +370,7 @@ impl Link {
 
     /// Ends the round that is under way. What is still answered to it counts as late.
     pub fn end_round(&mut self)
-        ensures { wire_of self.new ≡ wire_of self.old }
+        ensures { wire_of self.new ≡ rested (wire_of self.old) }
     {
         self.round = None;
     }

@@ -1,5 +1,5 @@
 //! A round of a line: of each of its devices the orders that waited as it began, and then its reads.
-ghost use Rattle.std.specs.Prelude.{MatchResult};
+ghost use Rattle.std.specs.Prelude.{◌≡◌, ℕ, IfOk, MatchResult, Some};
 ghost use Rattle.office_core.specs.Proceeding.{GoesAlong, Nothing};
 ghost use Rattle.office_net.specs.Querying.{Makes, Misses};
 ghost use Rattle.office_run.specs.Rounds.{query_of};
@@ -25,18 +25,33 @@ pub(crate) enum Kind {
     OrdersAlone,
 }
 
+impl Kind {
+    /// The reads of a device that have a turn.
+    fn reads_of(self, station: &Station) -> usize {
+        match self {
+            Kind::Whole => station.reads.len(),
+            Kind::OrdersAlone => 0,
+        }
+    }
+}
+
 /// A round under way.
 #[derive(Drop)]
 pub(crate) struct Round {
     slot: u32,
     kind: Kind,
     began: Moment,
-    // How far each device of the line is.
-    shares: Vec<Share>,
+    progress: Progress,
     // Whether it asked something.
     has_asked: bool,
     // Whether nothing was left to be asked when that was looked for last.
     is_idle: bool,
+}
+
+/// How far each device of the line is.
+#[derive(Drop)]
+struct Progress {
+    shares: Vec<Share>,
 }
 
 /// A query that a round makes, and for what.
@@ -49,6 +64,137 @@ pub(crate) struct Asked {
     pub is_order: bool,
 }
 
+impl Progress {
+    /// The next order of a device, if one is to be sent.
+    fn order_of<K: Keeper>(
+        &mut self,
+        office: &mut Office<K>,
+        conn: Conn,
+        at: usize,
+        station: &Station,
+    ) -> Result<Option<Frame>, OfficeError>
+        ensures { (slot : ℕ) → MatchResult result (Makes (Queries conn (Some slot)) office.old office.new) (λ _. Misses (Queries conn (Some slot)) office.old office.new) }
+    {
+        let Some(share) = self.shares.get_mut(at) else {
+            return Ok(None);
+        };
+        let Some(last) = share.order() else {
+            return Ok(None);
+        };
+        let query = send_among(office, conn, station.name.as_str(), last)?;
+        match query {
+            Some(_) => share.send(),
+            None => share.finish_orders(),
+        }
+        Ok(query)
+    }
+
+    /// The next read of a device that lacks a reading, if it is to be asked. One that was silent is asked one at a
+    /// time.
+    fn read_of<K: Keeper>(
+        &mut self,
+        office: &mut Office<K>,
+        conn: Conn,
+        slot: u32,
+        at: usize,
+        station: &Station,
+        window: &Window,
+    ) -> Result<Option<Frame>, OfficeError>
+        ensures { MatchResult result (Makes (Queries conn (Some slot)) office.old office.new) (λ _. Misses (Queries conn (Some slot)) office.old office.new) }
+    {
+        if station.is_silent && window.has(at) {
+            return Ok(None);
+        }
+        let Some(share) = self.shares.get_mut(at) else {
+            return Ok(None);
+        };
+        let Some(first) = share.read() else {
+            return Ok(None);
+        };
+        for place in first..station.reads.len() {
+            share.ask(place + 1);
+            let read = &station.reads[place];
+            let query = ask_among(office, conn, slot, station.name.as_str(), read)?;
+            if query.is_some() {
+                return Ok(query);
+            }
+        }
+        Ok(None)
+    }
+
+    /// The next order that is to be sent, in the order of the devices.
+    fn next_order<K: Keeper>(
+        &mut self,
+        office: &mut Office<K>,
+        conn: Conn,
+        stations: &[Station],
+    ) -> Result<Option<Asked>, OfficeError>
+        ensures { (slot : ℕ) → MatchResult result (λ asked. Makes (Queries conn (Some slot)) office.old office.new (query_of asked)) (λ _. Misses (Queries conn (Some slot)) office.old office.new) }
+    {
+        for (device, station) in stations.iter().enumerate() {
+            if let Some(query) = self.order_of(office, conn, device, station)? {
+                return Ok(Some(Asked {
+                    query,
+                    device,
+                    is_order: true,
+                }));
+            }
+        }
+        Ok(None)
+    }
+
+    /// The next read that is to be asked, in the order of the devices.
+    fn next_read<K: Keeper>(
+        &mut self,
+        office: &mut Office<K>,
+        conn: Conn,
+        slot: u32,
+        stations: &[Station],
+        window: &Window,
+    ) -> Result<Option<Asked>, OfficeError>
+        ensures { MatchResult result (λ asked. Makes (Queries conn (Some slot)) office.old office.new (query_of asked)) (λ _. Misses (Queries conn (Some slot)) office.old office.new) }
+    {
+        for (device, station) in stations.iter().enumerate() {
+            if let Some(query) = self.read_of(office, conn, slot, device, station, window)? {
+                return Ok(Some(Asked {
+                    query,
+                    device,
+                    is_order: false,
+                }));
+            }
+        }
+        Ok(None)
+    }
+
+    /// What is asked next: orders first.
+    fn next_asked<K: Keeper>(
+        &mut self,
+        office: &mut Office<K>,
+        conn: Conn,
+        slot: u32,
+        kind: Kind,
+        stations: &[Station],
+        window: &Window,
+    ) -> Result<Option<Asked>, OfficeError>
+        ensures { MatchResult result (λ asked. Makes (Queries conn (Some slot)) office.old office.new (query_of asked)) (λ _. Misses (Queries conn (Some slot)) office.old office.new) }
+    {
+        let order = self.next_order(office, conn, stations)?;
+        if order.is_some() || kind == Kind::OrdersAlone {
+            return Ok(order);
+        }
+        self.next_read(office, conn, slot, stations, window)
+    }
+
+    /// Orders came, of which the last one has this number: they are sent to the devices that are done.
+    fn wake(&mut self, last: u32, kind: Kind, stations: &[Station]) {
+        for (place, station) in stations.iter().enumerate() {
+            if let Some(share) = self.shares.get_mut(place) {
+                share.wake(last, kind.reads_of(station));
+            }
+        }
+    }
+}
+
 impl Round {
     /// A round of a slot over a line of so many devices begins.
     pub fn begin<K: Keeper>(
@@ -59,14 +205,17 @@ impl Round {
         kind: Kind,
         now: Moment,
     ) -> Result<Round, OfficeError>
-        ensures { GoesAlong Nothing office.old office.new }
+        ensures along { GoesAlong Nothing office.old office.new }
+        ensures slot { IfOk result (λ round. round.slot ≡ slot) }
     {
         let last = last_order(office)?;
         Ok(Round {
             slot,
             kind,
             began: now,
-            shares: vec![in alloc; Share::new(last); devices]?,
+            progress: Progress {
+                shares: vec![in alloc; Share::new(last); devices]?,
+            },
             has_asked: false,
             is_idle: false,
         })
@@ -94,122 +243,6 @@ impl Round {
         self.has_asked
     }
 
-    /// The next order of a device, if one is to be sent.
-    fn order_of<K: Keeper>(
-        &mut self,
-        office: &mut Office<K>,
-        conn: Conn,
-        at: usize,
-        station: &Station,
-    ) -> Result<Option<Frame>, OfficeError>
-        ensures { MatchResult result (Makes (Queries conn) office.old office.new) (λ _. Misses (Queries conn) office.old office.new) }
-    {
-        let Some(share) = self.shares.get_mut(at) else {
-            return Ok(None);
-        };
-        let Some(last) = share.order() else {
-            return Ok(None);
-        };
-        let query = send_among(office, conn, station.name.as_str(), last)?;
-        match query {
-            Some(_) => share.send(),
-            None => share.finish_orders(),
-        }
-        Ok(query)
-    }
-
-    /// The next read of a device that lacks a reading, if it is to be asked. One that was silent is asked one at a
-    /// time.
-    fn read_of<K: Keeper>(
-        &mut self,
-        office: &mut Office<K>,
-        conn: Conn,
-        at: usize,
-        station: &Station,
-        window: &Window,
-    ) -> Result<Option<Frame>, OfficeError>
-        ensures { MatchResult result (Makes (Queries conn) office.old office.new) (λ _. Misses (Queries conn) office.old office.new) }
-    {
-        if station.is_silent && window.has(at) {
-            return Ok(None);
-        }
-        let Some(share) = self.shares.get_mut(at) else {
-            return Ok(None);
-        };
-        let Some(first) = share.read() else {
-            return Ok(None);
-        };
-        for place in first..station.reads.len() {
-            share.ask(place + 1);
-            let read = &station.reads[place];
-            let query = ask_among(office, conn, self.slot, station.name.as_str(), read)?;
-            if query.is_some() {
-                return Ok(query);
-            }
-        }
-        Ok(None)
-    }
-
-    /// The next order that is to be sent, in the order of the devices.
-    fn next_order<K: Keeper>(
-        &mut self,
-        office: &mut Office<K>,
-        conn: Conn,
-        stations: &[Station],
-    ) -> Result<Option<Asked>, OfficeError>
-        ensures { MatchResult result (λ asked. Makes (Queries conn) office.old office.new (query_of asked)) (λ _. Misses (Queries conn) office.old office.new) }
-    {
-        for (device, station) in stations.iter().enumerate() {
-            if let Some(query) = self.order_of(office, conn, device, station)? {
-                return Ok(Some(Asked {
-                    query,
-                    device,
-                    is_order: true,
-                }));
-            }
-        }
-        Ok(None)
-    }
-
-    /// The next read that is to be asked, in the order of the devices.
-    fn next_read<K: Keeper>(
-        &mut self,
-        office: &mut Office<K>,
-        conn: Conn,
-        stations: &[Station],
-        window: &Window,
-    ) -> Result<Option<Asked>, OfficeError>
-        ensures { MatchResult result (λ asked. Makes (Queries conn) office.old office.new (query_of asked)) (λ _. Misses (Queries conn) office.old office.new) }
-    {
-        for (device, station) in stations.iter().enumerate() {
-            if let Some(query) = self.read_of(office, conn, device, station, window)? {
-                return Ok(Some(Asked {
-                    query,
-                    device,
-                    is_order: false,
-                }));
-            }
-        }
-        Ok(None)
-    }
-
-    /// What is asked next: orders first.
-    fn next_asked<K: Keeper>(
-        &mut self,
-        office: &mut Office<K>,
-        conn: Conn,
-        stations: &[Station],
-        window: &Window,
-    ) -> Result<Option<Asked>, OfficeError>
-        ensures { MatchResult result (λ asked. Makes (Queries conn) office.old office.new (query_of asked)) (λ _. Misses (Queries conn) office.old office.new) }
-    {
-        let order = self.next_order(office, conn, stations)?;
-        if order.is_some() || self.kind == Kind::OrdersAlone {
-            return Ok(order);
-        }
-        self.next_read(office, conn, stations, window)
-    }
-
     /// What is asked next, beside what waits.
     pub fn next<K: Keeper>(
         &mut self,
@@ -218,33 +251,31 @@ impl Round {
         stations: &Stations,
         window: &Window,
     ) -> Result<Option<Asked>, OfficeError>
-        ensures { MatchResult result (λ asked. Makes (Queries conn) office.old office.new (query_of asked)) (λ _. Misses (Queries conn) office.old office.new) }
+        ensures made { MatchResult result (λ asked. Makes (Queries conn (Some self.old.slot)) office.old office.new (query_of asked)) (λ _. Misses (Queries conn (Some self.old.slot)) office.old office.new) }
+        ensures slot { self.new.slot ≡ self.old.slot }
     {
-        let asked = self.next_asked(office, conn, stations.as_slice(), window)?;
+        let (slot, kind) = (self.slot, self.kind);
+        let stations = stations.as_slice();
+        let asked = self
+            .progress
+            .next_asked(office, conn, slot, kind, stations, window)?;
         self.is_idle = asked.is_none();
         self.has_asked |= asked.is_some();
         Ok(asked)
     }
 
-    /// The reads of a device that have a turn.
-    fn reads_of(&self, station: &Station) -> usize {
-        match self.kind {
-            Kind::Whole => station.reads.len(),
-            Kind::OrdersAlone => 0,
-        }
-    }
-
     /// Whether a device was passed over before all that it is asked had its turn.
     pub fn has_left(&self, stations: &Stations) -> bool {
-        self.shares
-            .iter()
-            .zip(stations.as_slice())
-            .any(|(share, station)| share.is_left(self.reads_of(station)))
+        self.progress.shares.iter().zip(stations.as_slice()).any(|(share, station)| share.is_left(
+            self.kind.reads_of(station),
+        ))
     }
 
     /// A device answered, to what was sent for an order or to something else; none where the store refused the answer.
-    pub fn hear(&mut self, device: usize, is_order: bool, arrival: Option<Arrival>) {
-        if let Some(share) = self.shares.get_mut(device) {
+    pub fn hear(&mut self, device: usize, is_order: bool, arrival: Option<Arrival>)
+        ensures { self.new.slot ≡ self.old.slot }
+    {
+        if let Some(share) = self.progress.shares.get_mut(device) {
             share.resume();
             if is_order {
                 share.settle(arrival);
@@ -253,8 +284,10 @@ impl Round {
     }
 
     /// A device didn't answer in time.
-    pub fn pass(&mut self, device: usize) {
-        if let Some(share) = self.shares.get_mut(device) {
+    pub fn pass(&mut self, device: usize)
+        ensures { self.new.slot ≡ self.old.slot }
+    {
+        if let Some(share) = self.progress.shares.get_mut(device) {
             share.pass();
         }
     }
@@ -265,15 +298,12 @@ impl Round {
         office: &mut Office<K>,
         stations: &Stations,
     ) -> Result<(), OfficeError>
-        ensures { GoesAlong Nothing office.old office.new }
+        ensures along { GoesAlong Nothing office.old office.new }
+        ensures slot { self.new.slot ≡ self.old.slot }
     {
         let last = last_order(office)?;
-        for (place, station) in stations.as_slice().iter().enumerate() {
-            let reads = self.reads_of(station);
-            if let Some(share) = self.shares.get_mut(place) {
-                share.wake(last, reads);
-            }
-        }
+        let kind = self.kind;
+        self.progress.wake(last, kind, stations.as_slice());
         Ok(())
     }
 }

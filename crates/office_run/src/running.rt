@@ -7,9 +7,9 @@ ghost use Rattle.office_core.specs.Proceeding.{GoesAlong, Nothing};
 ghost use Rattle.office_run.specs.Callers.{AreEmpty, session_at};
 ghost use Rattle.office_run.specs.Deeds.{GoesBy};
 ghost use Rattle.office_run.specs.Doings.{Runs};
-ghost use Rattle.office_run.specs.Lines.{AreDown, Keeps, all_terms, site_terms, terms_of, wire_at};
+ghost use Rattle.office_run.specs.Lines.{AreDown, Keeps, all_terms, site_terms, state_at, terms_of};
 ghost use Rattle.office_run.specs.Sessions.{Acting, AreServed, Exchanges};
-ghost use Rattle.office_run.specs.Wires.{AreWired, Wired};
+ghost use Rattle.office_run.specs.Wires.{AreWired, Lined};
 
 use crate::ahead::Ahead;
 use crate::caller::{Hold, News, orders_of};
@@ -412,7 +412,7 @@ impl<K: Keeper, S: Sockets> Called<Running<'_, K, S>> for Line {
     // The office and the sockets are the same ones, and what is done with them is of this line alone, and what its connection allows.
     ghost steps = { λ line old _ line' new. (new.office.ghost_name ≡ old.office.ghost_name) × (new.sockets.ghost_name ≡ old.sockets.ghost_name)
         × (line'.place ≡ line.place) × (terms_of line' ≡ terms_of line)
-        × Wired (terms_of line) (source.Line line.place) old.office.now new.office.now (λ acts. S.acts old.sockets.now acts new.sockets.now) (wire_at line) (wire_at line') };
+        × Lined (terms_of line) (source.Line line.place) old.office.now new.office.now (λ acts. S.acts old.sockets.now acts new.sockets.now) (state_at line) (state_at line') };
 
     fn call(&mut self, world: &mut Running<'_, K, S>) -> bool {
         if !world.admit_line(self) {

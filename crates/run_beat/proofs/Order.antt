@@ -23,7 +23,7 @@ pub in_order : (first last : Beat) (calls : List (Option ℕ)) → Calls first c
 in_order first last [] called = (tt, tt)
 in_order first last (None ∷ calls) called =
     let before = in_order first called.0 calls called.1 in
-    (before.0, rises (begun_by calls) called.0.from last.from called.2 before.1)
+    (before.0, rises (begun_by calls) called.0.from last.from (omega (arith, called.2)) before.1)
 in_order first last (Some slot ∷ calls) called =
     let before = in_order first called.0 calls called.1 in
-    (follows (begun_by calls) called.0.from slot called.2.0 before.1 before.0, called.2.1)
+    (follows (begun_by calls) called.0.from slot called.2.0 before.1 before.0, omega (arith, called.2.1))

@@ -43,8 +43,8 @@ KeepsTimes old new = (new.timeout ≡ old.timeout) × (new.delay ≡ old.delay)
 
 -- a call that begins this slot, or none
 abbrev pub Begins : Beat → Option ℕ → Beat → Type 0
-Begins old None new = old.from ≤ new.from
-Begins old (Some slot) new = (old.from ≤ slot) × (slot ≤ new.from)
+Begins old None new = new.from ≡ old.from
+Begins old (Some slot) new = (old.from ≤ slot) × (new.from ≡ slot)
 
 -- calls one behind another, the last one first, with the slots that they begin
 abbrev pub Calls : Beat → List (Option ℕ) → Beat → Type 0

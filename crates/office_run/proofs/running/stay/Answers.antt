@@ -1,7 +1,7 @@
 use Rattle.std.proofs.Common.{List, ap, sym, subst}
 use Rattle.office_run.specs.Callers.{AreEmpty, session_at}
 use Rattle.office_run.specs.Deeds.{GoesBy}
-use Rattle.office_run.specs.Lines.{AreDown, terms_of, all_terms, wire_at}
+use Rattle.office_run.specs.Lines.{AreDown, terms_of, all_terms, state_at}
 use Rattle.office_run.specs.Sessions.{AreServed}
 use Rattle.office_run.specs.Wires.{AreWired}
 use Rattle.office_run.specs.declared.line.Line.{Line}
@@ -20,7 +20,7 @@ returns g c =
     let down : AreDown 0 lines = subst (λ (some : List Line). AreDown 0 some) (sym c.deref_mut.ensures.value) c.requires.lines in
     let empty : AreEmpty 0 places = subst (λ (some : List Place). AreEmpty 0 some) (sym c.deref_mut-2.ensures.value) c.requires.places in
     let went = turns_go {W = Running g.row.K.Denot g.row.S.Denot g.K.Neighbours} (λ world. world.office.now) (λ world. world.sockets.now) (λ world. world.office.ghost_name) (λ world. world.sockets.ghost_name)
-    g.S.Sockets.acts g.S.Sockets.rests g.S.Sockets.joins (λ (line : Line). line.place) terms_of wire_at (λ (place : Place). place.at) session_at _ _ _
+    g.S.Sockets.acts g.S.Sockets.rests g.S.Sockets.joins (λ (line : Line). line.place) terms_of state_at (λ (place : Place). place.at) session_at _ _ _
     (λ line one more line' two step. step) (λ place one more place' two step. step)
     (λ one more result two waited. (ap (λ office. office.ghost_name) waited.0, waited.1, ap (λ office. office.now) waited.0, waited.2))
     ran.0 lines places _ _ _ _ ran.1.0 (numbered_down 0 lines down, numbered_empty 0 places empty) in (
@@ -40,7 +40,7 @@ returns-in_err-run g c =
     let down : AreDown 0 lines = subst (λ (some : List Line). AreDown 0 some) (sym c.deref_mut.ensures.value) c.requires.lines in
     let empty : AreEmpty 0 places = subst (λ (some : List Place). AreEmpty 0 some) (sym c.deref_mut-2.ensures.value) c.requires.places in
     let went = turns_fail {W = Running g.row.K.Denot g.row.S.Denot g.K.Neighbours} (λ world. world.office.now) (λ world. world.sockets.now) (λ world. world.office.ghost_name) (λ world. world.sockets.ghost_name)
-    g.S.Sockets.acts g.S.Sockets.rests g.S.Sockets.joins (λ (line : Line). line.place) terms_of wire_at (λ (place : Place). place.at) session_at _ _ _
+    g.S.Sockets.acts g.S.Sockets.rests g.S.Sockets.joins (λ (line : Line). line.place) terms_of state_at (λ (place : Place). place.at) session_at _ _ _
     (λ line one more line' two step. step) (λ place one more place' two step. step)
     (λ one more result two waited. (ap (λ office. office.ghost_name) waited.0, waited.1, ap (λ office. office.now) waited.0, waited.2))
     ran.0 lines _ _ places _ _ _ _ _ _ ran.1.3 ran.1.4 (numbered_down 0 lines down, numbered_empty 0 places empty) in (

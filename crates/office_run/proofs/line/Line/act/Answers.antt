@@ -1,13 +1,15 @@
-use Rattle.std.proofs.Common.{refl}
-use Rattle.office_run.specs.Lines.{terms_of, source_of, wire_at}
+use Rattle.std.proofs.Common.{false, Ok, refl}
+use Rattle.office_run.specs.Lines.{source_of, terms_of, wire_at}
 use Rattle.office_run.specs.Wires.{WireMoves}
+use Rattle.office_run.proofs.Lines.{advances_of, tends_silent}
 use Rattle.office_run.proofs.Passing.{part_acting}
 use Rattle.office_run.proofs.line.Line.act.Goals as goal
 
 pub returns-in-Down : goal.returns-in-Down
 returns-in-Down g c =
     let line = c.args.self.now in
-    let begun = c.begin.new in (
+    let begun = c.begin.new in
+    advances_of (Ok false) line begun.self c.args.office.now c.args.office.now (λ acts. g.S.Sockets.acts c.args.sockets.now acts begun.sockets) (
       c.begin.ensures.same,
       (
         wire_at begun.self,
@@ -15,3 +17,10 @@ returns-in-Down g c =
         refl,
       ),
     )
+
+pub returns-in-Begun : goal.returns-in-Begun
+returns-in-Begun g c =
+    let line = c.args.self.now in
+    let sockets = c.args.sockets.now in
+    advances_of c.connect.result line c.connect.new.self c.args.office.now c.connect.new.office (λ acts. g.S.Sockets.acts sockets acts sockets)
+    (tends_silent c.connect.result line c.connect.new.self c.args.office.now c.connect.new.office (λ acts. g.S.Sockets.acts sockets acts sockets) (g.S.Sockets.rests sockets) c.connect.ensures)

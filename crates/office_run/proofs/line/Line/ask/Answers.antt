@@ -7,4 +7,4 @@ pub returns-in-Up : goal.returns-in-Up
 returns-in-Up g c =
     let line = c.args.self.now in
     let works = c.ask.ensures (terms_of line) (source_of line) refl in
-    (record { place = refl; name = refl; most = refl }, (works.0, over_link line c.args.office.now c.ask.new.office (λ acts. acts ≡ []) c.in-Up.link works.0 c.in-Up.is works.1, works.2))
+    (record { place = refl; name = refl; most = refl; from = refl }, (works.0, over_link line c.args.office.now c.ask.new.office (λ acts. acts ≡ []) c.in-Up.link works.0 c.in-Up.is works.1, works.2))

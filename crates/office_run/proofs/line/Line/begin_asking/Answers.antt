@@ -1,16 +1,16 @@
-use Rattle.std.proofs.Common.{◌≡◌, Ok, [], refl}
-use Rattle.office_run.proofs.Lines.{tends_kept, tends_next}
+use Rattle.std.proofs.Common.{◌≡◌, Bool, []}
+use Rattle.office_run.proofs.Lines.{advances_next, advances_of, advances_on}
 use Rattle.office_run.proofs.line.Line.begin_asking.Goals as goal
 
 pub returns-in_err-has_begun : goal.returns-in_err-has_begun
 returns-in_err-has_begun g c =
-    tends_kept c.from_residual.result c.args.self.now c.start.new.self c.args.office.now c.start.new.office (λ acts. acts ≡ []) refl c.start.ensures.keeps c.start.ensures.along
+    advances_on Bool _ c.in_err-has_begun.field-0.0 c.from_residual.result c.args.self.now c.start.new.self c.args.office.now c.start.new.office (λ acts. acts ≡ []) c.from_residual.ensures.0
+    c.from_residual.ensures.1 c.in_err-has_begun.ensures
 
 pub returns-then-not-has_begun : goal.returns-then-not-has_begun
-returns-then-not-has_begun g c =
-    tends_kept (Ok (tt {0})) c.args.self.now c.start.new.self c.args.office.now c.start.new.office (λ acts. acts ≡ []) refl c.start.ensures.keeps c.start.ensures.along
+returns-then-not-has_begun g c = c.in_ok-has_begun.ensures
 
 pub returns : goal.returns
 returns g c =
-    tends_next (tt {0}) c.ask.result c.args.self.now c.start.new.self c.ask.new.self c.args.office.now c.start.new.office c.ask.new.office
-    (tends_kept (Ok (tt {0})) c.args.self.now c.start.new.self c.args.office.now c.start.new.office (λ acts. acts ≡ []) refl c.start.ensures.keeps c.start.ensures.along) c.ask.ensures
+    advances_next c.in_ok-has_begun.has_begun c.ask.result c.args.self.now c.start.new.self c.ask.new.self c.args.office.now c.start.new.office c.ask.new.office c.in_ok-has_begun.ensures
+    (advances_of c.ask.result c.start.new.self c.ask.new.self c.start.new.office c.ask.new.office (λ acts. acts ≡ []) c.ask.ensures)

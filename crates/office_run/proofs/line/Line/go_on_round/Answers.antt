@@ -1,6 +1,5 @@
-use Rattle.std.proofs.Common.{◌≡◌, Ok, [], refl}
-use Rattle.office_core.proofs.Proceeding.{along_still}
-use Rattle.office_run.proofs.Lines.{tends_given, tends_kept, tends_next, tends_on}
+use Rattle.std.proofs.Common.{◌≡◌, Ok, []}
+use Rattle.office_run.proofs.Lines.{tends_given, tends_next, tends_on, tends_settled}
 use Rattle.office_run.proofs.line.Line.go_on_round.Goals as goal
 
 pub returns-in_err-go_on_asking : goal.returns-in_err-go_on_asking
@@ -20,4 +19,4 @@ returns g c =
     tends_next (tt {0}) c.settle.result line c.go_on_asking.new.self c.settle.new.self office asked asked
     (tends_next (tt {0}) (Ok (tt {0})) line c.give_up.new.self c.go_on_asking.new.self office office asked
     (tends_given line c.give_up.new.self office c.give_up.ensures.same c.give_up.ensures.given) c.in_ok-go_on_asking.ensures)
-    (tends_kept c.settle.result c.go_on_asking.new.self c.settle.new.self asked asked (λ acts. acts ≡ []) refl c.settle.ensures (along_still asked))
+    (tends_settled c.settle.result c.go_on_asking.new.self c.settle.new.self asked c.settle.ensures.same c.settle.ensures.settles)

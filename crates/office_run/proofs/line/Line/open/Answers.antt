@@ -7,14 +7,14 @@ use Rattle.office_run.proofs.line.Line.open.Goals as goal
 pub returns-in-Err : goal.returns-in-Err
 returns-in-Err g c =
     let line = c.args.self.now in (
-      record { place = refl; name = refl; most = refl },
+      record { place = refl; name = refl; most = refl; from = refl },
       (wire_at line, unopened_so line c.args.office.now c.open_line.new.office c.line.result.now c.line.ensures c.requires c.in-Err.ensures.made, tt {0}),
     )
 
 pub returns-then-not-is_of_answers : goal.returns-then-not-is_of_answers
 returns-then-not-is_of_answers g c =
     let line = c.args.self.now in (
-      record { place = c.tell_up.ensures.0.place; name = c.tell_up.ensures.0.name; most = c.tell_up.ensures.0.most },
+      record { place = c.tell_up.ensures.0.place; name = c.tell_up.ensures.0.name; most = c.tell_up.ensures.0.most; from = c.tell_up.ensures.0.from ∙ c.open.ensures.begins },
       (
         Up (fresh c.in-Ok.conn),
         opened_so line c.args.office.now c.open_line.new.office c.in-Ok.conn c.line.result.now c.line.ensures c.requires c.in-Ok.ensures.made,
@@ -25,7 +25,7 @@ returns-then-not-is_of_answers g c =
 pub returns-else-not-is_of_answers : goal.returns-else-not-is_of_answers
 returns-else-not-is_of_answers g c =
     let line = c.args.self.now in (
-      record { place = refl; name = refl; most = refl },
+      record { place = refl; name = refl; most = refl; from = c.open.ensures.begins },
       (
         Up (fresh c.in-Ok.conn),
         opened_so line c.args.office.now c.open_line.new.office c.in-Ok.conn c.line.result.now c.line.ensures c.requires c.in-Ok.ensures.made,

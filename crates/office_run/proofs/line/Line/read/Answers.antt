@@ -15,7 +15,7 @@ returns-in_err-feed-in-Bytes g c =
     let at = standing_of c.in-Up.link in
     let bytes = take c.in-Bytes.count c.read.new.piece in
     let wire = Up (record at { unread = at.unread ++ bytes }) in (
-      record { place = refl; name = refl; most = refl },
+      record { place = refl; name = refl; most = refl; from = refl },
       (
         wire,
         by_link line from (λ acts. g.S.Sockets.acts c.args.sockets.now acts c.read.new.self) c.in-Up.link wire c.in-Up.is c.source-source.ensures
@@ -29,7 +29,7 @@ returns-in-Ended g c =
     let line = c.args.self.now in
     let from = c.source-source.result in
     let at = standing_of c.in-Up.link in (
-      record { place = refl; name = refl; most = refl },
+      record { place = refl; name = refl; most = refl; from = refl },
       (
         Up at,
         by_link line from (λ acts. g.S.Sockets.acts c.args.sockets.now acts c.read.new.self) c.in-Up.link (Up at) c.in-Up.is c.source-source.ensures

@@ -8,7 +8,7 @@ use Rattle.office_run.proofs.line.Line.take_one.Goals as goal
 pub returns-in_err-arrival : goal.returns-in_err-arrival
 returns-in_err-arrival g c =
     let line = c.args.self.now in (
-      record { place = refl; name = c.take.ensures.name; most = refl },
+      record { place = refl; name = c.take.ensures.name; most = refl; from = refl },
       (
         wire_of c.take.new.self,
         over_link line c.args.office.now c.take.new.office (λ acts. acts ≡ []) c.in-Up.link (wire_of c.take.new.self) c.in-Up.is (c.take.ensures.wired (terms_of line) (source_of line)),
@@ -19,7 +19,7 @@ returns-in_err-arrival g c =
 pub returns-in-Some-Answer : goal.returns-in-Some-Answer
 returns-in-Some-Answer g c =
     let line = c.args.self.now in (
-      record { place = c.tell_up.ensures.0.place; name = c.tell_up.ensures.0.name ∙ c.take.ensures.name; most = c.tell_up.ensures.0.most },
+      record { place = c.tell_up.ensures.0.place; name = c.tell_up.ensures.0.name ∙ c.take.ensures.name; most = c.tell_up.ensures.0.most; from = c.tell_up.ensures.0.from },
       (
         wire_of c.take.new.self,
         over_link line c.args.office.now c.take.new.office (λ acts. acts ≡ []) c.in-Up.link (wire_of c.take.new.self) c.in-Up.is (c.take.ensures.wired (terms_of line) (source_of line)),
@@ -30,7 +30,7 @@ returns-in-Some-Answer g c =
 pub returns-in-Some-Refused : goal.returns-in-Some-Refused
 returns-in-Some-Refused g c =
     let line = c.args.self.now in (
-      record { place = refl; name = c.take.ensures.name; most = refl },
+      record { place = refl; name = c.take.ensures.name; most = refl; from = refl },
       (
         wire_of c.take.new.self,
         over_link line c.args.office.now c.take.new.office (λ acts. acts ≡ []) c.in-Up.link (wire_of c.take.new.self) c.in-Up.is (c.take.ensures.wired (terms_of line) (source_of line)),
@@ -41,7 +41,7 @@ returns-in-Some-Refused g c =
 pub returns-in-Some-Repeat : goal.returns-in-Some-Repeat
 returns-in-Some-Repeat g c =
     let line = c.args.self.now in (
-      record { place = refl; name = c.take.ensures.name; most = refl },
+      record { place = refl; name = c.take.ensures.name; most = refl; from = refl },
       (
         wire_of c.take.new.self,
         over_link line c.args.office.now c.take.new.office (λ acts. acts ≡ []) c.in-Up.link (wire_of c.take.new.self) c.in-Up.is (c.take.ensures.wired (terms_of line) (source_of line)),
@@ -52,7 +52,7 @@ returns-in-Some-Repeat g c =
 pub returns-in-Some-Noise : goal.returns-in-Some-Noise
 returns-in-Some-Noise g c =
     let line = c.args.self.now in (
-      record { place = refl; name = c.take.ensures.name; most = refl },
+      record { place = refl; name = c.take.ensures.name; most = refl; from = refl },
       (
         wire_of c.take.new.self,
         over_link line c.args.office.now c.take.new.office (λ acts. acts ≡ []) c.in-Up.link (wire_of c.take.new.self) c.in-Up.is (c.take.ensures.wired (terms_of line) (source_of line)),
@@ -63,7 +63,7 @@ returns-in-Some-Noise g c =
 pub returns-in-None : goal.returns-in-None
 returns-in-None g c =
     let line = c.args.self.now in (
-      record { place = refl; name = c.take.ensures.name; most = refl },
+      record { place = refl; name = c.take.ensures.name; most = refl; from = refl },
       (
         wire_of c.take.new.self,
         over_link line c.args.office.now c.take.new.office (λ acts. acts ≡ []) c.in-Up.link (wire_of c.take.new.self) c.in-Up.is (c.take.ensures.wired (terms_of line) (source_of line)),

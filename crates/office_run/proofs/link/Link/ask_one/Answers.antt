@@ -4,7 +4,7 @@ use Rattle.office_net.specs.Querying.{Makes}
 use Rattle.office_run.specs.declared.loss.Loss.TheVariants.{Memory}
 use Rattle.office_run.specs.declared.round.Asked.{Asked}
 use Rattle.office_run.specs.declared.window.Query.{Query as Waiting}
-use Rattle.office_run.specs.Links.{asked_in, standing_of, wire_of}
+use Rattle.office_run.specs.Links.{asked_in, slot_of, standing_of, wire_of}
 use Rattle.office_run.specs.Rounds.{query_of}
 use Rattle.office_run.specs.Wires.{Queries, Sends, Standing, Up, WireMoves, sent}
 use Rattle.office_run.proofs.Passing.{part_asked}
@@ -22,7 +22,7 @@ pub returns-in_default : goal.returns-in_default
 returns-in_default g c = λ terms source is. (
   wire_of c.args.self.now,
   part_asked (WireMoves terms) source c.args.office.now c.next.new.office (λ acts. acts ≡ []) (wire_of c.args.self.now)
-      (made_none (Queries c.args.self.now.conn) c.args.office.now c.next.new.office _ (none_asked _ (ap is_some c.in_default.is)) c.in_ok-asked.ensures.made) refl,
+      (made_none (Queries c.args.self.now.conn (slot_of c.args.self.now.round)) c.args.office.now c.next.new.office _ (none_asked _ (ap is_some c.in_default.is)) c.in_ok-asked.ensures.made) refl,
   ap Up c.next.ensures.standing,
 )
 
@@ -35,7 +35,7 @@ returns-in_err-send g c = λ terms source is.
     let asked : Waiting = record { transaction = query.transaction; device = c.in-Some.asked.device; is_order = c.in-Some.asked.is_order; sent = c.args.now } in (
       Up (sent query asked at),
       wired_query terms source c.args.office.now c.next.new.office at query (Up (sent query asked at)) few (asked, refl, refl)
-          (subst (λ (some : Option Asked). Makes (Queries c.args.self.now.conn) c.args.office.now c.next.new.office (query_of some)) c.in-Some.is c.in_ok-asked.ensures.made),
+          (subst (λ (some : Option Asked). Makes (Queries c.args.self.now.conn (slot_of c.args.self.now.round)) c.args.office.now c.next.new.office (query_of some)) c.in-Some.is c.in_ok-asked.ensures.made),
       shown_lost _ c.from_residual-in_err-send.result Memory (Up (sent query asked at)) (wire_of c.send.new.self) c.from_residual-in_err-send.ensures.1,
     )
 
@@ -48,6 +48,6 @@ returns g c = λ terms source is.
       wire_of c.send.new.self,
       wired_query terms source c.args.office.now c.next.new.office at query (wire_of c.send.new.self) few
           (subst (λ (some : Standing). Sends some query (wire_of c.send.new.self)) c.next.ensures.standing c.in_ok-send.ensures)
-          (subst (λ (some : Option Asked). Makes (Queries c.args.self.now.conn) c.args.office.now c.next.new.office (query_of some)) c.in-Some.is c.in_ok-asked.ensures.made),
+          (subst (λ (some : Option Asked). Makes (Queries c.args.self.now.conn (slot_of c.args.self.now.round)) c.args.office.now c.next.new.office (query_of some)) c.in-Some.is c.in_ok-asked.ensures.made),
       refl,
     )

@@ -6,22 +6,22 @@ use Rattle.office_net.proofs.Querying.{nothing_then_makes, nothing_then_misses, 
 use Rattle.office_net.specs.Querying.{Makes}
 use Rattle.office_run.specs.Wires.{Queries}
 use Rattle.office_run.proofs.Wires.{made_none}
-use Rattle.office_run.proofs.round.Round.next_order.Goals as goal
+use Rattle.office_run.proofs.round.Progress.next_read.Goals as goal
 
 pub loop-device-init : goal.loop-device-init
 loop-device-init g c = along_still c.args.office.now
 
 pub loop-device-preserved : goal.loop-device-preserved
 loop-device-preserved g c =
-    along_then c.args.office.now c.loop-device.office c.order_of.new.office c.loop-device.invariant
-    (made_none (Queries c.args.conn) c.loop-device.office c.order_of.new.office _ (ap is_some c.in_default.is) c.in_ok-query.ensures)
+    along_then c.args.office.now c.loop-device.office c.read_of.new.office c.loop-device.invariant
+    (made_none (Queries c.args.conn (Some c.args.slot)) c.loop-device.office c.read_of.new.office _ (ap is_some c.in_default.is) c.in_ok-query.ensures)
 
 pub returns-in_err-query : goal.returns-in_err-query
 returns-in_err-query g c =
     told_err c.from_residual.result _ _ c.from_residual.ensures.0
-    (nothing_then_misses (Queries c.args.conn) c.args.office.now c.loop-device.office c.order_of.new.office c.loop-device.invariant c.in_err-query.ensures)
+    (nothing_then_misses (Queries c.args.conn (Some c.args.slot)) c.args.office.now c.loop-device.office c.read_of.new.office c.loop-device.invariant c.in_err-query.ensures)
 
 pub returns-in-Some : goal.returns-in-Some
 returns-in-Some g c =
-    nothing_then_makes (Queries c.args.conn) c.args.office.now c.loop-device.office c.order_of.new.office (Some c.in-Some.query) c.loop-device.invariant
-    (subst (λ (told : Option Frame). Makes (Queries c.args.conn) c.loop-device.office c.order_of.new.office told) c.in-Some.is c.in_ok-query.ensures)
+    nothing_then_makes (Queries c.args.conn (Some c.args.slot)) c.args.office.now c.loop-device.office c.read_of.new.office (Some c.in-Some.query) c.loop-device.invariant
+    (subst (λ (told : Option Frame). Makes (Queries c.args.conn (Some c.args.slot)) c.loop-device.office c.read_of.new.office told) c.in-Some.is c.in_ok-query.ensures)
