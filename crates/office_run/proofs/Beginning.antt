@@ -8,11 +8,10 @@ use Rattle.poll_book.specs.declared.keeper.Neighbours.{Ghosts}
 use Rattle.run_beat.specs.declared.sockets.Source.TheVariants as source
 use Rattle.run_beat.specs.Acts.{Act}
 use Rattle.office_core.specs.declared.office.Office.{Office}
-use Rattle.office_core.specs.History.{History}
 use Rattle.office_run.specs.declared.line.Line.{Line}
 use Rattle.office_run.specs.declared.place.Place.{Place}
 use Rattle.office_run.specs.Callers.{AreEmpty, session_at}
-use Rattle.office_run.specs.Deeds.{Deed, GoesBy, Passes}
+use Rattle.office_run.specs.Deeds.{GoesBy, Passes}
 use Rattle.office_run.specs.Lines.{AreDown, all_terms, state_at, terms_in, terms_of}
 use Rattle.office_run.specs.Sessions.{AreServed, Free, Session, Through}
 use Rattle.office_run.specs.Wires.{AreWired, Down, LineMoves, State, Terms, terms_at}

@@ -15,9 +15,7 @@ use Rattle.office_core.proofs.Proceeding.{along_still}
 use Rattle.office_run.specs.declared.line.Line.{Line}
 use Rattle.office_run.specs.declared.link.Connection.TheVariants as connection
 use Rattle.office_run.specs.declared.link.Link.{Link}
-use Rattle.office_run.specs.declared.loss.Loss.{Loss}
 use Rattle.office_run.specs.declared.loss.Stop.{Stop}
-use Rattle.office_run.specs.declared.loss.Stop.TheVariants.{Lost}
 use Rattle.office_run.specs.Lines.{Advances, Handles, IsOne, IsSame, Keeps, Tends, source_of, state_at, terms_of, wire_at, wire_in}
 use Rattle.office_run.specs.Links.{standing_of, wire_of}
 use Rattle.office_run.specs.Wires.{Begun, Down, GivesUp, IsShown, LineMoves, Lined, Settles, State, Terms, Up, Wire, WireMoves, Wired, WiredBy, fresh, without}

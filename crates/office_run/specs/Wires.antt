@@ -1,5 +1,5 @@
 -- How a line's connection stands, deed by deed.
-use Rattle.std.specs.Prelude.{◌≡◌, ◌⊎◌, ◌≤◌, ◌<◌, ⊤, ℕ, zero, suc, Bool, true, false, IsSome, List, [], ◌∷◌, ◌++◌, length, Option, Some, None, Result, Ok, Err}
+use Rattle.std.specs.Prelude.{◌≡◌, ◌⊎◌, ◌≤◌, ◌<◌, ⊤, ℕ, zero, suc, Bool, true, false, IsSome, List, [], ◌∷◌, ◌++◌, length, Option, Some, None, Result, Err}
 use Rattle.std.specs.List.{filter}
 use Rattle.mb_mbap.specs.declared.frame.Frame.{Frame}
 use Rattle.mb_mbap.specs.Stream.{fault_of, spelled}

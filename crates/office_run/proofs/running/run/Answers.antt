@@ -1,4 +1,4 @@
-use Rattle.std.proofs.Common.{ℕ, List, ◌∙◌, ap, refl, subst}
+use Rattle.std.proofs.Common.{List, ◌∙◌, ap, refl, subst}
 use Rattle.office_run.specs.Deeds.{GoesBy}
 use Rattle.office_core.specs.Offices.{site_of}
 use Rattle.office_run.specs.Lines.{site_terms}

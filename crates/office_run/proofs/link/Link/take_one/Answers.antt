@@ -1,4 +1,4 @@
-use Rattle.std.proofs.Common.{◌≡◌, Result, [], ◌∙◌, ap, sym, subst}
+use Rattle.std.proofs.Common.{◌≡◌, [], ◌∙◌, ap, sym, subst}
 use Rattle.office_core.specs.declared.event.EventAnswer.TheVariants.{Arrived}
 use Rattle.office_core.specs.Errors.{is_of_store}
 use Rattle.office_core.specs.Offices.{arrived}

@@ -1,4 +1,4 @@
-use Rattle.std.proofs.Common.{◌≡◌, [], ℕ, List, ◌∙◌, ap, refl, sym, subst}
+use Rattle.std.proofs.Common.{◌≡◌, [], ◌∙◌, ap, refl, sym, subst}
 use Rattle.run_beat.specs.declared.sockets.Source.TheVariants as source
 use Rattle.office_run.specs.Lines.{terms_of, state_at}
 use Rattle.office_run.specs.Wires.{LineMoves, Lined, State}
