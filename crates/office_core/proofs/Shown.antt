@@ -1,6 +1,7 @@
 -- Rows of a point, and what is shown of them.
-use Rattle.std.proofs.Common.{◌≡◌, ℕ, Bool, true, List, [], ◌∷◌, ◌++◌, map, eqb, leb, sym, ap, subst, ◌∙◌}
-use Rattle.std.specs.Prelude.{◌&&◌, All}
+use Rattle.std.proofs.Common.{◌≡◌, ℕ, ◌+◌, ◌-◌, Bool, true, List, [], ◌∷◌, ◌++◌, map, take, eqb, leb, Option, None, Some, MatchOption, sym, ap, subst, ◌∙◌}
+use Rattle.std.specs.Prelude.{◌&&◌, All, option_map, slice_get}
+use Rattle.std.specs.Option.{option_to_list}
 use Rattle.std.proofs.lemmas.Bool.{and_parts, eqb-true}
 use Rattle.std.proofs.lemmas.List.{map-append}
 use Rattle.std.proofs.lemmas.List.Elements.{All-head, All-tail, All-cons, All-nil, All-weaker, filter_passes}
@@ -9,7 +10,7 @@ use Rattle.poll_book.specs.declared.rows.ReadingRow.{ReadingRow}
 use Rattle.poll_book.specs.Changes.{as_row, as_rows}
 use Rattle.poll_book.specs.Tables.{Key, Readings, Voids, is_between, is_void, readings_between}
 use Rattle.office_core.specs.declared.showing.ShownReading.{ShownReading}
-use Rattle.office_core.specs.Showing.{AreOf, as_shown, with_mark, with_marks}
+use Rattle.office_core.specs.Showing.{AreOf, Shown, as_shown, with_mark, with_marks}
 
 -- what holds of each image holds of each element
 all_mapped : {X Y : Type 0} (P : Y → Type 0) (f : X → Y) (xs : List X) → All P (map f xs) → All (λ x. P (f x)) xs
@@ -45,3 +46,20 @@ shown_more voids rows told row voided so_far is =
     ∙ (λ i. so_far i ++ (as_row row, is i) ∷ [])
     ∙ sym (map-append (with_mark voids) (as_rows rows) (as_row row ∷ []))
     ∙ ap (with_marks voids) (sym (map-append as_row rows (row ∷ [])))
+
+-- the last of rows that show one is that one
+pub popped : (rows left : List ShownReading) (n m : ℕ) (last : Option ShownReading) (one : Shown) → rows ≡ left ++ option_to_list last → left ≡ take (n - 1) rows
+    → MatchOption last ((n ≡ 0) × (m ≡ 0)) (λ _. m + 1 ≡ n) → map as_shown rows ≡ one ∷ [] → option_map as_shown last ≡ Some one
+popped rows left n m None one is rest none shown =
+    let nothing : left ≡ [] = rest ∙ ap (λ k. take (k - 1) rows) none.0 in
+    let empty : map as_shown rows ≡ [] = ap (map as_shown) (is ∙ ap (λ l. l ++ []) nothing) in
+    absurd (cc)
+popped rows left n m (Some x) one is rest some shown = by left (sym (ap (map as_shown) is) ∙ shown)
+  where
+    not_empty : (ys : List ShownReading) → map as_shown (ys ++ x ∷ []) ≡ [] → ⊥
+    not_empty [] none = absurd (cc)
+    not_empty (y ∷ ys) none = absurd (cc)
+
+    by : (front : List ShownReading) → map as_shown (front ++ x ∷ []) ≡ one ∷ [] → Some (as_shown x) ≡ Some one
+    by [] all = ap (λ l. slice_get l 0) all
+    by (y ∷ ys) all = let none : map as_shown (ys ++ x ∷ []) ≡ [] = cc in absurd (not_empty ys none)

@@ -5,12 +5,13 @@ use Rattle.mb_mbap.specs.declared.frame.Frame.{Frame}
 use Rattle.poll_match.specs.Window.{held}
 use Rattle.point_list.specs.declared.site.Site.{Site}
 use Rattle.poll_book.specs.declared.rows.PointRow.{PointRow}
-use Rattle.poll_book.specs.Totals.{is_counter, value_after}
+use Rattle.poll_book.specs.Totals.{is_counter, last_of, value_after}
+use Rattle.poll_book.specs.Histories.{own}
 use Rattle.poll_book.specs.Tables.{Within, readings_between}
 use Rattle.poll_book.specs.declared.keeper.Neighbours.{Ghosts}
 use Rattle.office_core.specs.declared.office.Office.{Office}
 use Rattle.office_core.specs.declared.showing.ShownReading.{ShownReading}
-use Rattle.office_core.specs.Showing.{Shown, as_shown, with_marks}
+use Rattle.office_core.specs.Showing.{Shown, as_shown, with_mark, with_marks}
 use Rattle.office_core.specs.declared.error.OfficeError.{OfficeError}
 use Rattle.office_core.specs.declared.event.Arrival.{Arrival}
 use Rattle.office_core.specs.declared.event.Event.{Event}
@@ -134,6 +135,14 @@ abbrev pub Shows : Option (List Shown) → Option (Vec ShownReading Global) → 
 Shows None None = ⊤
 Shows (Some table) (Some rows) = map as_shown rows.items ≡ table
 Shows table rows = ⊥
+
+abbrev pub last_reading_at : History → Option PointRow → Option Shown
+last_reading_at before None = None
+last_reading_at before (Some known) = option_map (with_mark (voids before)) (last_of (own known.number (kept_readings before)))
+
+-- the last reading of a known point, with whether its slot is voided
+abbrev pub last_reading_of : History → List ℕ → Option Shown
+last_reading_of before name = last_reading_at before (known_named (points before) name)
 
 abbrev pub total_at : History → Option PointRow → Option ℕ
 total_at before None = None

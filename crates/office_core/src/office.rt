@@ -140,7 +140,8 @@ impl<K: Keeper> Office<K> {
     ghost use Rattle.office_core.specs.Arriving.{IsAnswered};
     ghost use Rattle.office_core.specs.Looking.{covered_of};
     ghost use Rattle.office_core.specs.Queries.{Answers};
-    ghost use Rattle.office_core.specs.Offices.{AccountsFor, AnswerCaused, CauseFrom, CountedFrom, Counts, IsAlike, LeavesRun, LeavesSo, LeavesUnused, OnlyAsked, Shows, Stands, StandsUnused, arrived, asked_so, keeper_of, opened, order_state_of, points_of, readings_of, site_of, told_so, total_of, value_after_of};
+    ghost use Rattle.office_core.specs.Showing.{as_shown};
+    ghost use Rattle.office_core.specs.Offices.{AccountsFor, AnswerCaused, CauseFrom, CountedFrom, Counts, IsAlike, LeavesRun, LeavesSo, LeavesUnused, OnlyAsked, Shows, Stands, StandsUnused, arrived, asked_so, keeper_of, last_reading_of, opened, order_state_of, points_of, readings_of, site_of, told_so, total_of, value_after_of};
 
     /// An office over what a keeper holds, with no connection open. A keeper that can't be read is
     /// given back with `Store`, and one with a point whose device isn't in the site with
@@ -553,6 +554,27 @@ impl<K: Keeper> Office<K> {
         };
         let rows = self.keeper.readings(self.alloc, &row, from, to)?;
         Ok(Some(shown(self.alloc, &mut self.keeper, &row, rows)?))
+    }
+
+    /// The last reading of a point, whether it counts or not, with whether its slot is voided; `None` where the point
+    /// is unknown or has no reading.
+    pub fn last(&mut self, point: &str) -> Result<Option<ShownReading>, OfficeError>
+        ensures value { K.is_clean (keeper_of self.new) → (before : History) → Stands self.old before
+            → IfOk result (λ last. option_map as_shown last ≡ last_reading_of before point.now) }
+        ensures accounts { AccountsFor IsOfStore self.old self.new result }
+        ensures asked { OnlyAsked self.old self.new }
+    {
+        let Some(row) = self.by_name.find(&self.points, point.as_bytes()) else {
+            return Ok(None);
+        };
+        let end = self.keeper.end(&row)?;
+        if end == 0 {
+            return Ok(None);
+        }
+        let slot = (end - 1) as u32;
+        let rows = self.keeper.readings(self.alloc, &row, slot, slot)?;
+        let mut last = shown(self.alloc, &mut self.keeper, &row, rows)?;
+        Ok(last.pop())
     }
 
     /// Whether some known point of a device that a read covers has no reading in the slot.

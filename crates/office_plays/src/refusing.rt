@@ -159,6 +159,13 @@ impl Neighbours for Refusing {
         counted(&mut self.refusals, answer)
     }
 
+    fn end(&mut self, point: &PointRow) -> Result<u64, StoreFault> {
+        count_look(&mut self.lookups);
+        self.count()?;
+        let answer = self.kept.end(point);
+        counted(&mut self.refusals, answer)
+    }
+
     fn voided(&mut self, point: &PointRow, slot: u32) -> Result<bool, StoreFault> {
         count_look(&mut self.lookups);
         self.count()?;

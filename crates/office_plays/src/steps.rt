@@ -52,6 +52,13 @@ pub fn rows<K: Keeper>(
     office.readings(point, from, to)
 }
 
+pub fn last<K: Keeper>(
+    office: &mut Office<K>,
+    point: &str,
+) -> Result<Option<ShownReading>, OfficeError> {
+    office.last(point)
+}
+
 pub fn state<K: Keeper>(
     office: &mut Office<K>,
     number: u32,

@@ -1,5 +1,5 @@
 -- What the query of a point's last reading shows.
-use Rattle.std.proofs.Common.{◌≡◌, ℕ, pos, List, [], ◌∷◌, map, take, false, ◌==◌, None, Some, Result, IfOk, refl, ap, subst, ◌∙◌, filter}
+use Rattle.std.proofs.Common.{◌≡◌, ℕ, pos, List, [], ◌∷◌, map, take, false, ◌==◌, None, Some, Err, Ok, Result, IfOk, refl, ap, subst, ◌∙◌, filter}
 use Rattle.std.specs.List.{list_all}
 use Rattle.std.specs.List.Sorted.{IsPermutation}
 use Rattle.std.proofs.lemmas.List.Sorted.{IsPermutation-trans}
@@ -19,14 +19,16 @@ use Rattle.sqlite.specs.State.{State, Shown}
 use Rattle.sqlite.proofs.Callers.{IsPlain, command_of, reads_as}
 use Rattle.poll_book.specs.declared.rows.Reading.{Reading}
 use Rattle.poll_book.specs.Tables.{Key, Tables, key_cmp}
+use Rattle.poll_book.specs.Histories.{end_of}
 use Rattle.office_store.specs.Schema.{office_schema, reading_tree}
 use Rattle.office_store.specs.Texts.{last_reading_text}
 use Rattle.office_store.specs.Rows.{stored_reading, shown_reading, flag_of, number_of, words_of}
 use Rattle.office_store.specs.Kept.{IsHeld}
-use Rattle.office_store.specs.Ends.{IsEndOf, IsJustBehind, ShowEnd}
+use Rattle.office_store.specs.Ends.{IsEndOf, ShowEnd}
 use Rattle.office_store.proofs.Backward.{backward, backward_same, down, down_exact, down_total, sorted_backward}
 use Rattle.office_store.proofs.ByNumber.{alone_and}
 use Rattle.office_store.proofs.Comparing.{and_then_some, compares, equals, falling, map_some}
+use Rattle.office_store.proofs.EndOf.{end_is}
 use Rattle.office_store.proofs.LastRow as last
 use Rattle.office_store.proofs.Showing.{answers, picked}
 use Rattle.office_store.proofs.Slots.{key_columns, keys_exact, keys_total, names}
@@ -95,7 +97,13 @@ module _ (point : ℕ) where
       last.end_shown shown_reading slot_shown point kept.readings held.stands.readings.sorted shown it.0 it.1 it.2
 
   -- and stands just behind a reading, if there is one
-  pub last_shown : (old new : State) (kept : Tables) (held : IsHeld old kept) (shown : List Row) → Shown last_reading_text given old new shown → {E : Type 0} (told : Result ℕ E) → IfOk told (ShowEnd shown) → IfOk told (λ stop. IsJustBehind point stop kept.readings)
+  last_shown : (old new : State) (kept : Tables) (held : IsHeld old kept) (shown : List Row) → Shown last_reading_text given old new shown → {E : Type 0} (told : Result ℕ E) → IfOk told (ShowEnd shown) → IfOk told (λ stop. last.IsJustBehind point stop kept.readings)
   last_shown old new kept held shown h =
       let it = shows_last old new kept held shown h in
       last.last_shown shown_reading slot_shown point kept.readings held.stands.readings.sorted shown it.0 it.1 it.2
+
+  -- so it is the slot behind the last reading
+  pub exact_shown : (old new : State) (kept : Tables) (held : IsHeld old kept) (shown : List Row) → Shown last_reading_text given old new shown → {E : Type 0} (told : Result ℕ E) → IfOk told (ShowEnd shown) → IfOk told (λ stop. stop ≡ end_of point kept.readings)
+  exact_shown old new kept held shown h {E = E} (Ok stop) is =
+      end_is point stop kept.readings held.stands.readings.sorted (end_shown old new kept held shown h {E = E} (Ok stop) is) (last_shown old new kept held shown h {E = E} (Ok stop) is)
+  exact_shown old new kept held shown h (Err e) is = tt

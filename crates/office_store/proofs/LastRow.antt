@@ -1,5 +1,5 @@
 -- What an answer with the last row of a point, by the slots of a table's keys, shows of where they end.
-use Rattle.std.proofs.Common.{◌≡◌, ◌<◌, ◌+◌, ◌-◌, inl, inr, ℕ, pos, List, [], ◌∷◌, map, take, Bool, true, false, cond, ◌==◌, Some, Option, Err, Ok, Result, IfOk, refl, sym, ap, ap₂, subst, ◌∙◌, filter, T, arith}
+use Rattle.std.proofs.Common.{◌≡◌, ◌<◌, ◌+◌, ◌-◌, ◌⊎◌, inl, inr, ℕ, pos, List, [], ◌∷◌, map, take, Bool, true, false, cond, ◌==◌, Some, Option, Err, Ok, Result, IfOk, refl, sym, ap, ap₂, subst, ◌∙◌, filter, T, arith}
 use Rattle.std.specs.Prelude.{is_some}
 use Rattle.std.specs.List.{AllByRecursion}
 use Rattle.std.specs.Ordering.{is_lt, nat_cmp, ordering_then}
@@ -15,13 +15,17 @@ use Rattle.sqlite_value.specs.Order.{Row, column}
 use Rattle.sqlite_sql.specs.Query.{key_cmp as sort_cmp}
 use Rattle.poll_book.specs.Tables.{Key, key_cmp}
 use Rattle.office_store.specs.Rows.{number_of}
-use Rattle.office_store.specs.Ends.{IsEndOf, IsJustBehind, ShowEnd}
+use Rattle.office_store.specs.Ends.{IsEndOf, ShowEnd}
 use Rattle.office_store.proofs.Backward.{backward, backward_same, down, down_total, sorted_backward}
 use Rattle.office_store.proofs.Comparing.{falling, sorts_down}
 use Rattle.office_store.proofs.Slots.{keys_exact, keys_total}
 use Rattle.office_store.proofs.Sorted.{IsFoundIn, both_T, each_above, each_found}
 
 -- ---- the order of the rows of a point, the last first
+
+-- the slot stands just behind a row of the point, or is 0
+abbrev pub IsJustBehind : {V : Type 0} → ℕ → ℕ → List (Key × V) → Type 0
+IsJustBehind point end table = (end ≡ 0) ⊎ (is_some (rows.find key_cmp (point, end - 1) table) ≡ true)
 
 module _ (point : ℕ) where
   -- the row is the point's

@@ -1,6 +1,7 @@
 mod Texts
 mod Tables
 mod StayingRows
+mod EndOf
 mod FirstRows
 mod Asking
 mod Queries

@@ -1,10 +1,9 @@
 -- Where the readings and the voids of points end, as it is known beside the tables.
-use Rattle.std.specs.Prelude.{◌≡◌, ◌≢◌, ◌⊎◌, ◌+◌, ◌-◌, ◌<◌, true, false, is_some, ℕ, pos, All, IfSome, List, [], ◌∷◌, Option, Some, None, slice_get, unwrap_or}
-use Rattle.std.specs.FinMap.Entries as rows
+use Rattle.std.specs.Prelude.{◌≡◌, ◌≢◌, ◌⊎◌, ◌+◌, ◌<◌, true, false, ℕ, pos, All, IfSome, List, [], ◌∷◌, Option, Some, None, slice_get, unwrap_or}
 use Rattle.sqlite.specs.State.{State, HasCleanDisk, FailsToQuery}
 use Rattle.sqlite_value.specs.declared.value.Value.TheVariants.{Int}
 use Rattle.sqlite_value.specs.Order.{Row, column}
-use Rattle.poll_book.specs.Tables.{Tables, Key, Voids, is_void, key_cmp}
+use Rattle.poll_book.specs.Tables.{Tables, Key, Voids, is_void}
 use Rattle.poll_book.specs.declared.fault.StoreFault.{StoreFault}
 use Rattle.office_store.specs.Faults.{fault_of}
 use Rattle.office_store.specs.Rows.{number_of}
@@ -27,10 +26,6 @@ AreEnds ends table = All (λ row. IsWithin ends row.0) table
 -- each row of the point stands before this slot
 abbrev pub IsEndOf : {V : Type 0} → ℕ → ℕ → List (Key × V) → Type 0
 IsEndOf point end table = All (λ row. row.0.0 ≡ point → row.0.1 < end) table
-
--- and it stands just behind a row of the point, or is 0
-abbrev pub IsJustBehind : {V : Type 0} → ℕ → ℕ → List (Key × V) → Type 0
-IsJustBehind point end table = (end ≡ 0) ⊎ (is_some (rows.find key_cmp (point, end - 1) table) ≡ true)
 
 -- as far as its database has told the truth, the ends are those of these tables' readings
 abbrev pub HasEnds : State → List (Option ℕ) → Tables → Type 0

@@ -182,6 +182,12 @@ impl<S: Alter> Neighbours for SqlKeeper<S> {
         counted(&mut self.refusals, has)
     }
 
+    fn end(&mut self, point: &PointRow) -> Result<u64, StoreFault> {
+        count_look(&mut self.lookups);
+        let end = readings::end_of(&mut self.connection, point.number);
+        counted(&mut self.refusals, end)
+    }
+
     fn voided(&mut self, point: &PointRow, slot: u32) -> Result<bool, StoreFault> {
         count_look(&mut self.lookups);
         let is = ends::is_void(

@@ -1,15 +1,16 @@
 //! The table of readings.
 
-ghost use Rattle.std.specs.Prelude.{◌≡◌, ◌≤◌, ◌↔◌, ℕ, Bool, false, All, IfOk, IfSome, IsTrue, OnOk, Some, is_some, map};
+ghost use Rattle.std.specs.Prelude.{◌≡◌, ◌≤◌, ◌^◌, ◌↔◌, ℕ, Bool, false, All, IfOk, IfSome, IsTrue, OnOk, Some, is_some, map};
 ghost use Rattle.std.specs.Ordering.{nat_cmp};
 ghost use Rattle.std.specs.BTreeSet.{contains};
 ghost use Rattle.sqlite.specs.Held.{state};
 ghost use Rattle.sqlite.specs.State.{HasCleanDisk};
 ghost use Rattle.poll_book.specs.Tables.{Tables, is_void, reading_at, readings_between};
 ghost use Rattle.poll_book.specs.Totals.{value_after, value_before};
+ghost use Rattle.poll_book.specs.Histories.{end_of};
 ghost use Rattle.poll_book.specs.Changes.{as_rows};
 ghost use Rattle.office_store.specs.Kept.{Holds, Keeps};
-ghost use Rattle.office_store.specs.Ends.{IsEndOf, IsJustBehind, ShowEnd};
+ghost use Rattle.office_store.specs.Ends.{IsEndOf, ShowEnd};
 ghost use Rattle.office_store.specs.Counting.{MayBeOf, ShowValue, number_in};
 ghost use Rattle.office_store.specs.Rows.{shown_reading};
 
@@ -188,7 +189,8 @@ pub(crate) fn has_reading<S: Alter>(
 
 /// The slot behind the row of a point that an answer shows, and 0 where it shows none.
 pub(crate) fn end_shown(rows: &[Row]) -> Result<u64, StoreFault>
-    ensures { IfOk result (ShowEnd rows.now) }
+    ensures shown { IfOk result (ShowEnd rows.now) }
+    ensures bound { IfOk result (λ end. end ≤ 2 ^ 32) }
 {
     match rows {
         [] => Ok(0),
@@ -208,8 +210,9 @@ pub(crate) fn end_of<S: Alter>(
     requires { connection.old.in_transaction ≡ false }
     ensures value { HasCleanDisk (state S.Store connection.new) → (kept : Tables) → Holds (state S.Store connection.old) kept
         → IfOk result (λ end. IsEndOf point end kept.readings) }
-    ensures last { HasCleanDisk (state S.Store connection.new) → (kept : Tables) → Holds (state S.Store connection.old) kept
-        → IfOk result (λ end. IsJustBehind point end kept.readings) }
+    ensures exact { HasCleanDisk (state S.Store connection.new) → (kept : Tables) → Holds (state S.Store connection.old) kept
+        → IfOk result (λ end. end ≡ end_of point kept.readings) }
+    ensures bound { IfOk result (λ end. end ≤ 2 ^ 32) }
     ensures keeps { Keeps (state S.Store connection.old) (state S.Store connection.new) }
     ensures idle { connection.new.in_transaction ≡ false }
 {

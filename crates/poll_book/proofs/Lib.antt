@@ -1,5 +1,6 @@
 pub mod Callers
 pub mod Causes
+pub mod Ends
 pub mod Entries
 pub mod Places
 pub mod Puts

@@ -121,7 +121,7 @@ all_above key x (e ∷ es) lt h =
     All-cons (IsAbove key) e es (keys_total.trans key x e.0 lt (is_less (key_cmp x e.0) (both_left _ _ h))) (all_above key x es lt (both_right _ _ h))
 
 -- so are those above one that has the key, and a key is found in none that is above it
-all_higher : (key x : Key) (es : Readings) → key ≡ x → T (rows.below_all key_cmp x es) → All (IsAbove key) es
+pub all_higher : (key x : Key) (es : Readings) → key ≡ x → T (rows.below_all key_cmp x es) → All (IsAbove key) es
 all_higher key x [] same h = All-nil (IsAbove key)
 all_higher key x (e ∷ es) same h =
     All-cons (IsAbove key) e es (ap (λ k. key_cmp k e.0) same ∙ is_less (key_cmp x e.0) (both_left _ _ h)) (all_higher key x es same (both_right _ _ h))

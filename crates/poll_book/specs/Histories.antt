@@ -1,7 +1,7 @@
 -- Readings by points and slots: of each point a list by slot.
-use Rattle.std.specs.Prelude.{◌≡◌, ℕ, suc, ◌+◌, ◌^◌, ◌<◌, ◌≤◌, ◌==◌, List, [], ◌∷◌, ◌++◌, All, Contains, map, filter, filter_map, take, drop, length, get_or, count_by, vec_len, vec_capacity}
+use Rattle.std.specs.Prelude.{◌≡◌, ℕ, suc, ◌+◌, ◌^◌, ◌<◌, ◌≤◌, ◌==◌, List, [], ◌∷◌, ◌++◌, All, Contains, map, filter, filter_map, take, drop, length, get_or, count_by, vec_len, vec_capacity, Option, None, Some}
 use Rattle.poll_book.specs.Tables.{Key, Readings}
-use Rattle.poll_book.specs.Totals.{reading_number}
+use Rattle.poll_book.specs.Totals.{last_of, reading_number}
 use Rattle.point_list.specs.declared.point.Point.{Point}
 use Rattle.poll_book.specs.declared.rows.Reading.{Reading}
 use Rattle.poll_book.specs.declared.rows.ReadingRow.{ReadingRow}
@@ -29,6 +29,15 @@ readings_of (history ∷ histories) = slots_of history.point history.slots.items
 -- the rows of one point
 abbrev pub own : ℕ → Readings → Readings
 own point table = filter (λ row. row.0.0 == point) table
+
+-- the slot behind a row, and 0 behind none
+abbrev pub slot_behind : Option (Key × Reading) → ℕ
+slot_behind None = 0
+slot_behind (Some row) = row.0.1 + 1
+
+-- the slot behind the last row of a point
+abbrev pub end_of : ℕ → Readings → ℕ
+end_of point table = slot_behind (last_of (own point table))
 
 -- the keys rise, so no key comes twice
 abbrev pub IsRising : {X : Type 0} → (X → ℕ) → List X → Type 0

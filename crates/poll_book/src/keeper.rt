@@ -6,6 +6,7 @@ ghost use Rattle.poll_book.specs.Tables.{Tables, Within, is_void, reading_at, re
 ghost use Rattle.poll_book.specs.Orders.{as_setting, last_order, oldest_waiting, setting_at};
 ghost use Rattle.poll_book.specs.Requests.{request_at};
 ghost use Rattle.poll_book.specs.Changes.{IsNew, applied, as_rows};
+ghost use Rattle.poll_book.specs.Histories.{end_of};
 ghost use Rattle.poll_book.specs.Totals.{stored_total, value_after, value_before};
 
 use crate::caller::{Caller, Key};
@@ -50,6 +51,18 @@ pub trait Neighbours {
     fn has_reading(&mut self, point: &PointRow, slot: u32) -> Result<bool, StoreFault>
         ensures value { is_clean self.new → (kept : Tables) → holds self.old kept
             → IfOk result (λ has. has ≡ is_some (reading_at kept.readings (point.now.number, slot))) }
+        ensures cause { IfErr result (λ fault. may_refuse fault) }
+        ensures counted { CountsRefusal (refused self.old) (refused self.new) result }
+        ensures looked { IsCountedOn (looked self.old) (looked self.new) }
+        ensures same { Within (holds self.old) (holds self.new) }
+        ensures clean { is_clean self.new → is_clean self.old }
+        ensures crash { is_clean self.new → Within (may_leave self.new) (may_leave self.old) };
+
+    /// The slot behind the last reading of a point, whether it counts or not; 0 if the point has none.
+    fn end(&mut self, point: &PointRow) -> Result<u64, StoreFault>
+        ensures value { is_clean self.new → (kept : Tables) → holds self.old kept
+            → IfOk result (λ end. end ≡ end_of point.now.number kept.readings) }
+        ensures bound { IfOk result (λ end. end ≤ 2 ^ 32) }
         ensures cause { IfErr result (λ fault. may_refuse fault) }
         ensures counted { CountsRefusal (refused self.old) (refused self.new) result }
         ensures looked { IsCountedOn (looked self.old) (looked self.new) }

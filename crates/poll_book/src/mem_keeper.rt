@@ -104,6 +104,11 @@ impl Neighbours for MemKeeper {
         Ok(self.tables.has_reading(point.number, slot))
     }
 
+    fn end(&mut self, point: &PointRow) -> Result<u64, StoreFault> {
+        count_look(&mut self.lookups);
+        Ok(self.tables.end(point.number))
+    }
+
     fn voided(&mut self, point: &PointRow, slot: u32) -> Result<bool, StoreFault> {
         count_look(&mut self.lookups);
         Ok(self.tables.voided(point.number, slot))

@@ -1,9 +1,9 @@
 //! Tables in memory.
-ghost use Rattle.std.specs.Prelude.{◌≡◌, ◌≤◌, ◌<◌, ◌^◌, ℕ, All, IfOk, IfSome, OnErr, OnOk, is_some, length, option_map};
+ghost use Rattle.std.specs.Prelude.{◌≡◌, ◌+◌, ◌≤◌, ◌<◌, ◌^◌, ℕ, All, IfOk, IfSome, OnErr, OnOk, is_some, length, option_map};
 ghost use Rattle.poll_book.specs.Tables as table;
 ghost use Rattle.poll_book.specs.Tables.{no_tables, readings_between};
 ghost use Rattle.poll_book.specs.Changes.{applied, as_rows};
-ghost use Rattle.poll_book.specs.Histories.{IsRising, slot_of, slots_of};
+ghost use Rattle.poll_book.specs.Histories.{IsRising, end_of, slot_of, slots_of};
 ghost use Rattle.poll_book.specs.Orders as book;
 ghost use Rattle.poll_book.specs.Orders.{as_setting, last_order, oldest_waiting};
 ghost use Rattle.poll_book.specs.Requests as asked;
@@ -98,6 +98,14 @@ impl MemTables {
         ensures { result ≡ is_some (table.reading_at self.now.readings (point, slot)) }
     {
         has_slot(slots_in(&self.histories, point), slot)
+    }
+
+    /// The slot behind the last reading of a point; 0 if it has none.
+    pub(crate) fn end(&self, point: u32) -> u64
+        ensures value { result ≡ end_of point self.now.readings }
+        ensures bound { result ≤ 2 ^ 32 }
+    {
+        slots_end(slots_in(&self.histories, point))
     }
 
     /// Whether a slot of a point is voided.
@@ -257,6 +265,23 @@ fn has_slot(slots: &[SlotRow], slot: u32) -> bool
     ensures { (point : ℕ) → result ≡ is_some (table.reading_at (slots_of point slots.now) (point, slot)) }
 {
     slot_place(slots, slot).is_ok()
+}
+
+fn behind(slot: u32) -> u64
+    ensures value { result ≡ slot + 1 }
+    ensures bound { result ≤ 2 ^ 32 }
+{
+    u64::from(slot) + 1
+}
+
+fn slots_end(slots: &[SlotRow]) -> u64
+    ensures value { (point : ℕ) → result ≡ end_of point (slots_of point slots.now) }
+    ensures bound { result ≤ 2 ^ 32 }
+{
+    match slots.last() {
+        Some(row) => behind(row.slot),
+        None => 0,
+    }
 }
 
 fn rows_between(

@@ -4,7 +4,7 @@ use crate::events::event_of;
 use crate::model::{Book, Happened, Placed, Row};
 use office_core::{Arrival, EventAnswer, Office, OfficeError, RequestAnswer, ShownReading};
 use office_plays::builders::office_over;
-use office_plays::steps::{rows, state, take, total as total_of};
+use office_plays::steps::{last, rows, state, take, total as total_of};
 use office_plays::tables::text_of;
 use point_list::Role;
 use poll_book::{Keeper, MemKeeper, Outcome, PointRow};
@@ -36,7 +36,11 @@ fn is_given(trial: &Trial<'_>, book: &Book, point: usize, row: &Row, shown: &Sho
     }
 }
 
-/// Expects the readings of a known point.
+fn slot_of(shown: Option<&ShownReading>) -> Option<u32> {
+    Some(shown?.reading.slot)
+}
+
+/// Expects the readings of a known point, and its last one.
 fn is_kept<K: Keeper>(
     trial: &Trial<'_>,
     office: &mut Office<K>,
@@ -52,6 +56,15 @@ fn is_kept<K: Keeper>(
         .count();
     trial.told(&row.name, &readings.len(), &count);
     for reading in &readings {
+        is_given(trial, book, point, row, reading);
+    }
+    let told = last(office, row.name)?;
+    trial.told(
+        &row.name,
+        &slot_of(told.as_ref()),
+        &slot_of(readings.last()),
+    );
+    if let Some(reading) = &told {
         is_given(trial, book, point, row, reading);
     }
     Ok(())
