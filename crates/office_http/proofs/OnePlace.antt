@@ -1,10 +1,12 @@
 -- A target names one place.
 use Rattle.std.proofs.Common.{◌≡◌, ℕ, List, ◌++◌, refl, sym, ap, ◌∙◌, arith, Option, Some, None, codes}
 use Rattle.std.proofs.lemmas.List.{append_cancel_left, append_cancel_right}
+use Rattle.office_http.specs.declared.heard.Page.{Page as Shown}
+use Rattle.office_http.specs.declared.heard.Page.TheVariants.{Points}
 use Rattle.office_http.specs.declared.routes.Route.{Route}
-use Rattle.office_http.specs.declared.routes.Route.TheVariants.{Orders, Lists, Voids, Readings, Total, Report}
+use Rattle.office_http.specs.declared.routes.Route.TheVariants.{Orders, Lists, Voids, Readings, Total, Report, Page, Device}
 use Rattle.office_http.specs.declared.routes.Routes.{Routes}
-use Rattle.office_http.specs.Places.{Place, orders, lists, voids, readings, report, total, IsPlain, IsPlace, Names, spell}
+use Rattle.office_http.specs.Places.{Place, orders, lists, voids, readings, report, total, page, device, IsPlain, IsPlace, Names, spell}
 use Rattle.office_http.proofs.Slashes.{same_parts}
 
 -- a route as a number
@@ -16,6 +18,13 @@ number (Some Readings) = 3
 number (Some Total) = 4
 number (Some Voids) = 5
 number (Some Report) = 6
+number (Some (Page shown)) = 7
+number (Some Device) = 8
+
+-- the page of a route
+abbrev shown_by : Option Route → Shown
+shown_by (Some (Page shown)) = shown
+shown_by _ = Points
 
 -- a front before a part, a slash and a second front
 after : (front second a b c d t : List ℕ) → t ≡ front ++ spell a (second ++ b) → t ≡ front ++ spell c (second ++ d) → IsPlain a → IsPlain c → (a ≡ c) × (b ≡ d)
@@ -44,6 +53,8 @@ place_once routes t (report a b c) (report d e f) x y =
     ap (λ u. report u b c) both.0 ∙ ap (λ u. report d u c) slots.0 ∙ ap (report d e) slots.1
 place_once routes t (total a) (total b) x y =
     ap total (append_cancel_right a b (codes "/total") (append_cancel_left (codes "/points/") (a ++ codes "/total") (b ++ codes "/total") (sym x.1 ∙ y.1)))
+place_once routes t (page a) (page b) x y = ap page (ap shown_by (sym x ∙ y))
+place_once routes t (device a) (device b) x y = ap device (append_cancel_left (codes "/devices/") a b (sym x.1 ∙ y.1))
 place_once routes t (orders a b) (lists c d) x y = let is : 1 ≡ 2 = ap number (sym x.0 ∙ y.0) in absurd (omega (arith, is))
 place_once routes t (orders a b) (voids c d) x y = let is : 1 ≡ 5 = ap number (sym x.0 ∙ y.0) in absurd (omega (arith, is))
 place_once routes t (orders a b) (readings c d e) x y = let is : 1 ≡ 3 = ap number (sym x.0 ∙ y.0) in absurd (omega (arith, is))
@@ -74,6 +85,32 @@ place_once routes t (report a b c) (lists d e) x y = let is : 6 ≡ 2 = ap numbe
 place_once routes t (report a b c) (voids d e) x y = let is : 6 ≡ 5 = ap number (sym x.0 ∙ y.0) in absurd (omega (arith, is))
 place_once routes t (report a b c) (readings d e f) x y = let is : 6 ≡ 3 = ap number (sym x.0 ∙ y.0) in absurd (omega (arith, is))
 place_once routes t (report a b c) (total d) x y = let is : 6 ≡ 4 = ap number (sym x.0 ∙ y.0) in absurd (omega (arith, is))
+place_once routes t (orders a b) (page c) x y = let is : 1 ≡ 7 = ap number (sym x.0 ∙ y) in absurd (omega (arith, is))
+place_once routes t (orders a b) (device c) x y = let is : 1 ≡ 8 = ap number (sym x.0 ∙ y.0) in absurd (omega (arith, is))
+place_once routes t (lists a b) (page c) x y = let is : 2 ≡ 7 = ap number (sym x.0 ∙ y) in absurd (omega (arith, is))
+place_once routes t (lists a b) (device c) x y = let is : 2 ≡ 8 = ap number (sym x.0 ∙ y.0) in absurd (omega (arith, is))
+place_once routes t (voids a b) (page c) x y = let is : 5 ≡ 7 = ap number (sym x.0 ∙ y) in absurd (omega (arith, is))
+place_once routes t (voids a b) (device c) x y = let is : 5 ≡ 8 = ap number (sym x.0 ∙ y.0) in absurd (omega (arith, is))
+place_once routes t (readings a b c) (page d) x y = let is : 3 ≡ 7 = ap number (sym x.0 ∙ y) in absurd (omega (arith, is))
+place_once routes t (readings a b c) (device d) x y = let is : 3 ≡ 8 = ap number (sym x.0 ∙ y.0) in absurd (omega (arith, is))
+place_once routes t (total a) (page b) x y = let is : 4 ≡ 7 = ap number (sym x.0 ∙ y) in absurd (omega (arith, is))
+place_once routes t (total a) (device b) x y = let is : 4 ≡ 8 = ap number (sym x.0 ∙ y.0) in absurd (omega (arith, is))
+place_once routes t (report a b c) (page d) x y = let is : 6 ≡ 7 = ap number (sym x.0 ∙ y) in absurd (omega (arith, is))
+place_once routes t (report a b c) (device d) x y = let is : 6 ≡ 8 = ap number (sym x.0 ∙ y.0) in absurd (omega (arith, is))
+place_once routes t (page a) (orders b c) x y = let is : 7 ≡ 1 = ap number (sym x ∙ y.0) in absurd (omega (arith, is))
+place_once routes t (page a) (lists b c) x y = let is : 7 ≡ 2 = ap number (sym x ∙ y.0) in absurd (omega (arith, is))
+place_once routes t (page a) (voids b c) x y = let is : 7 ≡ 5 = ap number (sym x ∙ y.0) in absurd (omega (arith, is))
+place_once routes t (page a) (readings b c d) x y = let is : 7 ≡ 3 = ap number (sym x ∙ y.0) in absurd (omega (arith, is))
+place_once routes t (page a) (total b) x y = let is : 7 ≡ 4 = ap number (sym x ∙ y.0) in absurd (omega (arith, is))
+place_once routes t (page a) (report b c d) x y = let is : 7 ≡ 6 = ap number (sym x ∙ y.0) in absurd (omega (arith, is))
+place_once routes t (page a) (device b) x y = let is : 7 ≡ 8 = ap number (sym x ∙ y.0) in absurd (omega (arith, is))
+place_once routes t (device a) (orders b c) x y = let is : 8 ≡ 1 = ap number (sym x.0 ∙ y.0) in absurd (omega (arith, is))
+place_once routes t (device a) (lists b c) x y = let is : 8 ≡ 2 = ap number (sym x.0 ∙ y.0) in absurd (omega (arith, is))
+place_once routes t (device a) (voids b c) x y = let is : 8 ≡ 5 = ap number (sym x.0 ∙ y.0) in absurd (omega (arith, is))
+place_once routes t (device a) (readings b c d) x y = let is : 8 ≡ 3 = ap number (sym x.0 ∙ y.0) in absurd (omega (arith, is))
+place_once routes t (device a) (total b) x y = let is : 8 ≡ 4 = ap number (sym x.0 ∙ y.0) in absurd (omega (arith, is))
+place_once routes t (device a) (report b c d) x y = let is : 8 ≡ 6 = ap number (sym x.0 ∙ y.0) in absurd (omega (arith, is))
+place_once routes t (device a) (page b) x y = let is : 8 ≡ 7 = ap number (sym x.0 ∙ y) in absurd (omega (arith, is))
 
 -- what a target names is told in one way
 pub names_once : (routes : Routes) (t : List ℕ) (p q : Option Place) → Names routes t p → Names routes t q → p ≡ q

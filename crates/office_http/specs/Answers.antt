@@ -7,6 +7,8 @@ use Rattle.poll_book.specs.declared.rows.OrderState.{OrderState}
 use Rattle.poll_book.specs.declared.rows.OrderState.TheVariants as state
 use Rattle.office_http.specs.declared.heard.Methods.{Methods}
 use Rattle.office_http.specs.declared.heard.Methods.TheVariants.{Get, Put, GetPut}
+use Rattle.office_http.specs.declared.heard.Page.{Page}
+use Rattle.office_http.specs.declared.heard.Page.TheVariants as page
 use Rattle.office_http.specs.declared.heard.Refusal.{Refusal}
 use Rattle.office_http.specs.declared.heard.Refusal.TheVariants as refusal
 use Rattle.office_http.specs.declared.status.Status.{Status}
@@ -43,6 +45,18 @@ answer_text status allow body = answer_of_parts (status_text status) json_type (
 -- a text as it stands
 abbrev pub plain_answer : List ℕ → List ℕ
 plain_answer body = answer_of_parts (status_text Done) text_type (length body) [] body
+
+-- ---- what is shown piece by piece
+
+abbrev pub page_type : Page → List ℕ
+page_type page.Points = json_type
+page_type page.Metrics = codes "application/openmetrics-text; version=1.0.0; charset=utf-8"
+page_type page.Office = codes "text/html; charset=utf-8"
+page_type (page.Device place) = codes "text/html; charset=utf-8"
+
+-- the head before the pieces, which end with the connection (RFC 9112, section 6.3)
+abbrev pub page_head : Page → List ℕ
+page_head shown = codes "HTTP/1.1 200 OK\r\nContent-Type: " ++ page_type shown ++ codes "\r\nConnection: close\r\n\r\n"
 
 -- ---- bodies
 

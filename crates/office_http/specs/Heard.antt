@@ -1,8 +1,8 @@
 -- What a `Heard` stands for.
 use Rattle.std.specs.Prelude.{Option, option_map, string_bytes}
 use Rattle.office_http.specs.declared.heard.Heard.{Heard}
-use Rattle.office_http.specs.declared.heard.Heard.TheVariants.{Nothing, Refused, Load, Order, Void, OrderUnder, Readings, Total, Report}
-use Rattle.office_http.specs.Meanings.{Meaning, nothing, refused, load, order, void, order_under, readings_of, report_of, total_of}
+use Rattle.office_http.specs.declared.heard.Heard.TheVariants.{Nothing, Refused, Load, Order, Void, OrderUnder, Readings, Total, Report, Page}
+use Rattle.office_http.specs.Meanings.{Meaning, nothing, refused, load, order, void, order_under, readings_of, report_of, total_of, page}
 
 abbrev pub meaning_of : Heard → Meaning
 meaning_of Nothing = nothing
@@ -14,6 +14,7 @@ meaning_of (OrderUnder caller key) = order_under caller key
 meaning_of (Readings point from to) = readings_of (string_bytes point) from to
 meaning_of (Total point) = total_of (string_bytes point)
 meaning_of (Report point from to) = report_of (string_bytes point) from to
+meaning_of (Page shown) = page shown
 
 abbrev pub meaning_in : Option Heard → Option Meaning
 meaning_in asked = option_map meaning_of asked

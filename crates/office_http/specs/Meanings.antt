@@ -4,13 +4,16 @@ use Rattle.std.specs.Cmp.Lexicographic.{pointwise}
 use Rattle.poll_book.specs.Callers.{is_caller, is_key}
 use Rattle.office_http.specs.declared.fields.Length.{Length}
 use Rattle.office_http.specs.declared.fields.Length.TheVariants as size
+use Rattle.office_http.specs.declared.heard.Page.{Page}
+use Rattle.office_http.specs.declared.heard.Page.TheVariants.{Device}
 use Rattle.office_http.specs.declared.heard.Methods.TheVariants.{Get, Put, GetPut}
 use Rattle.office_http.specs.declared.heard.Refusal.{Refusal}
 use Rattle.office_http.specs.declared.heard.Refusal.TheVariants.{BadRequest, NotFound, NotAllowed, LengthRequired, TooLarge}
 use Rattle.office_http.specs.Fields.{FieldText, length_of}
 use Rattle.office_http.specs.Numbers.{slot_of, range_of}
 use Rattle.office_http.specs.Orders.{order_of}
-use Rattle.office_http.specs.Places.{Place, orders, lists, voids, readings, total, report}
+use Rattle.office_http.specs.Places.{Place, orders, lists, voids, readings, total, report, device}
+use Rattle.office_http.specs.Places as place
 use Rattle.office_http.specs.Voids.{void_of}
 
 pub data Meaning : Type 0 where
@@ -24,6 +27,7 @@ pub data Meaning : Type 0 where
   readings_of : (point : List ℕ) (from to : ℕ) → Meaning
   total_of : (point : List ℕ) → Meaning
   report_of : (point : List ℕ) (from to : ℕ) → Meaning
+  page : Page → Meaning
 
 abbrev pub is_method : List ℕ → List ℕ → Bool
 is_method name method = pointwise nat_eq method name
@@ -56,6 +60,11 @@ abbrev pub in_range : (ℕ → ℕ → Meaning) → Option (ℕ × ℕ) → Mean
 in_range make (Some range) = make range.0 range.1
 in_range make None = refused BadRequest
 
+-- the page of the device at a place
+abbrev pub device_page : Option ℕ → Meaning
+device_page (Some at) = page (Device at)
+device_page None = refused BadRequest
+
 -- a caller and a key in their form
 abbrev pub are_words : List ℕ → List ℕ → Bool
 are_words caller key = is_caller caller && is_key key
@@ -77,6 +86,8 @@ asked_at (readings point from to) method fields rest =
 asked_at (total point) method fields rest = if is_get method then Some (total_of point) else Some (refused (NotAllowed Get))
 asked_at (report point from to) method fields rest =
     if is_get method then Some (in_range (report_of point) (range_of (slot_of from) (slot_of to))) else Some (refused (NotAllowed Get))
+asked_at (place.page shown) method fields rest = if is_get method then Some (page shown) else Some (refused (NotAllowed Get))
+asked_at (device at) method fields rest = if is_get method then Some (device_page (slot_of at)) else Some (refused (NotAllowed Get))
 
 abbrev pub asked_of : Option Place → List ℕ → List FieldText → List ℕ → Option Meaning
 asked_of (Some place) method fields rest = asked_at place method fields rest

@@ -1,7 +1,8 @@
 -- What a target names.
 use Rattle.std.specs.Prelude.{◌≡◌, ℕ, ◌==◌, not, true, List, ◌∷◌, ◌++◌, codes, Option, Some, None}
 use Rattle.std.specs.List.{list_all}
-use Rattle.office_http.specs.declared.routes.Route.TheVariants.{Orders, Lists, Voids, Readings, Total, Report}
+use Rattle.office_http.specs.declared.heard.Page.{Page as Shown}
+use Rattle.office_http.specs.declared.routes.Route.TheVariants.{Orders, Lists, Voids, Readings, Total, Report, Page, Device}
 use Rattle.office_http.specs.declared.routes.Routes.{Routes}
 use Rattle.office_http.specs.Routes.{route_of}
 
@@ -12,6 +13,8 @@ pub data Place : Type 0 where
   readings : (point from to : List ℕ) → Place
   total : (point : List ℕ) → Place
   report : (point from to : List ℕ) → Place
+  page : Shown → Place
+  device : (place : List ℕ) → Place
 
 -- no slash
 abbrev pub IsPlain : List ℕ → Type 0
@@ -31,6 +34,8 @@ IsPlace routes target (readings point from to) =
 IsPlace routes target (total point) = (route_of routes target ≡ Some Total) × (target ≡ codes "/points/" ++ (point ++ codes "/total"))
 IsPlace routes target (report point from to) =
     (route_of routes target ≡ Some Report) × (target ≡ codes "/points/" ++ spell point (codes "report/" ++ spell from to)) × IsPlain point × IsPlain from
+IsPlace routes target (page shown) = route_of routes target ≡ Some (Page shown)
+IsPlace routes target (device place) = (route_of routes target ≡ Some Device) × (target ≡ codes "/devices/" ++ place)
 
 -- what was found in a target: this place, or that it names none
 abbrev pub Names : Routes → List ℕ → Option Place → Type 0

@@ -6,8 +6,9 @@ use Rattle.matchit.specs.Order.{placed}
 use Rattle.matchit.specs.Router.{RouteOf, route_from}
 use Rattle.matchit.specs.Seek.{first}
 use Rattle.matchit.specs.declared.error.InsertError.{InsertError}
+use Rattle.office_http.specs.declared.heard.Page.TheVariants.{Points, Metrics, Office}
 use Rattle.office_http.specs.declared.routes.Route.{Route}
-use Rattle.office_http.specs.declared.routes.Route.TheVariants.{Orders, Lists, Voids, Readings, Total, Report}
+use Rattle.office_http.specs.declared.routes.Route.TheVariants.{Orders, Lists, Voids, Readings, Total, Report, Page, Device}
 use Rattle.office_http.specs.declared.routes.Routes.{Routes}
 use Rattle.office_http.specs.declared.routes.Routes.TheVariants.{Basic, Extended}
 
@@ -32,10 +33,15 @@ point_routes rows = with_route (codes "/points/{point}/total") Total (with_route
 abbrev pub basic_routes : RowsOf (RouteOf Route)
 basic_routes = point_routes (caller_routes [])
 
+-- these rows with the routes of what is shown piece by piece
+abbrev pub page_routes : RowsOf (RouteOf Route) → RowsOf (RouteOf Route)
+page_routes rows =
+    with_route (codes "/") (Page Office) (with_route (codes "/metrics") (Page Metrics) (with_route (codes "/points") (Page Points) rows))
+
 -- the routes that are offered
 abbrev pub the_routes : Routes → RowsOf (RouteOf Route)
 the_routes Basic = basic_routes
-the_routes Extended = with_route (codes "/points/{point}/report/{from}/{to}") Report basic_routes
+the_routes Extended = with_route (codes "/devices/{place}") Device (page_routes (with_route (codes "/points/{point}/report/{from}/{to}") Report basic_routes))
 
 abbrev pub value_of : Option (RouteOf Route) → Option Route
 value_of (Some r) = Some r.value

@@ -1,6 +1,6 @@
 //! The bytes of an answer.
 ghost use Rattle.std.specs.Prelude.{◌≡◌, [], IfOk, codes, map, string_bytes};
-ghost use Rattle.office_http.specs.Answers.{answer_of_parts, answer_text, error_text, first_status, list_refused_text, methods_text, one_text, order_text, plain_answer, points_text, readings_text, refusal_text, total_text, unavailable_text, void_text};
+ghost use Rattle.office_http.specs.Answers.{answer_of_parts, answer_text, error_text, first_status, list_refused_text, methods_text, one_text, order_text, page_head, page_type, plain_answer, points_text, readings_text, refusal_text, total_text, unavailable_text, void_text};
 ghost use Rattle.office_http.specs.declared.status.Status.TheVariants.{Conflict, Done, Unprocessable};
 ghost use Rattle.office_http.specs.Shown.{shown};
 ghost use Rattle.poll_book.specs.declared.rows.OrderState.TheVariants.{Waiting};
@@ -8,7 +8,7 @@ ghost use Rattle.poll_book.specs.declared.rows.OrderState.TheVariants.{Waiting};
 use crate::bodies::{
     error_body, list_refused_body, order_body, points_body, refused_body, total_body, void_body,
 };
-use crate::heard::{Methods, Refusal};
+use crate::heard::{Methods, Page, Refusal};
 use crate::reading_body::{Shown, readings_body};
 use crate::status::Status;
 use poll_book::OrderState;
@@ -171,6 +171,27 @@ pub fn plain(alloc: Global, text: &str) -> Result<String, AllocError>
 {
     let kind = "text/plain; charset=utf-8";
     whole(alloc, Status::Done.text(), kind, text.len(), "", text)
+}
+
+/// The type of what is shown piece by piece.
+fn page_type(page: Page) -> &'static str
+    ensures { result.now ≡ page_type page }
+{
+    match page {
+        Page::Points => "application/json",
+        Page::Metrics => "application/openmetrics-text; version=1.0.0; charset=utf-8",
+        Page::Office | Page::Device(_) => "text/html; charset=utf-8",
+    }
+}
+
+/// The head before what is shown piece by piece, which ends as the connection is closed (RFC 9112, section 6.3).
+pub fn page(alloc: Global, page: Page) -> Result<String, AllocError>
+    ensures { IfOk result (λ head. string_bytes head ≡ page_head page) }
+{
+    let mut head = String::from_str(alloc, "HTTP/1.1 200 OK\r\nContent-Type: ")?;
+    head.push_str(page_type(page))?;
+    head.push_str("\r\nConnection: close\r\n\r\n")?;
+    Ok(head)
 }
 
 /// Where the store or memory refused. It takes no memory.

@@ -1,6 +1,19 @@
 //! What a request asks for.
 use poll_book::{Caller, Key};
 
+/// What is shown piece by piece.
+#[derive(Clone, Copy, Debug, PartialEq, Eq)]
+pub enum Page {
+    /// Each known point with its last reading, as JSON.
+    Points,
+    /// What lines and points came to, for a monitoring system (OpenMetrics 1.0).
+    Metrics,
+    /// Lines, orders that wait, and points, for a browser.
+    Office,
+    /// The points of the device at this place of the site, from 0 on, with their last slots, for a browser.
+    Device(u32),
+}
+
 /// The methods of a route.
 #[derive(Clone, Copy, Debug, PartialEq, Eq)]
 pub enum Methods {
@@ -71,4 +84,6 @@ pub enum Heard {
         from: u32,
         to: u32,
     },
+    /// What is shown piece by piece.
+    Page(Page),
 }

@@ -8,13 +8,13 @@ ghost use Rattle.office_http.specs.Heard.{meaning_of};
 ghost use Rattle.office_http.specs.Found.{place_of};
 ghost use Rattle.office_http.specs.declared.heard.Methods.TheVariants.{Put};
 ghost use Rattle.office_http.specs.declared.heard.Refusal.TheVariants.{BadRequest, NotAllowed};
-ghost use Rattle.office_http.specs.Meanings.{are_words, asked_at, asked_of, in_range, is_get, is_put, order_under, readings_of, refused, report_of, total_of, with_body};
+ghost use Rattle.office_http.specs.Meanings.{are_words, asked_at, asked_of, device_page, in_range, is_get, is_put, order_under, readings_of, refused, report_of, total_of, with_body};
 ghost use Rattle.office_http.specs.Numbers.{range_of, slot_of};
 ghost use Rattle.office_http.specs.Places as place;
 
 use crate::asked::{Asked, Awaited, Purpose};
 use crate::fields::{Length, body_length};
-use crate::heard::{Heard, Methods, Refusal};
+use crate::heard::{Heard, Methods, Page, Refusal};
 use crate::place::Place;
 use httparse::spans::HeaderSpan;
 use poll_book::{Caller, Key};
@@ -138,6 +138,15 @@ fn get_total(alloc: Global, point: &str) -> Result<Heard, AllocError>
     Ok(Heard::Total { point })
 }
 
+fn get_device(place: &str) -> Heard
+    ensures { meaning_of result ≡ device_page (slot_of place.now) }
+{
+    match slot_of(place) {
+        Some(place) => Heard::Page(Page::Device(place)),
+        None => Heard::Refused(Refusal::BadRequest),
+    }
+}
+
 /// What a head asks for at an order.
 fn at_order(caller: &str, key: &str, head: Head<'_>) -> Asked
     requires { All (IsHeaderWithin (length head.bytes.now)) head.fields.now }
@@ -196,5 +205,7 @@ pub(crate) fn asked_at(
         Place::Report { point, from, to } => {
             Ok(Asked::Known(get_report(alloc, point, from, to)?))
         }
+        Place::Page(page) => Ok(Asked::Known(Heard::Page(page))),
+        Place::Device { place } => Ok(Asked::Known(get_device(place))),
     }
 }

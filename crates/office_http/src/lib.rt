@@ -25,7 +25,7 @@ mod verdict;
 mod void;
 
 pub use exchange::Exchange;
-pub use heard::{Heard, Methods, Refusal};
+pub use heard::{Heard, Methods, Page, Refusal};
 pub use reading_body::Shown;
 pub use routes::Routes;
 pub use status::Status;

@@ -5,6 +5,7 @@ ghost use Rattle.office_http.specs.Routes.{the_routes};
 ghost use Rattle.office_http.specs.Places.{IsPlain, Names, spell};
 ghost use Rattle.office_http.specs.Found.{place_of};
 
+use crate::heard::Page;
 use crate::routes::{Route, route_for};
 use matchit::Router;
 
@@ -35,6 +36,10 @@ pub(crate) enum Place<'t> {
         point: &'t str,
         from: &'t str,
         to: &'t str,
+    },
+    Page(Page),
+    Device {
+        place: &'t str,
     },
 }
 
@@ -129,6 +134,11 @@ pub(crate) fn place_of<'t>(router: &Router<Route>, target: &'t str) -> Option<Pl
         Route::Report => {
             let (point, from, to) = range(target, "report/")?;
             Some(Place::Report { point, from, to })
+        }
+        Route::Page(page) => Some(Place::Page(page)),
+        Route::Device => {
+            let place = behind(target, "/devices/")?;
+            Some(Place::Device { place })
         }
     }
 }

@@ -1,8 +1,9 @@
 //! The routes of an office.
 ghost use Rattle.std.specs.Prelude.{◌≡◌, IfOk, OnOk};
 ghost use Rattle.matchit.specs.Seek.{first};
-ghost use Rattle.office_http.specs.Routes.{caller_routes, point_routes, the_routes, value_of, with_route};
+ghost use Rattle.office_http.specs.Routes.{caller_routes, page_routes, point_routes, the_routes, value_of, with_route};
 
+use crate::heard::Page;
 use matchit::Router;
 use std::alloc::{AllocError, Global};
 
@@ -11,7 +12,7 @@ use std::alloc::{AllocError, Global};
 pub enum Routes {
     /// Lists, orders and voids of callers, readings and totals of points.
     Basic,
-    /// These, and reports of points.
+    /// These, reports of points, and pages.
     Extended,
 }
 
@@ -24,6 +25,8 @@ pub(crate) enum Route {
     Readings,
     Total,
     Report,
+    Page(Page),
+    Device,
 }
 
 fn add(router: &mut Router<Route>, pattern: &str, route: Route) -> Result<(), AllocError>
@@ -56,6 +59,15 @@ fn add_points(router: &mut Router<Route>) -> Result<(), AllocError>
     Ok(())
 }
 
+fn add_pages(router: &mut Router<Route>) -> Result<(), AllocError>
+    ensures { OnOk result (router.new ≡ page_routes router.old) }
+{
+    add(router, "/points", Route::Page(Page::Points))?;
+    add(router, "/metrics", Route::Page(Page::Metrics))?;
+    add(router, "/", Route::Page(Page::Office))?;
+    Ok(())
+}
+
 /// A router of these routes.
 pub(crate) fn router_of(alloc: Global, routes: Routes) -> Result<Router<Route>, AllocError>
     ensures { IfOk result (λ router. router ≡ the_routes routes) }
@@ -71,6 +83,8 @@ pub(crate) fn router_of(alloc: Global, routes: Routes) -> Result<Router<Route>, 
                 "/points/{point}/report/{from}/{to}",
                 Route::Report,
             )?;
+            add_pages(&mut router)?;
+            add(&mut router, "/devices/{place}", Route::Device)?;
             Ok(router)
         }
     }

@@ -1,7 +1,8 @@
 -- What a request over HTTP makes happen, and what is answered to it.
-use Rattle.std.specs.Prelude.{ℕ, Bool, List, [], ◌∷◌, Option, Some, None, map, codes, pos, if◌then◌else◌}
+use Rattle.std.specs.Prelude.{ℕ, Bool, true, nat_lt, length, List, [], ◌∷◌, Option, Some, None, map, codes, pos, if◌then◌else◌}
 use Rattle.sunspec.specs.Text.{scaled}
 use Rattle.point_list.specs.declared.point.Point.{Point}
+use Rattle.point_list.specs.declared.site.Site.{Site}
 use Rattle.point_list.specs.Edition.{Second}
 use Rattle.poll_book.specs.declared.requests.Body.{Body}
 use Rattle.poll_book.specs.declared.requests.Body.TheVariants as body
@@ -23,13 +24,15 @@ use Rattle.office_core.specs.declared.event.RequestAnswer.{RequestAnswer}
 use Rattle.office_core.specs.declared.event.RequestAnswer.TheVariants.{Kept, KeyReused}
 use Rattle.office_core.specs.Answers.{answer_of}
 use Rattle.office_core.specs.Fitting.{point_text}
-use Rattle.office_core.specs.History.{Happening, Load, Order, Void, History, kept_readings, points, requests, total}
+use Rattle.office_core.specs.History.{Happening, Load, Order, Void, History, kept_readings, points, requests, site_of, total}
 use Rattle.office_core.specs.Loads.{known_named}
 use Rattle.office_core.specs.Offices.{order_state_of}
-use Rattle.office_http.specs.Answers.{answer_text, error_text, first_status, list_refused_text, one_text, order_text, plain_answer, points_text, readings_text, refusal_text, total_text, void_text}
+use Rattle.office_http.specs.Answers.{answer_text, error_text, first_status, list_refused_text, one_text, order_text, page_head, plain_answer, points_text, readings_text, refusal_text, total_text, void_text}
+use Rattle.office_http.specs.declared.heard.Page.{Page}
+use Rattle.office_http.specs.declared.heard.Page.TheVariants as shown
 use Rattle.office_http.specs.declared.heard.Refusal.TheVariants.{NotFound}
 use Rattle.office_http.specs.declared.status.Status.TheVariants.{Done, Conflict, Unprocessable}
-use Rattle.office_http.specs.Meanings.{Meaning, nothing, refused, load, order, void, order_under, readings_of, report_of, total_of}
+use Rattle.office_http.specs.Meanings.{Meaning, nothing, refused, load, order, void, order_under, readings_of, report_of, total_of, page}
 use Rattle.office_report.specs.Reports.{report_text}
 
 -- ---- what happens
@@ -123,6 +126,15 @@ abbrev pub report_reply : Option (List ℕ) → List ℕ
 report_reply None = not_found
 report_reply (Some text) = plain_answer text
 
+-- a site has what a page is of
+abbrev pub has_page : Site → Page → Bool
+has_page site (shown.Device at) = nat_lt at (length site.devices)
+has_page site _ = true
+
+-- the head of what is shown piece by piece
+abbrev pub page_reply : Site → Page → List ℕ
+page_reply site one = if has_page site one then page_head one else not_found
+
 -- ---- all
 
 -- the bytes that are answered after that history
@@ -136,3 +148,4 @@ reply_text now (order_under caller key) = under_reply now (request_at (requests 
 reply_text now (readings_of point from to) = readings_reply now point from to (known_named (points now) point)
 reply_text now (total_of point) = total_reply now point (known_named (points now) point)
 reply_text now (report_of point from to) = report_reply (report_text now point from to)
+reply_text now (page shown) = page_reply (site_of now) shown

@@ -8,17 +8,28 @@ ghost use Rattle.office_http.specs.Heard.{meaning_of};
 ghost use Rattle.office_http.specs.Meanings as meanings;
 ghost use Rattle.office_core.specs.Following.{Follows, MayLeave};
 ghost use Rattle.office_report.specs.Reports.{report_text};
-ghost use Rattle.office_net.specs.Replies.{order_reply, readings_reply, report_reply, state_reply, total_reply, under_reply};
+ghost use Rattle.office_net.specs.Replies.{has_page, order_reply, page_reply, readings_reply, report_reply, state_reply, total_reply, under_reply};
 ghost use Rattle.office_net.specs.Serving.{Answers, Unanswered};
 
 use crate::fault::{fault_of, report_fault};
 use crate::replies::{list_reply, not_found, order_refused, point_reply, readings_reply};
 use office_core::Office;
 use office_core::laws::fitting_tables;
-use office_http::{Heard, answer};
+use office_http::{Heard, Page, answer};
 use office_report::{report_of, total_text};
+use point_list::Site;
 use poll_book::{Body, Caller, Keeper, Key, Outcome, StoreFault};
-use std::alloc::Global;
+use std::alloc::{AllocError, Global};
+
+/// Whether the site has what a page is of.
+pub fn has_page(site: &Site, page: Page) -> bool
+    ensures { result ≡ has_page site.now page }
+{
+    match page {
+        Page::Device(place) => (place as usize) < site.devices.as_slice().len(),
+        Page::Points | Page::Metrics | Page::Office => true,
+    }
+}
 
 fn put_list<K: Keeper>(
     alloc: Global,
@@ -221,6 +232,17 @@ fn get_report<K: Keeper>(
     Ok(text)
 }
 
+/// The head of a page.
+fn get_page(alloc: Global, site: &Site, page: Page) -> Result<String, AllocError>
+    ensures { IfOk result (λ text. string_bytes text ≡ page_reply site.now page) }
+{
+    if has_page(site, page) {
+        answer::page(alloc, page)
+    } else {
+        not_found(alloc)
+    }
+}
+
 /// Does what a request asks for, and gives the bytes of the answer, none where nothing was asked. The
 /// fault is the store's or memory's: `office_http::answer::unavailable` is what the caller gets then.
 /// Where memory was refused for the answer, what was asked for is done all the same, and the same
@@ -261,5 +283,6 @@ pub fn respond<K: Keeper>(
         ),
         Heard::Total { point } => get_total(alloc, office, point.as_str()),
         Heard::Report { point, from, to } => get_report(alloc, office, point.as_str(), *from, *to),
+        Heard::Page(page) => Ok(get_page(alloc, office.site(), *page)?),
     }
 }

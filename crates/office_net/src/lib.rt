@@ -19,7 +19,7 @@ mod round;
 mod serving;
 mod turns;
 
-pub use answering::respond;
+pub use answering::{has_page, respond};
 pub use counting::last_counted;
 pub use drilling::{DrillFault, DrillStep, drill};
 pub use fault::PollFault;

@@ -2,6 +2,7 @@ mod Beginning
 mod Callers
 mod Deeds
 mod Lines
+mod Pages
 mod Passing
 mod Sessions
 mod Staying

@@ -1,7 +1,7 @@
 -- What stands for a line or caller, deed by deed.
-use Rattle.std.proofs.Common.{◌≡◌, ◌≢◌, inl, inr, List, [], ◌∷◌, ◌++◌, Result, Ok, Err, refl, sym, subst}
+use Rattle.std.proofs.Common.{◌≡◌, ◌≢◌, inl, inr, List, [], ◌∷◌, ◌++◌, Result, Ok, Err, refl, sym, subst, ap, ◌∙◌}
 use Rattle.std.specs.Prelude.{Bool, MatchResult}
-use Rattle.std.proofs.lemmas.List.{map-append}
+use Rattle.std.proofs.lemmas.List.{append-nil, map-append}
 use Rattle.poll_book.specs.declared.keeper.Neighbours.{Ghosts}
 use Rattle.poll_book.specs.Tables.{Within}
 use Rattle.run_beat.specs.declared.sockets.Source.{Source}
@@ -96,6 +96,13 @@ module _ {S : Type 0} (moves : History → S → Deed → S → Type 0) where
     then_office source one two three acted before between after =
         part_then source one two three acted (λ acts. acts ≡ []) acted before between after
         (λ first second some none. subst (λ (acts : List Act). acted (acts ++ first)) (sym none) some)
+
+    -- first the office did something
+    pub office_then : (source : Source) (one two three : Office K g) (acted : List Act → Type 0) (before between after : S)
+        → PartOf moves source one two (λ acts. acts ≡ []) before between → PartOf moves source two three acted between after → PartOf moves source one three acted before after
+    office_then source one two three acted before between after =
+        part_then source one two three (λ acts. acts ≡ []) acted acted before between after
+        (λ first second none some. subst acted (sym (ap (λ (acts : List Act). second ++ acts) none ∙ append-nil second)) some)
 
     -- what was done with its socket, in a call that may fail
     pub acting_told : {E : Type 0} (source : Source) (office : Office K g) (acted : List Act → Type 0) (before after : S) (told : Result Bool E)

@@ -33,7 +33,7 @@ use Rattle.office_net.specs.Querying.{Answered, CameTo, Makes, Misses, Tries}
 use Rattle.office_net.proofs.Querying.{makes_wider, misses_wider, nothing_then_makes, nothing_then_misses}
 use Rattle.office_run.specs.declared.round.Asked.{Asked}
 use Rattle.office_run.specs.Doings.{AsksOne, HearsOne, OpensOne, Runs, SendsOne}
-use Rattle.office_run.specs.Deeds.{AllOf, Deed, Deeds, GivesUpOn, Is, Next, Over, Passes, Replies, Rests, Starts, With, steps_of}
+use Rattle.office_run.specs.Deeds.{AllOf, Deed, Deeds, GivesUpOn, Is, Next, Over, Passes, Replies, Rests, Starts, With, steps_of, Shows}
 use Rattle.office_run.specs.Rounds.{query_of}
 use Rattle.office_run.specs.declared.loss.Loss.{Loss}
 use Rattle.office_run.specs.declared.loss.Stop.{Stop}
@@ -293,6 +293,7 @@ module _ (terms : Terms) (source : Source) (from : ℕ) where
   lined_one now wire wire' (Rests other) moves = (refl, moves)
   lined_one now wire wire' (GivesUpOn other device) moves = (refl, moves)
   lined_one now wire wire' (Replies other became text) moves = (refl, moves)
+  lined_one now wire wire' (Shows other text) moves = (refl, moves)
 
   lined_all : (now : History) (wire wire' : Wire) (deeds : List Deed) → Passes (WireMoves terms) source now wire deeds wire'
       → Passes (LineMoves terms) source now (record { from = from; wire = wire }) deeds (record { from = from; wire = wire' })

@@ -5,15 +5,16 @@ use Rattle.office_run.specs.declared.caller.Caller.{Caller}
 use Rattle.office_run.specs.declared.caller.Mood.{Mood}
 use Rattle.office_run.specs.declared.caller.Mood.TheVariants as mood
 use Rattle.office_run.specs.declared.place.Place.{Place}
+use Rattle.office_run.specs.declared.showing.Showing.{Showing}
 use Rattle.office_run.specs.Sessions.{Answering, Closing, Free, Hearing, Session}
 
-abbrev pub session_in : Mood → List ℕ → List ℕ → Session
-session_in mood.Hearing heard left = Hearing heard
-session_in mood.Answering heard left = Answering left
-session_in mood.Closing heard left = Closing
+abbrev pub session_in : Mood → List ℕ → Option Showing → List ℕ → Session
+session_in mood.Hearing heard next left = Hearing heard
+session_in mood.Answering heard next left = Answering next left
+session_in mood.Closing heard next left = Closing
 
 abbrev pub session_of : Caller → Session
-session_of caller = session_in caller.mood (bytes_of caller.exchange) caller.out
+session_of caller = session_in caller.mood (bytes_of caller.exchange) caller.showing caller.out
 
 abbrev pub session_with : Option Caller → Session
 session_with None = Free

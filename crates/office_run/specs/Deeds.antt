@@ -34,6 +34,8 @@ pub data Deed : Type 0 where
   GivesUpOn : Source → (device : ℕ) → Deed
   -- what a caller asked for came to that, and these bytes are the answer
   Replies : Source → Became → List ℕ → Deed
+  -- these bytes are put behind an answer, which shows a page
+  Shows : Source → List ℕ → Deed
 
 abbrev pub source_of_act : Act → Source
 source_of_act (Begins source) = source
@@ -51,6 +53,7 @@ source_of (Starts source slot) = source
 source_of (Rests source) = source
 source_of (GivesUpOn source device) = source
 source_of (Replies source became text) = source
+source_of (Shows source text) = source
 
 -- what happens, or is refused
 abbrev pub steps_made : (Happening → Step) → Option Happening → List Step
@@ -66,6 +69,7 @@ steps_in (GivesUpOn source device) = []
 steps_in (Replies source (Done meaning) text) = steps_made Did (event_of meaning)
 steps_in (Replies source (Undone meaning) text) = steps_made Missed (event_of meaning)
 steps_in (Replies source Untried text) = []
+steps_in (Shows source text) = []
 
 abbrev pub steps_of : List Deed → List Step
 steps_of = flat_map steps_in

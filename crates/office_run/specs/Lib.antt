@@ -9,6 +9,7 @@ pub mod Links
 pub mod Losses
 pub mod Noises
 pub mod Outlooks
+pub mod Pages
 pub mod Passes
 pub mod Rounds
 pub mod Sessions

@@ -1,22 +1,30 @@
 //! A caller's exchange.
-ghost use Rattle.std.specs.Prelude.{◌≡◌, ◌≢◌, ◌++◌, [], List, MatchResult, OnOk, ℕ};
+ghost use Rattle.std.specs.Prelude.{◌≡◌, ◌≢◌, ◌++◌, [], List, MatchResult, None, OnOk, string_bytes, true, ℕ};
 ghost use Rattle.office_core.specs.Proceeding.{GoesAlong, Nothing};
 ghost use Rattle.office_http.specs.Deciding.{Lacks};
 ghost use Rattle.office_http.specs.Exchanges.{bytes_of, routes_of};
 ghost use Rattle.office_http.specs.declared.routes.Routes.TheVariants.{Extended};
+ghost use Rattle.office_http.specs.declared.heard.Heard.TheVariants as heards;
 ghost use Rattle.office_http.specs.Heard.{meaning_of};
+ghost use Rattle.office_http.specs.Answers.{unavailable_text};
+ghost use Rattle.office_http.specs.Meanings as pages;
 ghost use Rattle.office_net.specs.Serving.{written_for};
 ghost use Rattle.run_beat.specs.declared.sockets.Source.{Source as ASource};
+ghost use Rattle.office_http.specs.declared.heard.Page.{Page as APage};
 ghost use Rattle.office_run.specs.Sessions.{Acting, Comes, Exchanges, Heard as HeardAll, Hearing as HearingOf, Session};
 ghost use Rattle.office_run.specs.declared.caller.Mood.TheVariants as moods;
 
+use crate::board::Board;
+use crate::looks::fault_of;
 use crate::moved::Moved;
-use office_core::{Office, OfficeError};
-use office_http::{Exchange, Heard, Routes, answer};
-use office_net::{last_order, respond};
+use crate::showing::Showing;
+use office_core::Office;
+use office_http::{Exchange, Heard, Page, Routes, answer};
+use office_net::{has_page, last_order, respond};
 use poll_book::{Keeper, StoreFault};
 use run_beat::{
-    CLOSING_MILLIS, Came, EXCHANGE_MILLIS, HEAD_MILLIS, Moment, Outbox, Sent, Sockets, Source,
+    CLOSING_MILLIS, Came, EXCHANGE_MILLIS, HEAD_MILLIS, Moment, Outbox, Sent, Slots, Sockets,
+    Source,
 };
 use std::alloc::{AllocError, Global};
 use std::mem;
@@ -26,6 +34,9 @@ const SLOW_MILLIS: u32 = 10_000;
 
 /// So many bytes are read of a caller in a turn at most.
 const PIECE: usize = 4096;
+
+/// Of a page no more is put behind the answer while so many bytes wait to be written.
+const ENOUGH: usize = 16_384;
 
 /// How an exchange stands.
 #[derive(Clone, Copy, Debug, PartialEq, Eq)]
@@ -57,6 +68,12 @@ impl From<AllocError> for Gone {
     }
 }
 
+impl From<StoreFault> for Gone {
+    fn from(_: StoreFault) -> Gone {
+        Gone
+    }
+}
+
 /// A caller that is connected.
 #[derive(Drop)]
 pub(crate) struct Caller {
@@ -64,6 +81,8 @@ pub(crate) struct Caller {
     exchange: Exchange,
     mood: Mood,
     out: Outbox,
+    // What a page shows behind the answer, if one is shown.
+    showing: Option<Showing>,
     // It came at this moment.
     since: Moment,
     // Its exchange is over at this one.
@@ -77,6 +96,7 @@ pub(crate) struct Caller {
     ghost offers: { routes_of exchange ≡ Extended },
     ghost lacks: { mood ≡ moods.Hearing → Lacks Extended (bytes_of exchange) },
     ghost unwritten: { mood ≡ moods.Hearing → out ≡ [] },
+    ghost unshown: { mood ≡ moods.Hearing → showing ≡ None },
 }
 
 /// What became of what a caller asked for.
@@ -110,8 +130,7 @@ pub(crate) fn orders_of<K: Keeper>(office: &mut Office<K>) -> Result<u32, StoreF
 {
     match last_order(office) {
         Ok(number) => Ok(number),
-        Err(OfficeError::Store(fault)) => Err(fault),
-        Err(_) => Err(StoreFault::Other),
+        Err(error) => Err(fault_of(error)),
     }
 }
 
@@ -122,15 +141,34 @@ fn has_more<K: Keeper>(office: &mut Office<K>, before: u32) -> bool
     orders_of(office) != Ok(before)
 }
 
-/// Does what was asked for, and gives the bytes of the answer.
+/// Does what was asked for, which is no page, and gives the bytes of the answer.
 fn done<K: Keeper>(
     alloc: Global,
     office: &mut Office<K>,
     heard: &Heard,
 ) -> Result<String, StoreFault>
-    ensures { Comes office.old office.new (λ meaning. meaning ≡ meaning_of heard.now) (written_for result) }
+    requires { (page : APage) → heard.now ≢ heards.Page page }
+    ensures { Comes office.old office.new (λ meaning. meaning ≡ meaning_of heard.now) (written_for result) None }
 {
     respond(alloc, office, heard)
+}
+
+/// Gives the head of a page, and the page from its beginning on, if it is one of the site's.
+fn begun<K: Keeper>(
+    alloc: Global,
+    office: &mut Office<K>,
+    page: Page,
+    slots: Slots,
+) -> Result<(String, Option<Showing>), StoreFault>
+    ensures { MatchResult result
+        (λ told. Comes office.old office.new (λ meaning. meaning ≡ pages.page page) (string_bytes told.0) told.1)
+        (λ _. Comes office.old office.new (λ meaning. meaning ≡ pages.page page) unavailable_text None) }
+{
+    let head = respond(alloc, office, &Heard::Page(page))?;
+    if !has_page(office.site(), page) {
+        return Ok((head, None));
+    }
+    Ok((head, Some(Showing::first(page, slots))))
 }
 
 impl Caller {
@@ -145,6 +183,7 @@ impl Caller {
             exchange: Exchange::new(alloc, Routes::Extended),
             mood: Mood::Hearing,
             out: Outbox::new(alloc),
+            showing: None,
             since: now,
             until: now.after(EXCHANGE_MILLIS),
             has_paused: false,
@@ -199,8 +238,9 @@ impl Caller {
         heard: &Heard,
         point: &str,
     ) -> Result<String, StoreFault>
-        ensures came { Comes office.old office.new (λ meaning. meaning ≡ meaning_of heard.now) (written_for result) }
-        ensures same { (self.new.mood ≡ self.old.mood) × (self.new.out ≡ self.old.out) × (self.new.exchange ≡ self.old.exchange) }
+        requires { (page : APage) → heard.now ≢ heards.Page page }
+        ensures came { Comes office.old office.new (λ meaning. meaning ≡ meaning_of heard.now) (written_for result) None }
+        ensures same { (self.new.mood ≡ self.old.mood) × (self.new.out ≡ self.old.out) × (self.new.exchange ≡ self.old.exchange) × (self.new.showing ≡ self.old.showing) }
     {
         let before = orders_of(office)?;
         let told = done(self.alloc, office, heard);
@@ -215,11 +255,19 @@ impl Caller {
         &mut self,
         office: &mut Office<K>,
         heard: &Heard,
+        slots: Slots,
     ) -> Result<String, StoreFault>
-        ensures came { Comes office.old office.new (λ meaning. meaning ≡ meaning_of heard.now) (written_for result) }
+        requires answering { self.old.mood ≡ Mood.Answering }
+        requires unshown { self.old.showing ≡ None }
+        ensures came { Comes office.old office.new (λ meaning. meaning ≡ meaning_of heard.now) (written_for result) self.new.showing }
         ensures same { (self.new.mood ≡ self.old.mood) × (self.new.out ≡ self.old.out) × (self.new.exchange ≡ self.old.exchange) }
     {
         match heard {
+            Heard::Page(page) => {
+                let (head, showing) = begun(self.alloc, office, *page, slots)?;
+                self.showing = showing;
+                Ok(head)
+            }
             Heard::Order { point, .. } => self.order(office, heard, point.as_str()),
             Heard::Void { .. } => {
                 self.news.has_voided = true;
@@ -231,13 +279,19 @@ impl Caller {
 
     /// Does what was asked for, and puts the answer there to be written: where it is one, it is so only once what was
     /// asked for is done.
-    fn answer<K: Keeper>(&mut self, office: &mut Office<K>, heard: &Heard) -> Result<(), AllocError>
+    fn answer<K: Keeper>(
+        &mut self,
+        office: &mut Office<K>,
+        heard: &Heard,
+        slots: Slots,
+    ) -> Result<(), AllocError>
         requires answering { self.old.mood ≡ Mood.Answering }
         requires unwritten { self.old.out ≡ [] }
-        ensures came { (text : List ℕ) × Comes office.old office.new (λ meaning. meaning ≡ meaning_of heard.now) text × OnOk result (self.new.out ≡ text) }
+        requires unshown { self.old.showing ≡ None }
+        ensures came { (text : List ℕ) × Comes office.old office.new (λ meaning. meaning ≡ meaning_of heard.now) text self.new.showing × OnOk result (self.new.out ≡ text) }
         ensures mood { self.new.mood ≡ Mood.Answering }
     {
-        match self.respond(office, heard) {
+        match self.respond(office, heard, slots) {
             Ok(text) => self.out.push(text.as_bytes()),
             Err(fault) => {
                 self.news.refused = Some(fault);
@@ -247,7 +301,12 @@ impl Caller {
     }
 
     /// Takes bytes of the request.
-    fn hear<K: Keeper>(&mut self, office: &mut Office<K>, piece: &[u8]) -> Result<(), AllocError>
+    fn hear<K: Keeper>(
+        &mut self,
+        office: &mut Office<K>,
+        piece: &[u8],
+        slots: Slots,
+    ) -> Result<(), AllocError>
         requires { self.old.mood ≡ Mood.Hearing }
         ensures { (source : ASource) → MatchResult result
             (λ _. Exchanges source office.old office.new (λ acts. acts ≡ []) (HearingOf (bytes_of self.old.exchange ++ piece.now)) (session_of self.new))
@@ -257,7 +316,7 @@ impl Caller {
             Ok(None) => Ok(()),
             Ok(Some(heard)) => {
                 self.mood = Mood::Answering;
-                self.answer(office, &heard)
+                self.answer(office, &heard, slots)
             }
             Err(_) => {
                 self.mood = Mood::Answering;
@@ -267,7 +326,7 @@ impl Caller {
     }
 
     /// No more of the request comes.
-    fn end<K: Keeper>(&mut self, office: &mut Office<K>) -> Result<(), AllocError>
+    fn end<K: Keeper>(&mut self, office: &mut Office<K>, slots: Slots) -> Result<(), AllocError>
         requires { self.old.mood ≡ Mood.Hearing }
         ensures { (source : ASource) → MatchResult result
             (λ _. Exchanges source office.old office.new (λ acts. acts ≡ []) (HeardAll (bytes_of self.old.exchange)) (session_of self.new))
@@ -275,7 +334,7 @@ impl Caller {
     {
         self.mood = Mood::Answering;
         let heard = self.exchange.end();
-        self.answer(office, &heard)
+        self.answer(office, &heard, slots)
     }
 
     /// Reads a piece of the request; tells whether something came.
@@ -284,6 +343,7 @@ impl Caller {
         office: &mut Office<K>,
         sockets: &mut S,
         source: Source,
+        slots: Slots,
         now: Moment,
     ) -> Result<bool, Gone>
         requires { self.old.mood ≡ Mood.Hearing }
@@ -298,10 +358,10 @@ impl Caller {
                 return Ok(false);
             }
             Came::Failed => return Err(Gone),
-            Came::Ended => self.end(office)?,
+            Came::Ended => self.end(office, slots)?,
             Came::Bytes(count) => {
                 self.moved.add(now, count);
-                self.hear(office, &piece[..count])?;
+                self.hear(office, &piece[..count], slots)?;
             }
         }
         Ok(true)
@@ -320,6 +380,13 @@ impl Caller {
             Came::Failed | Came::Ended => Err(Gone),
             Came::Bytes(_) => Ok(true),
         }
+    }
+
+    /// Whether all of the answer is written, and of the page that it shows, if it does.
+    fn is_written(&self) -> bool
+        ensures { result ≡ true → (self.now.showing ≡ None) × (self.now.out ≡ []) }
+    {
+        self.showing.is_none() && self.out.is_empty()
     }
 
     /// Writes on; tells whether something was written.
@@ -345,7 +412,7 @@ impl Caller {
                 self.out.wrote(count);
             }
         }
-        if self.out.is_empty() {
+        if self.is_written() {
             sockets.finish(source);
             self.mood = Mood::Closing;
             self.until = now.after(CLOSING_MILLIS);
@@ -353,11 +420,54 @@ impl Caller {
         Ok(true)
     }
 
+    /// Puts what a page shows next behind what waits to be written, unless that is enough; tells whether it did.
+    fn show<K: Keeper>(&mut self, office: &mut Office<K>, board: &Board) -> Result<bool, Gone>
+        requires { self.old.mood ≡ Mood.Answering }
+        ensures went { (source : ASource) → MatchResult result
+            (λ _. Exchanges source office.old office.new (λ acts. acts ≡ []) (session_of self.old) (session_of self.new))
+            (λ _. (session : Session) × Exchanges source office.old office.new (λ acts. acts ≡ []) (session_of self.old) session) }
+        ensures mood { self.new.mood ≡ Mood.Answering }
+    {
+        let Some(showing) = self.showing else {
+            return Ok(false);
+        };
+        if self.out.pending().len() >= ENOUGH {
+            return Ok(false);
+        }
+        let shown = showing.go_on(self.alloc, office, board)?;
+        self.out.push(shown.text.as_bytes())?;
+        self.showing = shown.next;
+        Ok(true)
+    }
+
+    /// Shows what a page shows next, if one is shown, and writes on; tells whether there may be more to do at once.
+    fn write_on<K: Keeper, S: Sockets>(
+        &mut self,
+        office: &mut Office<K>,
+        sockets: &mut S,
+        board: &Board,
+        source: Source,
+        now: Moment,
+    ) -> Result<bool, Gone>
+        requires { self.old.mood ≡ Mood.Answering }
+        ensures { MatchResult result
+            (λ _. Exchanges source office.old office.new (λ acts. S.acts sockets.old acts sockets.new) (session_of self.old) (session_of self.new))
+            (λ _. (session : Session) × Exchanges source office.old office.new (λ acts. S.acts sockets.old acts sockets.new) (session_of self.old) session) }
+    {
+        let has_shown = self.show(office, board)?;
+        if has_shown && self.out.is_empty() {
+            return Ok(true);
+        }
+        let has_written = self.write(sockets, source, now)?;
+        Ok(has_shown || has_written)
+    }
+
     /// Goes on with the exchange; tells whether there may be more to do at once.
     pub fn go_on<K: Keeper, S: Sockets>(
         &mut self,
         office: &mut Office<K>,
         sockets: &mut S,
+        board: &Board,
         source: Source,
         now: Moment,
     ) -> Result<bool, Gone>
@@ -369,8 +479,8 @@ impl Caller {
             return Err(Gone);
         }
         match self.mood {
-            Mood::Hearing => self.read(office, sockets, source, now),
-            Mood::Answering => self.write(sockets, source, now),
+            Mood::Hearing => self.read(office, sockets, source, board.slots, now),
+            Mood::Answering => self.write_on(office, sockets, board, source, now),
             Mood::Closing => self.drop_one(sockets, source),
         }
     }

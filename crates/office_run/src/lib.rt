@@ -3,11 +3,13 @@
 #![tactic(auto)]
 
 mod ahead;
+mod board;
 mod caller;
 mod event;
 mod journal;
 mod line;
 mod link;
+mod looks;
 mod loss;
 mod moved;
 mod noise;
@@ -16,6 +18,7 @@ mod place;
 mod round;
 mod running;
 mod share;
+mod showing;
 mod station;
 mod times;
 mod turned;

@@ -7,6 +7,7 @@ ghost use Rattle.run_beat.specs.Acts.{Closes};
 mod rounds;
 
 use crate::ahead::Lookout;
+use crate::board::Standing;
 use crate::event::{Event, Told};
 use crate::journal::Journal;
 use crate::link::{Connection, Link, Taken};
@@ -17,6 +18,7 @@ use crate::times::{Times, earlier};
 use crate::turned::{Turned, refused_in};
 use office_core::{Arrival, Office};
 use office_net::open_line;
+use office_pages::Tally;
 use point_list::Text;
 use poll_book::Keeper;
 use run_beat::{Beat, Came, Connected, Delay, Moment, Sent, Sockets, Source, Stage};
@@ -57,6 +59,8 @@ pub(crate) struct Line {
     told: Told,
     // Whether the store kept something in this turn.
     has_kept: bool,
+    // What its rounds came to.
+    tally: Tally,
     /// Its counters, as far as they are counted in slots to come.
     pub lookout: Lookout,
     /// The pass in which it did something last.
@@ -66,6 +70,11 @@ pub(crate) struct Line {
 /// Whether the store has something else since it arrived.
 fn is_kept(arrival: Arrival) -> bool {
     matches!(arrival, Arrival::Recorded(1..) | Arrival::Settled)
+}
+
+/// One more is counted.
+pub(crate) fn one_more(count: &mut u64) {
+    *count = count.saturating_add(1);
 }
 
 impl Line {
@@ -96,6 +105,7 @@ impl Line {
             stuck: None,
             told: Told::Nothing,
             has_kept: false,
+            tally: Tally::default(),
             lookout: Lookout::new(),
             served: 0,
         }
@@ -141,6 +151,14 @@ impl Line {
             Some(self.looked_up)
         } else {
             None
+        }
+    }
+
+    /// How it stands, and what it came to.
+    pub fn standing(&self) -> Standing {
+        Standing {
+            is_up: self.told == Told::Up,
+            tally: self.tally,
         }
     }
 
@@ -262,6 +280,31 @@ impl Line {
         }
     }
 
+    /// Counts what a frame brought.
+    fn count(&mut self, arrival: Arrival)
+        ensures { Keeps self.old self.new }
+    {
+        self.has_kept |= is_kept(arrival);
+        match arrival {
+            Arrival::Recorded(readings) => {
+                let total = self.tally.readings.saturating_add(u64::from(readings));
+                self.tally.readings = total;
+            }
+            Arrival::Excepted(_) => one_more(&mut self.tally.exceptions),
+            Arrival::Settled => {}
+        }
+    }
+
+    /// Counts the queries that were made over the connection since.
+    fn count_queries(&mut self)
+        ensures { Keeps self.old self.new }
+    {
+        if let Connection::Up(link) = &mut self.connection {
+            let total = self.tally.queries.saturating_add(link.take_asked());
+            self.tally.queries = total;
+        }
+    }
+
     /// Takes the next frame that came, if there is one; tells whether it was one that the store has nothing to do with.
     fn take_one<K: Keeper>(
         &mut self,
@@ -276,13 +319,17 @@ impl Line {
         };
         match link.take(office, &mut self.stations, journal, now)? {
             Some(Taken::Answer(arrival)) => {
-                self.has_kept |= is_kept(arrival);
+                self.count(arrival);
                 self.tell_up(journal);
                 Ok(false)
             }
             Some(Taken::Refused(fault)) => Err(Stop::Refused(fault)),
-            Some(Taken::Repeat) => Ok(true),
+            Some(Taken::Repeat) => {
+                one_more(&mut self.tally.refused);
+                Ok(true)
+            }
             Some(Taken::Noise(count)) => {
+                one_more(&mut self.tally.refused);
                 self.noise.add(0, count);
                 Ok(true)
             }
@@ -563,6 +610,14 @@ impl Line {
         }
     }
 
+    /// Counts what was asked, and tells what is new of its counters.
+    fn note<K: Keeper>(&mut self, office: &Office<K>, journal: &mut Journal, times: &Times)
+        ensures { Keeps self.old self.new }
+    {
+        self.count_queries();
+        self.tell_ahead(office, journal, times);
+    }
+
     /// Its turn.
     pub fn turn<K: Keeper, S: Sockets>(
         &mut self,
@@ -577,7 +632,7 @@ impl Line {
     {
         let now = times.now;
         let acted = self.act(office, sockets, journal, times, orders);
-        self.tell_ahead(office, journal, &times);
+        self.note(office, journal, &times);
         let mut turned = Turned {
             is_more: false,
             refused: None,

@@ -20,6 +20,7 @@ use poll_match::Conn;
 use run_beat::{Moment, Outbox};
 use std::alloc::{AllocError, Global};
 use std::collections::VecDeque;
+use std::mem;
 
 /// A connection to a line that stands.
 #[derive(Drop)]
@@ -40,6 +41,8 @@ pub(crate) struct Link {
     heard: Moment,
     // The slot in whose round something was answered last.
     answered: Option<u32>,
+    // So many queries were made since they were counted.
+    asked: u64,
 }
 
 /// The connection of a line.
@@ -89,6 +92,7 @@ impl Link {
             round: None,
             heard: now,
             answered: None,
+            asked: 0,
         }
     }
 
@@ -128,6 +132,7 @@ impl Link {
         requires { length (asked_in self.old) < 16 }
         ensures { OnOk result (Sends (standing_of self.old) asked.now.query (wire_of self.new)) }
     {
+        self.asked = self.asked.saturating_add(1);
         let bytes = asked.query.encode();
         self.out.push(bytes.as_bytes())?;
         self.window.push(Query {
@@ -151,6 +156,13 @@ impl Link {
             Some(round) => round.next(office, self.conn, stations, &self.window),
             None => Ok(None),
         }
+    }
+
+    /// How many queries were made since this was asked last.
+    pub fn take_asked(&mut self) -> u64
+        ensures { wire_of self.new ≡ wire_of self.old }
+    {
+        mem::replace(&mut self.asked, 0)
     }
 
     /// Makes one query, if one may be made in the round that is under way, and fewer than so many wait; tells whether it

@@ -3,6 +3,7 @@ ghost use Rattle.std.specs.Prelude.{◌≡◌, ◌∷◌, []};
 ghost use Rattle.run_beat.specs.Acts.{Closes};
 ghost use Rattle.office_run.specs.Sessions.{Exchanges, Free};
 
+use crate::board::Board;
 use crate::caller::{Caller, Gone, Hold, News};
 use office_core::Office;
 use poll_book::Keeper;
@@ -95,6 +96,7 @@ impl Place {
         &mut self,
         office: &mut Office<K>,
         sockets: &mut S,
+        board: &Board,
         now: Moment,
     ) -> bool
         ensures at { self.new.at ≡ self.old.at }
@@ -107,7 +109,7 @@ impl Place {
             }
             return is_taken;
         };
-        match caller.go_on(office, sockets, Source::Caller(self.at), now) {
+        match caller.go_on(office, sockets, board, Source::Caller(self.at), now) {
             Ok(is_more) => is_more,
             Err(Gone) => {
                 self.clear(sockets);

@@ -12,6 +12,7 @@ ghost use Rattle.office_run.specs.Sessions.{Acting, AreServed, Exchanges};
 ghost use Rattle.office_run.specs.Wires.{AreWired, Lined};
 
 use crate::ahead::Ahead;
+use crate::board::Board;
 use crate::caller::{Hold, News, orders_of};
 use crate::event::Event;
 use crate::journal::Journal;
@@ -87,6 +88,8 @@ struct Running<'a, K: Keeper, S: Sockets> {
     to_look_up: Option<usize>,
     may_look_up: Moment,
     journal: &'a mut Journal,
+    // What pages show beside what the office keeps.
+    board: &'a mut Board,
     // Whether the clock is held, and whether it stands behind the last slot that was begun on a line.
     is_held: bool,
     is_behind: bool,
@@ -140,6 +143,7 @@ impl<K: Keeper, S: Sockets> Running<'_, K, S> {
         ensures along { (self.new.office.ghost_name ≡ self.old.office.ghost_name) × GoesAlong Nothing self.old.office.now self.new.office.now }
         ensures sockets { self.new.sockets ≡ self.old.sockets }
     {
+        self.board.note_refusal();
         if self.refused != Some(fault) {
             self.refused = Some(fault);
             self.journal.tell(&Event::Refused(fault));
@@ -178,6 +182,7 @@ impl<K: Keeper, S: Sockets> Running<'_, K, S> {
         ensures { (self.new.office ≡ self.old.office) × (self.new.sockets ≡ self.old.sockets) }
     {
         self.expect(line.due());
+        self.board.note(line.place(), line.standing());
         self.note_unreached(line);
         self.from = self.from.max(line.from());
         if let Some(Ahead { point, slot }) = turned.ahead {
@@ -323,6 +328,7 @@ impl<K: Keeper, S: Sockets> Running<'_, K, S> {
         ensures { (self.new.office ≡ self.old.office) × (self.new.sockets ≡ self.old.sockets) }
     {
         self.journal.set_clock(self.times.clock);
+        self.board.clock = self.times.clock;
         let is_held = self.times.slot().is_none();
         if self.times.has_jumped {
             self.journal.tell(&Event::Jumped);
@@ -446,7 +452,7 @@ impl<K: Keeper, S: Sockets> Called<Running<'_, K, S>> for Place {
             return world.callers.is_owed();
         }
         world.make_room(self);
-        let is_more = self.turn(world.office, world.sockets, world.times.now);
+        let is_more = self.turn(world.office, world.sockets, world.board, world.times.now);
         world.note_place(self);
         is_more
     }
@@ -510,6 +516,7 @@ fn turns<K: Keeper, S: Sockets>(
     sockets: &mut S,
     orders: &mut Vec<u64>,
     journal: &mut Journal,
+    board: &mut Board,
     lines: &mut Vec<Line>,
     places: &mut Vec<Place>,
     outset: Outset,
@@ -533,6 +540,7 @@ fn turns<K: Keeper, S: Sockets>(
         to_look_up: None,
         may_look_up: Moment::new(0),
         journal,
+        board,
         is_held: false,
         is_behind: false,
         from: 0,
@@ -565,11 +573,13 @@ pub fn run<K: Keeper, S: Sockets>(
     let mut watch = Watch::new(slots);
     let times = Times::of(sockets, slots, &mut watch)?;
     let mut journal = Journal::new(alloc, times.clock);
+    let mut board = Board::new(alloc, slots, times.clock, lines.len())?;
     turns(
         office,
         sockets,
         &mut orders,
         &mut journal,
+        &mut board,
         &mut lines,
         &mut places,
         Outset { watch, times },

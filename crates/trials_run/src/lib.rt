@@ -20,6 +20,8 @@ mod lines;
 #[cfg(test)]
 mod orders;
 #[cfg(test)]
+mod pages;
+#[cfg(test)]
 mod reports;
 #[cfg(test)]
 mod scenes;

@@ -6,7 +6,7 @@ ghost use Rattle.run_beat.specs.Beats.{Wants};
 
 use crate::event::Event;
 use crate::journal::Journal;
-use crate::line::Line;
+use crate::line::{Line, one_more};
 use crate::link::Connection;
 use crate::loss::{Loss, Stop};
 use crate::round::Kind;
@@ -31,9 +31,28 @@ enum Becomes {
 impl Line {
     ghost use Rattle.office_run.specs.Lines.{Advances, IsSame, Keeps, wire_at};
 
-    /// Tells that a round of a slot was cut, unless it was of orders alone.
-    fn tell_cut(&self, journal: &mut Journal, kind: Kind, slot: u32) {
+    /// Counts a round that is done, unless it was of orders alone.
+    fn count_round(&mut self, now: Moment)
+        ensures { Keeps self.old self.new }
+    {
+        let Connection::Up(link) = &self.connection else {
+            return;
+        };
+        if let Some(round) = link.round()
+            && round.kind() == Kind::Whole
+        {
+            let millis = round.began().until(now);
+            self.tally.last_round = Some(millis);
+            one_more(&mut self.tally.rounds);
+        }
+    }
+
+    /// Counts and tells that a round of a slot was cut, unless it was of orders alone.
+    fn tell_cut(&mut self, journal: &mut Journal, kind: Kind, slot: u32)
+        ensures { Keeps self.old self.new }
+    {
         if kind == Kind::Whole {
+            one_more(&mut self.tally.cut);
             let line = self.stations.line();
             journal.tell(&Event::Cut { line, slot });
         }
@@ -105,6 +124,7 @@ impl Line {
         match self.judge(times) {
             Some(Becomes::Done) => {
                 self.refusals = Delay::none();
+                self.count_round(now);
                 self.end_round();
                 self.stations.tell_silent(journal);
             }
@@ -113,7 +133,10 @@ impl Line {
                 self.end_round();
                 self.stations.tell_silent(journal);
             }
-            Some(Becomes::Silent) => return Err(Stop::Lost(Loss::Silent)),
+            Some(Becomes::Silent) => {
+                one_more(&mut self.tally.cut);
+                return Err(Stop::Lost(Loss::Silent));
+            }
             Some(Becomes::Waiting) => {
                 let from = self.waits_from(now);
                 self.beat.wait_on(from);

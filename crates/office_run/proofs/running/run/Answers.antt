@@ -31,6 +31,12 @@ returns-in_err-orders-clause-deeds g c =
     goes_still office (λ acts. g.S.Sockets.acts c.args.sockets.now acts c.args.sockets.now) (λ now deeds. AreWired (site_terms (site_of office)) now deeds × AreServed now deeds)
     (g.S.Sockets.rests c.args.sockets.now) (λ now. (λ line. (record { from = 0; wire = Down }, refl), λ caller. (Free, refl)))
 
+pub returns-in_err-board-clause-deeds : goal.returns-in_err-board-clause-deeds
+returns-in_err-board-clause-deeds g c =
+    let office = c.args.office.now in
+    goes_still office (λ acts. g.S.Sockets.acts c.args.sockets.now acts c.args.sockets.now) (λ now deeds. AreWired (site_terms (site_of office)) now deeds × AreServed now deeds)
+    (g.S.Sockets.rests c.args.sockets.now) (λ now. (λ line. (record { from = 0; wire = Down }, refl), λ caller. (Free, refl)))
+
 pub returns-clause-deeds : goal.returns-clause-deeds
 returns-clause-deeds g c =
     subst (λ (all : List Terms). GoesBy c.args.office.now c.turns.new.office (λ acts. g.S.Sockets.acts c.args.sockets.now acts c.turns.new.sockets) (λ now deeds. AreWired all now deeds × AreServed now deeds))

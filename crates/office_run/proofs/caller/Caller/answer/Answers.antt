@@ -9,4 +9,4 @@ returns-in-Ok-clause-came g c =
     let put = c.respond.new.self.out ++ c.as_bytes.result.now in
     let same : written_for c.respond.result ≡ put =
     ap written_for c.in-Ok.is ∙ sym c.as_bytes.ensures.value ∙ sym (ap (λ (out : List ℕ). out ++ c.as_bytes.result.now) (c.respond.ensures.same.1 ∙ c.requires.unwritten)) in
-    (put, subst (λ (text : List ℕ). Comes c.args.office.now c.respond.new.office (λ meaning. meaning ≡ meaning_of c.args.heard.now) text) same c.respond.ensures.came, c.push.ensures.ok)
+    (put, subst (λ (text : List ℕ). Comes c.args.office.now c.respond.new.office (λ meaning. meaning ≡ meaning_of c.args.heard.now) text c.respond.new.self.showing) same c.respond.ensures.came, c.push.ensures.ok)

@@ -9,11 +9,6 @@ pub returns-then-le : goal.returns-then-le
 returns-then-le g c =
     (_, part_still Moves c.args.source c.args.office.now (λ acts. g.S.Sockets.acts c.args.sockets.now acts c.args.sockets.now) (session_of c.args.self.now) (g.S.Sockets.rests c.args.sockets.now))
 
-pub returns-in-Answering : goal.returns-in-Answering
-returns-in-Answering g c =
-    acting_told Moves c.args.source c.args.office.now (λ (acts : List Act). g.S.Sockets.acts c.args.sockets.now acts c.write.new.sockets) (session_of c.args.self.now) (session_of c.write.new.self)
-    c.write.result c.write.ensures
-
 pub returns-in-Closing : goal.returns-in-Closing
 returns-in-Closing g c =
     acting_told Moves c.args.source c.args.office.now (λ (acts : List Act). g.S.Sockets.acts c.args.sockets.now acts c.drop_one.new.sockets) (session_of c.args.self.now) (session_of c.args.self.now)

@@ -1,4 +1,5 @@
-use Rattle.std.proofs.Common.{◌≡◌, ◌++◌, List, [], ℕ, Option, ◌∙◌, ap, refl, sym, subst}
+use Rattle.std.proofs.Common.{◌≡◌, ◌++◌, List, [], ℕ, Option, None, ◌∙◌, ap, sym, subst}
+use Rattle.office_run.specs.declared.showing.Showing.{Showing}
 use Rattle.office_core.proofs.Proceeding.{along_still}
 use Rattle.office_http.specs.Answers.{unavailable_text}
 use Rattle.office_http.specs.declared.routes.Routes.{Routes}
@@ -19,9 +20,9 @@ pub returns-in-Ok-Some : goal.returns-in-Ok-Some
 returns-in-Ok-Some g c = λ source.
     let heard = bytes_of c.args.self.now.exchange ++ c.args.piece.now in
     let came = c.answer.ensures.came in
-    reply_put source c.args.office.now c.answer.new.office (Hearing heard) (session_of c.answer.new.self) c.answer.new.self.out came.0 c.answer.result
+    reply_put source c.args.office.now c.answer.new.office (Hearing heard) (session_of c.answer.new.self) c.answer.new.self.showing c.answer.new.self.out came.0 c.answer.result
     (is_answering c.answer.new.self c.answer.ensures.mood) came.2
-    (replies_at_once source c.args.office.now c.answer.new.office (λ meaning. meaning ≡ meaning_of c.in-Ok-Some.heard) heard came.0
+    (replies_at_once source c.args.office.now c.answer.new.office (λ meaning. meaning ≡ meaning_of c.in-Ok-Some.heard) heard came.0 c.answer.new.self.showing
     (λ meaning same. subst (λ (some : Meaning). Decides Extended heard some) (sym same)
     (subst (λ (bytes : List ℕ). Decides Extended bytes (meaning_of c.in-Ok-Some.heard)) c.in-Ok-Some.ensures.taken
     (subst (λ (told : Option Heard). Judges Extended (bytes_of c.take.new.self) told) c.in-Ok-Some.field-0-is
@@ -30,11 +31,11 @@ returns-in-Ok-Some g c = λ source.
 pub returns-in-Err : goal.returns-in-Err
 returns-in-Err g c = λ source.
     let heard = bytes_of c.args.self.now.exchange ++ c.args.piece.now in
-    reply_put source c.args.office.now c.args.office.now (Hearing heard) (Answering c.push.new.self) c.push.new.self (c.args.self.now.out ++ c.unavailable.result.now) c.push.result
-    refl c.push.ensures.ok
-    (subst (λ (text : List ℕ). Exchanges source c.args.office.now c.args.office.now (λ acts. acts ≡ []) (Hearing heard) (Answering text))
+    reply_put source c.args.office.now c.args.office.now (Hearing heard) (Answering c.args.self.now.showing c.push.new.self) None c.push.new.self (c.args.self.now.out ++ c.unavailable.result.now)
+    c.push.result (ap (λ (next : Option Showing). Answering next c.push.new.self) (c.args.self.now.unshown c.requires)) c.push.ensures.ok
+    (subst (λ (text : List ℕ). Exchanges source c.args.office.now c.args.office.now (λ acts. acts ≡ []) (Hearing heard) (Answering None text))
     (sym c.unavailable.ensures ∙ sym (ap (λ (out : List ℕ). out ++ c.unavailable.result.now) (c.args.self.now.unwritten c.requires)))
-    (replies_at_once source c.args.office.now c.args.office.now (Decides Extended heard) heard unavailable_text (λ meaning decides. decides)
+    (replies_at_once source c.args.office.now c.args.office.now (Decides Extended heard) heard unavailable_text None (λ meaning decides. decides)
     (comes_untried c.args.office.now c.args.office.now (Decides Extended heard) (along_still c.args.office.now))))
 
 pub invariant_of-self-clause-lacks : goal.invariant_of-self-clause-lacks

@@ -19,11 +19,16 @@ returns-in_err-arrival g c =
 pub returns-in-Some-Answer : goal.returns-in-Some-Answer
 returns-in-Some-Answer g c =
     let line = c.args.self.now in (
-      record { place = c.tell_up.ensures.0.place; name = c.tell_up.ensures.0.name ∙ c.take.ensures.name; most = c.tell_up.ensures.0.most; from = c.tell_up.ensures.0.from },
+      record {
+        place = c.tell_up.ensures.0.place ∙ c.count.ensures.0.place;
+        name = c.tell_up.ensures.0.name ∙ c.count.ensures.0.name ∙ c.take.ensures.name;
+        most = c.tell_up.ensures.0.most ∙ c.count.ensures.0.most;
+        from = c.tell_up.ensures.0.from ∙ c.count.ensures.0.from;
+      },
       (
         wire_of c.take.new.self,
         over_link line c.args.office.now c.take.new.office (λ acts. acts ≡ []) c.in-Up.link (wire_of c.take.new.self) c.in-Up.is (c.take.ensures.wired (terms_of line) (source_of line)),
-        c.tell_up.ensures.1,
+        c.tell_up.ensures.1 ∙ c.count.ensures.1,
       ),
     )
 
