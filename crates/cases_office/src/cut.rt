@@ -2,13 +2,16 @@
 use std::alloc::AllocError;
 use std::io::{self, ErrorKind, Read};
 
+/// So many bytes come one by one at most, the last ones.
+const MOST_ONE_BY_ONE: usize = 1_048_576;
+
 /// How many of the bytes that are there a read gives.
 #[derive(Clone, Copy, PartialEq, Eq)]
 pub(crate) enum Cut {
     Whole,
     /// Half of them.
     Halves,
-    /// One.
+    /// One, once there are no more than come one by one.
     Bytes,
 }
 
@@ -18,6 +21,7 @@ impl Cut {
         match self {
             Cut::Whole => there,
             Cut::Halves => there.div_ceil(2),
+            Cut::Bytes if there > MOST_ONE_BY_ONE => there - MOST_ONE_BY_ONE,
             Cut::Bytes => there.min(1),
         }
     }

@@ -1,4 +1,5 @@
 //! Rows of standard inputs.
+use crate::cut::Bytes;
 use crate::shell::{file, office, text_of};
 use crate::world::World;
 use case_pages::{Outcomes, Trouble, bytes_of};
@@ -42,7 +43,8 @@ impl Outcomes for World<'_> {
     /// What the command prints for a standard input.
     fn outcome(&mut self, input: &str) -> Result<String, Trouble> {
         let alloc = self.rt.alloc();
-        self.input = self.whole_input(bytes_of(alloc, input)?)?;
+        let bytes = self.whole_input(bytes_of(alloc, input)?)?;
+        self.input = Bytes::new(bytes, self.play.cut, false);
         let words = String::from_str(alloc, self.words.as_str())?;
         let told = office(self, words.as_str())?;
         Ok(joined(alloc, told.as_str())?)

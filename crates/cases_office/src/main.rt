@@ -7,6 +7,7 @@ mod console;
 mod curl;
 mod cut;
 mod databases;
+mod disks;
 mod excerpts;
 mod exchanges;
 mod inputs;

@@ -1,5 +1,6 @@
 //! The blocks of a page, in their order, in one world.
 use crate::cut::Cut;
+use crate::disks::Disk;
 use crate::wire::Devices;
 use crate::world::{Play, World};
 use crate::{console, excerpts, exchanges, peers, requests, sources, words};
@@ -61,7 +62,8 @@ fn play_block<R: Print>(
     tally: &mut Tally<'_, R>,
     block: &Block<'_>,
 ) -> Result<(), Trouble> {
-    if block.words == "console" {
+    if let Some(disk) = block.words.strip_prefix("console") {
+        world.disk = Disk::of(disk)?;
         return console::play(world, tally, block);
     }
     if let Some(address) = block.words.strip_prefix("peer ") {

@@ -2,7 +2,7 @@
 use crate::cut::Cut;
 use crate::shell::text_of;
 use case_pages::{Trouble, bytes_of};
-use office_http::{Exchange, Heard, Methods, Refusal, Routes};
+use office_http::{Exchange, Heard, Methods, Page, Refusal, Routes};
 use poll_book::{Caller, Key};
 use std::alloc::{AllocError, Global};
 
@@ -42,6 +42,16 @@ fn loading(alloc: Global, who: &str, list: &[u8]) -> Result<String, AllocError> 
     }
 }
 
+/// A page that is asked for, in words.
+fn shown(alloc: Global, page: Page) -> Result<String, AllocError> {
+    match page {
+        Page::Points => String::from_str(alloc, "page of points"),
+        Page::Metrics => String::from_str(alloc, "page of metrics"),
+        Page::Office => String::from_str(alloc, "page of the office"),
+        Page::Device(place) => format!(in alloc; "page of device {place}"),
+    }
+}
+
 /// What is asked for, in words.
 fn told(alloc: Global, asked: &Heard) -> Result<String, AllocError> {
     match asked {
@@ -74,6 +84,7 @@ fn told(alloc: Global, asked: &Heard) -> Result<String, AllocError> {
         Heard::Readings { point, from, to } => { format!(in alloc; "readings {point} {from} {to}") }
         Heard::Total { point } => format!(in alloc; "total {point}"),
         Heard::Report { point, from, to } => { format!(in alloc; "report {point} {from} {to}") }
+        Heard::Page(page) => shown(alloc, *page),
     }
 }
 

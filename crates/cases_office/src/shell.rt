@@ -1,6 +1,7 @@
 //! What commands print that are typed into a page's console.
 use crate::curl::{asked_by, shown};
-use crate::world::World;
+use crate::cut::Bytes;
+use crate::world::{World, is_absent};
 use case_pages::Trouble;
 use mb_map::Sim;
 use office_commands::{Fault, run};
@@ -74,7 +75,8 @@ fn simulate(world: &mut World<'_>, image: &str, port: u16) -> Result<(), Trouble
     }
 }
 
-/// Begins what goes on behind the next commands: devices, or a server, which answers each `curl`.
+/// Begins what goes on behind the next commands: devices, or a server, which answers each `curl` and has its store
+/// open.
 fn begin_job(world: &mut World<'_>, line: &str, job: &Job) -> Result<(), Trouble> {
     match job {
         Job::Sim {
@@ -82,10 +84,12 @@ fn begin_job(world: &mut World<'_>, line: &str, job: &Job) -> Result<(), Trouble
             port: Some(port),
         } => simulate(world, image.as_str(), *port),
         Job::Office {
+            store,
             errand: Errand::Serve { .. },
             ..
         } => {
             world.server = String::from_str(world.rt.alloc(), line)?;
+            world.held = String::from_str(world.rt.alloc(), store.as_str())?;
             Ok(())
         }
         _ => Err(Trouble::Page("a command that doesn't go on")),
@@ -123,18 +127,37 @@ fn change_folder(world: &mut World<'_>, path: &str) -> Result<(), AllocError> {
     Ok(())
 }
 
-/// What the program prints for words, behind which ` < ` and the file of its standard input may stand.
-fn redirected(world: &mut World<'_>, line: &str) -> Result<String, Trouble> {
-    let (line, input) = match line.split_once(" < ") {
-        Some((line, name)) => (line, file(world, name)?),
-        None => (line, Vec::new(world.rt.alloc())),
+/// What a file has as standard input. A folder can be opened, and not be read.
+fn input_of(world: &World<'_>, name: &str) -> Result<Bytes, Trouble> {
+    let (bytes, fails) = match world.file(name) {
+        Ok(bytes) => (bytes, false),
+        Err(failure) if failure.fault == Fault::Memory => return Err(Trouble::Memory),
+        Err(failure) if is_absent(&failure) => return Err(Trouble::Page("no file of this name")),
+        Err(_) => (Vec::new(world.rt.alloc()), true),
     };
-    world.input = input;
-    office(world, line)
+    Ok(Bytes::new(bytes, world.play.cut, fails))
 }
 
-/// What a command prints: `cd` to a folder below, `office` with words, with a file as standard input behind ` < `, or
-/// going on behind the others with ` &` at its end, and `curl` of the server that goes on.
+/// What the program prints for words, behind which ` < ` and the file of its standard input may stand, and then
+/// ` > /dev/full`, to which nothing can be written.
+fn redirected(world: &mut World<'_>, line: &str) -> Result<String, Trouble> {
+    let (line, is_full) = match line.strip_suffix(" > /dev/full") {
+        Some(line) => (line, true),
+        None => (line, false),
+    };
+    let (line, input) = match line.split_once(" < ") {
+        Some((line, name)) => (line, input_of(world, name)?),
+        None => (line, world.no_input()),
+    };
+    world.input = input;
+    world.output_is_full = is_full;
+    let told = office(world, line);
+    world.output_is_full = false;
+    told
+}
+
+/// What a command prints: `cd` to a folder below, `office` with words, with a file as standard input behind ` < ` or a
+/// full standard output, or going on behind the others with ` &` at its end, and `curl` of the server that goes on.
 pub(crate) fn typed(world: &mut World<'_>, command: &str) -> Result<String, Trouble> {
     let alloc = world.rt.alloc();
     if let Some(path) = command.strip_prefix("cd ") {

@@ -3,6 +3,7 @@ ghost use Rattle.point_list.specs.Sites.{IsSound};
 
 use crate::cut::{Bytes, Cut};
 use crate::databases::{connected, file_of, moved, worked_in};
+use crate::disks::Disk;
 use crate::wire::{Devices, End};
 use case_pages::Block;
 use mb_mbap::Counted;
@@ -10,6 +11,7 @@ use office_commands::{Failure, Fault, Host, Migration, Stay, Stores, Task, Why, 
 use office_core::Office;
 use office_net::serve_one;
 use office_plays::refusing::Refusing;
+use office_words::Errand;
 use point_list::Site;
 use poll_book::{Keeper, StoreFault};
 use sqlite::{Connection, FileStore, Files};
@@ -68,10 +70,14 @@ pub(crate) struct World<'a> {
     pub(crate) play: Play,
     stores: Vec<Store>,
     databases: Vec<Database>,
+    /// The disk of the stores that are made.
+    pub(crate) disk: Disk,
+    /// The store that a server of the page has open, which has no name where there is none.
+    pub(crate) held: String,
     /// How many calls of stores were made.
     pub(crate) calls: u32,
     /// Standard input of the next command.
-    pub(crate) input: Vec<u8>,
+    pub(crate) input: Bytes,
     /// The words behind the program's name for which rows are standard inputs, and the file in which such an input
     /// stands in the place of `...`, which has no name where there is none.
     pub(crate) words: String,
@@ -82,6 +88,8 @@ pub(crate) struct World<'a> {
     pub(crate) request: Vec<u8>,
     /// What was written to standard output, to standard error, or to the caller of a request.
     pub(crate) output: Vec<u8>,
+    /// Whether standard output is full.
+    pub(crate) output_is_full: bool,
 }
 
 /// The folder of a page.
@@ -89,6 +97,14 @@ fn folder_of(page: &str) -> &str {
     match page.rfind('/') {
         Some(place) => page.get(..=place).unwrap_or(""),
         None => "",
+    }
+}
+
+/// Whether it is a file that isn't there.
+pub(crate) fn is_absent(failure: &Failure) -> bool {
+    match failure.why {
+        Why::System(error) => error.kind() == ErrorKind::NotFound,
+        _ => false,
     }
 }
 
@@ -109,14 +125,22 @@ impl<'a> World<'a> {
             play,
             stores: Vec::new(alloc),
             databases: Vec::new(alloc),
+            disk: Disk::Sound,
+            held: String::new(alloc),
             calls: 0,
-            input: Vec::new(alloc),
+            input: Bytes::new(Vec::new(alloc), play.cut, false),
             words: String::new(alloc),
             frame: String::new(alloc),
             server: String::new(alloc),
             request: Vec::new(alloc),
             output: Vec::new(alloc),
+            output_is_full: false,
         })
+    }
+
+    /// A standard input that ends at once.
+    pub(crate) fn no_input(&self) -> Bytes {
+        Bytes::new(Vec::new(self.rt.alloc()), self.play.cut, false)
     }
 
     /// The file of a block, or else of the page's folder.
@@ -138,12 +162,17 @@ impl<'a> World<'a> {
         }
     }
 
+    /// Whether a server of the page has this store open.
+    fn is_held(&self, store: &str) -> bool {
+        !store.is_empty() && self.held.as_str() == store
+    }
+
     /// Takes the keeper of a store out of the world, a new one if there is none.
     fn take_keeper(&mut self, name: &str) -> Refusing {
         let place = self.stores.iter().position(|it| it.name.as_str() == name);
         let mut keeper = match place {
             Some(place) if place < self.stores.len() => self.stores.remove(place).keeper,
-            _ => Refusing::new(self.rt.alloc(), self.play.refused, StoreFault::Disk),
+            _ => self.disk.keeper(self.rt.alloc(), self.play.refused),
         };
         keeper.calls = self.calls;
         keeper
@@ -154,7 +183,8 @@ impl<'a> World<'a> {
         Ok(self.stores.push(Store { name, keeper })?)
     }
 
-    /// The place of a store among the databases, if it is a file of the page's folder.
+    /// The place of a store among the databases, if it is a file of the page's folder. What is there and can't be read,
+    /// as a folder, can't be opened.
     fn database(&mut self, name: &str) -> Result<Option<usize>, Failure> {
         let alloc = self.rt.alloc();
         let place = self
@@ -167,7 +197,8 @@ impl<'a> World<'a> {
         let bytes = match self.file(name) {
             Ok(bytes) => bytes,
             Err(failure) if failure.fault == Fault::Memory => return Err(failure),
-            Err(_) => return Ok(None),
+            Err(failure) if is_absent(&failure) => return Ok(None),
+            Err(_) => return Err(Failure::unopened(alloc, name)),
         };
         let files = Files {
             log: file_of(alloc, &[])?,
@@ -275,21 +306,20 @@ impl<'a> Host for World<'a> {
     }
 
     fn input(&mut self) -> Bytes {
-        let none = Vec::new(self.rt.alloc());
-        Bytes::new(
-            std::mem::replace(&mut self.input, none),
-            self.play.cut,
-            false,
-        )
+        let none = self.no_input();
+        std::mem::replace(&mut self.input, none)
     }
 
     fn print(&mut self, bytes: &[u8]) -> io::Result<()> {
+        if self.output_is_full {
+            return Err(io::Error::from(ErrorKind::StorageFull));
+        }
         Ok(self.output.extend_from_slice(bytes)?)
     }
 
     fn complain(&mut self, failure: &Failure) -> io::Result<()> {
         let text = format!(in self.rt.alloc(); "office: {failure}\n")?;
-        self.print(text.as_bytes())
+        Ok(self.output.extend_from_slice(text.as_bytes())?)
     }
 
     fn read_file(&mut self, path: &str) -> Result<Vec<u8>, Failure> {
@@ -343,6 +373,10 @@ impl<'a> Host for World<'a> {
 
 impl Stores for World<'_> {
     fn work(&mut self, store: &str, site: Site, task: &Task<'_>) -> Result<(), Failure> {
+        let is_server = matches!(task.errand, Errand::Serve { .. });
+        if !is_server && self.is_held(store) {
+            return Err(Failure::from(Fault::Store(StoreFault::Other)));
+        }
         if let Some(place) = self.database(store)? {
             return worked_at(self, place, site, task);
         }
@@ -355,6 +389,9 @@ impl Stores for World<'_> {
 
     /// Stores that are no files are of today's version.
     fn migrate(&mut self, store: &str, _seconds: u16) -> Result<Migration, Failure> {
+        if self.is_held(store) {
+            return Err(Failure::from(Fault::Store(StoreFault::Other)));
+        }
         match self.database(store)? {
             Some(place) => moved_at(self, place),
             None => Ok(Migration::Already),

@@ -54,10 +54,7 @@ fn begins_as_database(rt: &HostRuntime, path: &str) -> bool {
 /// The same with the file. One that is a database, and one that breaks its own rules, is a damaged store.
 fn file_failure(rt: &HostRuntime, error: &Error, path: &str) -> Failure {
     match file_fault(error) {
-        Fault::File => {
-            let why = Why::Words("it can be neither opened nor made");
-            Failure::new(Fault::File, why).of(rt.alloc(), path)
-        }
+        Fault::File => Failure::unopened(rt.alloc(), path),
         Fault::NotOffice if begins_as_database(rt, path) => {
             let why = Why::Words("its rows break the rules of its own tables");
             Failure::new(Fault::Store(StoreFault::Other), why).of(rt.alloc(), path)

@@ -1,7 +1,7 @@
 //! A fault with what is known of its place.
 ghost use Rattle.std.specs.Prelude.{◌≡◌};
 ghost use Rattle.office_commands.specs.Conversions.{of_image, of_list, of_map, of_office, of_poll, of_replay, of_report, of_site, of_sun};
-ghost use Rattle.office_commands.specs.declared.fault.Fault.TheVariants.{Memory};
+ghost use Rattle.office_commands.specs.declared.fault.Fault.TheVariants.{File, Memory};
 
 use crate::Fault;
 use mb_map::{ImageError, ImageFault, MapError};
@@ -87,6 +87,13 @@ impl Failure {
             subject: None,
             why,
         }
+    }
+
+    /// A store's file can be neither opened nor made.
+    pub fn unopened(alloc: Global, path: &str) -> Failure
+        ensures { result.fault ≡ File }
+    {
+        Failure::new(Fault::File, Why::Words("it can be neither opened nor made")).of(alloc, path)
     }
 
     /// The same of a file, a name or an address, where it says why and not yet of which. Where memory is refused, that
