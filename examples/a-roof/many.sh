@@ -3,13 +3,15 @@
 #
 #     bash examples/a-roof/many.sh [PATH-OF-OFFICE [SECONDS]]
 #
-# for a minute, or for so many seconds. Then it tells how many readings came in each whole slot, what the office told on
-# standard error, how long callers waited, and what memory and processor time the office took. Without a path it proves
-# and builds the program first. It works in a new folder of its own, which it leaves, and needs Python 3 and the ports
-# 15100 to 15163 and 18080. Where it can't go on it says why, and ends with status 1.
+# for a minute, or for so many seconds. Then it asks for each of its pages, and tells how many readings came in each
+# whole slot, what the office told on standard error, how long callers and pages took, and what memory and processor time
+# the office took. Without a path it proves and builds the program first. It works in a new folder of its own, which it
+# leaves, and needs curl, Python 3 and the ports 15100 to 15163 and 18080. Where it can't go on it says why, and ends with
+# status 1.
 set -Eeuo pipefail
 . "$(dirname "$0")/shared.sh"
 needs python3 'which plays devices and callers'
+needs curl 'which asks for pages'
 for port in {15100..15163} 18080; do needs_port "$port"; done
 find_office "$@"
 seconds=${2:-60}
@@ -114,6 +116,12 @@ taken.sort()
 print(f"{len(taken)} requests, {failed} not answered by 200: half within {taken[len(taken) // 2] * 1000:.1f} ms,",
       f"99 of 100 within {taken[len(taken) * 99 // 100] * 1000:.1f}, all within {taken[-1] * 1000:.1f}")
 PYTHON
+for page in / /points /metrics /devices/0; do
+    curl --silent --output page --write-out "$page: %{size_download} bytes within %{time_total} s\n" \
+        "http://127.0.0.1:18080$page"
+done
+# The last slot of which pages were asked has ended then.
+sleep 4
 tell "behind them: $(usage | paste -sd ' ')"
 kill "$run"
 wait "$run" 2> /dev/null || true

@@ -1,5 +1,6 @@
 #!/usr/bin/env bash
-# A first look at the program `office`: a roof with its devices, polled, ordered, reported and served, as
+# A first look at the program `office`: it stays up beside a roof with its devices and shows its page (run.sh); then the
+# devices are polled slot by slot, ordered, reported and served, as
 #
 #     bash examples/a-roof/try.sh --quick [PATH-OF-PLAYER]
 #     bash examples/a-roof/try.sh [PATH-OF-OFFICE]
@@ -7,7 +8,7 @@
 # With --quick the player of the pages, which it compiles without a proof where no path says where one is, plays
 # roof.md in one process, over no socket, and what was played is printed. Without --quick and without a path it proves
 # and builds the program first, and goes on from what an earlier try left. It works in a new folder of its own, which it
-# leaves, and needs curl and the ports 15020 to 15022. Standard output has what the office says, standard error the
+# leaves, and needs curl and the ports 15020 to 15022 and 18080. Standard output has what the office says, standard error the
 # rest. Where it can't go on it says why, and ends with status 1.
 set -Eeuo pipefail
 . "$(dirname "$0")/shared.sh"
@@ -49,9 +50,10 @@ if [[ ${1:-} == --quick ]]; then
     exit
 fi
 needs curl 'which asks the office over HTTP'
-for port in 15020 15021 15022; do needs_port "$port"; done
-tell 'polls two devices that it plays, orders, reports and serves.'
+for port in 15020 15021 15022 18080; do needs_port "$port"; done
 find_office "$@"
+bash "$here/run.sh" "$office"
+tell 'polls the devices slot by slot now, orders, reports and serves.'
 cd "$(mktemp -d)"
 cp "$here"/*.toml "$here"/*.csv .
 store=(--store roof.db --site site.toml)
@@ -156,4 +158,4 @@ for point in string.power string.energy string.state string.serial string.east s
 done
 
 tell "that was the roof. The program stands at $office; its store and files at $PWD. Next:"
-tell "$office --help; bash $here/run.sh $office, an office that stays up; docs/RUNNING.md says the rest."
+tell "$office --help; docs/RUNNING.md says how an office stays up."
