@@ -129,13 +129,18 @@ fn change_folder(world: &mut World<'_>, path: &str) -> Result<(), AllocError> {
 
 /// What a file has as standard input. A folder can be opened, and not be read.
 fn input_of(world: &World<'_>, name: &str) -> Result<Bytes, Trouble> {
-    let (bytes, fails) = match world.file(name) {
-        Ok(bytes) => (bytes, false),
-        Err(failure) if failure.fault == Fault::Memory => return Err(Trouble::Memory),
-        Err(failure) if is_absent(&failure) => return Err(Trouble::Page("no file of this name")),
-        Err(_) => (Vec::new(world.rt.alloc()), true),
-    };
-    Ok(Bytes::new(bytes, world.play.cut, fails))
+    match world.file(name) {
+        Ok(bytes) => Ok(Bytes::new(bytes, world.play.cut, false)),
+        Err(failure) => {
+            if failure.fault == Fault::Memory {
+                Err(Trouble::Memory)
+            } else if is_absent(&failure) {
+                Err(Trouble::Page("no file of this name"))
+            } else {
+                Ok(Bytes::new(Vec::new(world.rt.alloc()), world.play.cut, true))
+            }
+        }
+    }
 }
 
 /// What the program prints for words, behind which ` < ` and the file of its standard input may stand, and then

@@ -183,8 +183,23 @@ impl<'a> World<'a> {
         Ok(self.stores.push(Store { name, keeper })?)
     }
 
-    /// The place of a store among the databases, if it is a file of the page's folder. What is there and can't be read,
-    /// as a folder, can't be opened.
+    /// The bytes of a file, if there is one. What is there and can't be read, as a folder, can't be opened.
+    fn stored(&self, name: &str) -> Result<Option<Vec<u8>>, Failure> {
+        match self.file(name) {
+            Ok(bytes) => Ok(Some(bytes)),
+            Err(failure) => {
+                if failure.fault == Fault::Memory {
+                    Err(failure)
+                } else if is_absent(&failure) {
+                    Ok(None)
+                } else {
+                    Err(Failure::unopened(self.rt.alloc(), name))
+                }
+            }
+        }
+    }
+
+    /// The place of a store among the databases, if it is a file of the page's folder.
     fn database(&mut self, name: &str) -> Result<Option<usize>, Failure> {
         let alloc = self.rt.alloc();
         let place = self
@@ -194,11 +209,8 @@ impl<'a> World<'a> {
         if place.is_some() {
             return Ok(place);
         }
-        let bytes = match self.file(name) {
-            Ok(bytes) => bytes,
-            Err(failure) if failure.fault == Fault::Memory => return Err(failure),
-            Err(failure) if is_absent(&failure) => return Ok(None),
-            Err(_) => return Err(Failure::unopened(alloc, name)),
+        let Some(bytes) = self.stored(name)? else {
+            return Ok(None);
         };
         let files = Files {
             log: file_of(alloc, &[])?,
