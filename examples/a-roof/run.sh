@@ -26,10 +26,7 @@ ask() {
 "$office" load "${store[@]}" --caller ann --key l1 points.csv
 start sim --image devices.toml --port 15020
 start sim --image devices.toml --port 15021
-# Its standard input stays open until the office is to end.
-mkfifo until
-exec 3<> until
-start run "${store[@]}" --every 4 --timeout 2 --port 18080 < until
+start run "${store[@]}" --every 4 --timeout 2 --port 18080 < /dev/null
 at=http://127.0.0.1:18080
 tell "the office is up. Its page: $at/"
 sleep 1
@@ -46,8 +43,7 @@ slot=$(($(date +%s) / 4))
 ask "$at/points/inverter.limit/readings/$((slot - 3))/$slot"
 ask "$at/points"
 ask "$at/metrics" | grep -E '^(\$|kimjolde_(line_up|rounds))'
-# The end of its standard input ends it, behind what is under way.
-exec 3>&-
-wait "${players[2]}" && echo "ended with status 0"
+kill "${players[2]}"
+wait "${players[2]}" || echo "ended by a signal, as any stop may end it"
 "$office" report "${store[@]}" meter.power $((slot - 3)) $((slot + 3))
 tell "its store and files stand in $PWD"
