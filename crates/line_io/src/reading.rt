@@ -1,3 +1,4 @@
+//! Pieces and frames that are read from a stream.
 ghost use Rattle.std.specs.Prelude.{◌≡◌, ◌⊎◌, ◌≤◌, ◌<◌, [], IfErr, IfOk, MatchResult, OnOk, length, take};
 ghost use Rattle.std.specs.Io.KnownBytes.{Consumes};
 ghost use Rattle.mb_mbap.specs.Counted.{HasRisen, ends_of, failures_of, inner_of};

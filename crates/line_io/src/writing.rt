@@ -1,3 +1,4 @@
+//! Bytes and frames that are written to a stream.
 ghost use Rattle.std.specs.Prelude.{◌≡◌, IfErr, OnOk};
 ghost use Rattle.std.specs.Io.KnownBytes.{Appends};
 ghost use Rattle.mb_mbap.specs.Counted.{HasRisen, failures_of, inner_of};

@@ -1,3 +1,4 @@
+//! The cells of one table of a device.
 ghost use Rattle.std.specs.Prelude.{ℕ, map, slice_index, IfSome, IfNone, ◌≡◌, ◌↔◌, ◌≤◌, ◌<◌, ◌+◌, ◌∷◌, [], length, IsTrue, IsSome, IfOk, IfErr, vec_len};
 ghost use Rattle.std.specs.List.{enumerate_from};
 ghost use Rattle.std.specs.Bool.{OnTrue, OnFalse};

@@ -1,3 +1,4 @@
+//! A device's answer to a request over its tables.
 ghost use Rattle.std.specs.Prelude.{if◌then◌else◌, ◌≡◌, ◌↔◌, ◌≤◌, ◌<◌, ◌∷◌, [], length, map, IsTrue, IfSome, IfNone};
 ghost use Rattle.std.specs.Bool.{OnTrue, OnFalse};
 ghost use Rattle.mb_pdu.specs.Grammar.{IsQuantity, IsValid};

@@ -1,3 +1,4 @@
+//! Devices behind one connection, told apart by their unit identifiers.
 ghost use Rattle.std.specs.Prelude.{ℕ, ◌≡◌, ◌≢◌, ◌↔◌, ◌<◌, ◌==◌, All, IfNone, IfSome, IsTrue, length, is_none, slice_index_or};
 ghost use Rattle.std.specs.Bool.{OnFalse, OnTrue};
 ghost use Rattle.std.specs.List.{position};

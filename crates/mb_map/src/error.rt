@@ -1,3 +1,4 @@
+//! Why there is no mapping, simulator or answer.
 ghost use Rattle.std.specs.Prelude.{◌≡◌};
 ghost use Rattle.mb_map.specs.declared.error.MapError.TheVariants.{Memory};
 

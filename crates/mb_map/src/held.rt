@@ -1,3 +1,4 @@
+//! Replies that a simulator holds back.
 use mb_mbap::Frame;
 
 /// A reply that is held back.

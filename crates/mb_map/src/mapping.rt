@@ -1,3 +1,4 @@
+//! The four tables of a device.
 ghost use Rattle.std.specs.Prelude.{◌≡◌, ◌≢◌, IfErr, ◌↔◌, ◌≤◌, ◌<◌, ◌+◌, ◌∷◌, [], IsTrue, IsSome, IfOk, IfSome, IsErrOf};
 ghost use Rattle.std.specs.Bool.{OnTrue, OnFalse};
 ghost use Rattle.mb_map.specs.Tables.{cell_at, cells_of, greatest, with_cells, written, zero_tables, IsTooLarge};

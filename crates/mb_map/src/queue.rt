@@ -1,3 +1,4 @@
+//! Which replies leave with a frame, and which are held for later ones.
 ghost use Rattle.std.specs.Prelude.{◌≡◌, ◌≢◌, ◌≤◌, ◌<◌, ◌+◌, ◌++◌, [], length, map, filter, count_by, vec_len, vec_capacity, All};
 ghost use Rattle.std.specs.Option.{option_to_list};
 ghost use Rattle.mb_mbap.specs.declared.frame.Frame.{Frame as AFrame};

@@ -1,3 +1,4 @@
+//! What becomes of the reply to one frame.
 ghost use Rattle.std.specs.Prelude.{◌≡◌};
 ghost use Rattle.mb_map.specs.Queue.{is_sound};
 

@@ -1,3 +1,4 @@
+//! Why bytes aren't a frame, or a stream can't be read on.
 use thiserror::Error;
 
 /// Why bytes aren't a frame, or a stream of frames can't be read on.

@@ -1,3 +1,4 @@
+//! A unit with its MBAP header, and its bytes.
 ghost use Rattle.std.specs.Prelude.{◌≡◌, ◌≤◌, length};
 ghost use Rattle.mb_mbap.specs.Stream.{spelled};
 

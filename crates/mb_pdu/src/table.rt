@@ -1,3 +1,4 @@
+//! The four tables of a device, by name.
 ghost use Rattle.std.specs.Prelude.{Some};
 ghost use Rattle.mb_pdu.specs.Tables.{table_name};
 

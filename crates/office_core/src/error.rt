@@ -1,3 +1,4 @@
+//! What an office refuses.
 use poll_book::StoreFault;
 use poll_match::MatchError;
 use std::alloc::AllocError;

@@ -1,3 +1,4 @@
+//! What an office is told, and what it answers.
 use crate::error::OfficeError;
 use mb_mbap::Frame;
 use point_list::{Items, Text};

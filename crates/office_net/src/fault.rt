@@ -1,3 +1,4 @@
+//! Why a round breaks off.
 ghost use Rattle.std.specs.Prelude.{◌≡◌, true};
 ghost use Rattle.office_core.specs.Errors.{is_of_store};
 ghost use Rattle.office_core.specs.Standing as standing;

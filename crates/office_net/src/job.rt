@@ -1,3 +1,4 @@
+//! What a round has to do for a device.
 use point_list::Text;
 use read_planner::Read;
 

@@ -1,3 +1,4 @@
+//! Why a report isn't written.
 use office_core::OfficeError;
 use poll_book::StoreFault;
 use std::alloc::AllocError;

@@ -1,3 +1,4 @@
+//! Why a store isn't made or opened.
 ghost use Rattle.std.specs.Prelude.{◌≡◌, Some};
 ghost use Rattle.office_store.specs.Faults.{fault_of};
 

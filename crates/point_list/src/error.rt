@@ -1,3 +1,4 @@
+//! Faults of point lists and site files, and their places.
 ghost use Rattle.std.specs.Prelude.{◌≡◌};
 ghost use Rattle.point_list.specs.declared.error.ListFault.TheVariants.{Memory};
 

@@ -1,3 +1,4 @@
+//! Lists as contracts see them.
 ghost use Rattle.std.specs.Prelude.{◌≡◌, ◌↔◌, [], IsTrue, length};
 ghost use Rattle.std.specs.Slice.Iter.{iter_rest};
 

@@ -1,3 +1,4 @@
+//! Short texts of ASCII.
 ghost use Rattle.std.specs.Prelude.{◌≡◌, ◌≤◌, length, if◌then◌else◌, Some, None, IsTrue, MatchResult, false, true, nat_eq, refl};
 ghost use Rattle.std.specs.Char.{is_ascii};
 ghost use Rattle.std.specs.Cmp.{partial_equiv_from_equiv};

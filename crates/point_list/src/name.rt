@@ -1,3 +1,4 @@
+//! Names of points.
 ghost use Rattle.std.specs.Prelude.{◌≡◌, if◌then◌else◌, MatchResult, Some, None, false, true};
 ghost use Rattle.std.specs.List.{list_all};
 ghost use Rattle.point_list.specs.Name.{is_name, is_name_byte};

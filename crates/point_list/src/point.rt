@@ -1,3 +1,4 @@
+//! A point, and the row of a list that says it.
 ghost use Rattle.std.specs.Prelude.{◌≡◌, ◌≢◌, MatchResult, Some};
 ghost use Rattle.point_list.specs.Columns.{role_name};
 ghost use Rattle.point_list.specs.declared.point.Role.{Role};

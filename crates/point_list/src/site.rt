@@ -1,3 +1,4 @@
+//! A site: its lines, devices and models.
 ghost use Rattle.std.specs.Prelude.{[], ◌≡◌, ◌≤◌, option_map};
 ghost use Rattle.std.specs.List.{list_any};
 ghost use Rattle.std.specs.Str.{bytes_eq};

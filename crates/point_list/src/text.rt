@@ -1,3 +1,4 @@
+//! Texts that own their memory.
 ghost use Rattle.std.specs.Prelude.{◌≡◌, Some, string_bytes};
 ghost use Rattle.std.specs.Cmp.{partial_equiv_from_equiv, unsigned_Decides};
 ghost use Rattle.std.specs.Hash as fed;

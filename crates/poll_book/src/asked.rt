@@ -1,3 +1,4 @@
+//! The requests of callers in memory, by callers and their keys.
 ghost use Rattle.std.specs.Prelude.{◌≡◌, Some, IfOk, OnOk, OnErr};
 ghost use Rattle.poll_book.specs.Requests.{request_at};
 ghost use Rattle.poll_book.specs.Changes.{with_asked};

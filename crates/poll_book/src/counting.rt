@@ -1,3 +1,4 @@
+//! How readings count for a total: their numbers, and the steps between them.
 ghost use Rattle.std.specs.Prelude.{◌≡◌, ◌≤◌, ◌<◌, ◌+◌, ◌-◌, ◌%◌, ◌^◌, IfSome};
 ghost use Rattle.poll_book.specs.Totals as counting;
 

@@ -1,3 +1,4 @@
+//! Why a keeper refuses a call.
 ghost use Rattle.std.specs.Prelude.{◌≡◌};
 ghost use Rattle.poll_book.specs.declared.fault.StoreFault.TheVariants.{Memory};
 

@@ -1,3 +1,4 @@
+//! Readings in memory, by points and slots.
 ghost use Rattle.std.specs.Prelude.{All, ◌≡◌, ◌==◌, ◌<◌, count_by, ℕ, ◌++◌, ◌∷◌, [], IfOk, OnOk, Contains, List, map};
 ghost use Rattle.poll_book.specs.declared.rows.ReadingRow.{ReadingRow as Row};
 ghost use Rattle.poll_book.specs.Tables.{with_row, with_rows};

@@ -1,3 +1,4 @@
+//! A point's readings by slot, and where they stand.
 ghost use Rattle.std.specs.Prelude.{◌≡◌, ◌+◌, ◌<◌, ◌≤◌, map, length, Contains, IsOk, IsTrue, IfOk, IfErr, vec_len, vec_capacity};
 ghost use Rattle.poll_book.specs.Tables.{with_row};
 ghost use Rattle.poll_book.specs.Histories.{AreSmall, IsAt, IsGap, IsRising, point_of, slot_of, slots_of};

@@ -1,3 +1,4 @@
+//! What keeps the tables of an office.
 ghost use Rattle.poll_book.specs.declared.fault.StoreFault.{StoreFault};
 ghost use Rattle.std.specs.Prelude.{◌≡◌, ◌⊎◌, ◌<◌, ◌≤◌, ◌^◌, ℕ, All, IfSome, IfErr, IfOk, OnOk, OnErr, is_some, length, option_map};
 ghost use Rattle.poll_book.specs.Fault.{CountsRefusal, IsCountedOn};

@@ -1,3 +1,4 @@
+//! How far the orders in memory were searched for one that waits.
 ghost use Rattle.std.specs.Prelude.{◌≡◌, ◌++◌, List, option_map, slice_get};
 ghost use Rattle.poll_book.specs.Orders.{as_setting, oldest_waiting};
 ghost use Rattle.poll_book.specs.Marks.{AreCounted, ArePast, AreRight, AreSettled, IsPast, settings_of};

@@ -1,3 +1,4 @@
+//! A keeper in memory.
 ghost use Rattle.std.specs.Prelude.{◌≡◌, IsErr, MatchResult, Ok};
 ghost use Rattle.poll_book.specs.Tables.{no_tables};
 ghost use Rattle.poll_book.specs.Fault.{CountsRefusal, IsCountedOn};

@@ -1,3 +1,4 @@
+//! The counted readings nearest to a slot.
 ghost use Rattle.std.specs.Prelude.{◌≡◌, ◌≤◌, IfSome};
 ghost use Rattle.poll_book.specs.declared.rows.PointRow.{PointRow};
 ghost use Rattle.poll_book.specs.Histories.{IsRising, counted_in, slot_of, slots_of};

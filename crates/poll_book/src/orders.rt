@@ -1,3 +1,4 @@
+//! Orders in memory, by their numbers.
 ghost use Rattle.std.specs.Prelude.{◌≡◌, ◌<◌, IsTrue, IfOk, IfErr, Some, length, slice_get, vec_len, vec_capacity, List};
 ghost use Rattle.poll_book.specs.Orders.{last_order, setting_at};
 ghost use Rattle.poll_book.specs.Changes.{with_order};

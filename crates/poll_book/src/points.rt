@@ -1,3 +1,4 @@
+//! Known points by their numbers, and the orders that wait on their devices.
 ghost use Rattle.std.specs.Prelude.{◌≡◌, ◌+◌, ◌++◌, ◌≤◌, option_copied, length, vec_len, vec_capacity};
 ghost use Rattle.poll_book.specs.Orders.{as_setting, is_of, is_waiting, point_at, waits_on};
 ghost use Rattle.poll_book.specs.Marks.{AreCounted};

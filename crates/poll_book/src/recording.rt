@@ -1,3 +1,4 @@
+//! What a reply adds to the tables.
 ghost use Rattle.std.specs.Prelude.{◌≡◌, ◌≤◌, ◌<◌, ◌+◌, ◌*◌, ◌∷◌, ◌++◌, [], None, Some, if◌then◌else◌, IfOk, OnOk, IfSome, vec_len, option_map, option_to_list, option_and_then, length};
 ghost use Rattle.poll_book.specs.declared.rows.Reading.{Reading as AReading};
 ghost use Rattle.poll_book.specs.Tables.{AreByKey, Tables, Within, is_void, marked, new_rows, reading_at, sum_at, with_row};

@@ -1,3 +1,4 @@
+//! What callers ask for, and what becomes of it.
 use crate::caller::{Caller, Key};
 use point_list::{Items, ListFault, Text};
 use std::error::Error;

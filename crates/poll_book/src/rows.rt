@@ -1,3 +1,4 @@
+//! The rows of a keeper's tables.
 use crate::requests::RequestRow;
 use crate::words::Words;
 use point_list::{Items, Point};

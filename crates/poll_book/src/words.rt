@@ -1,3 +1,4 @@
+//! The registers of a reading.
 ghost use Rattle.std.specs.Prelude.{◌≡◌, ◌≤◌, ◌<◌, IfOk, length};
 
 use std::alloc::{AllocError, Global};

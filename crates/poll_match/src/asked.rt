@@ -1,3 +1,4 @@
+//! What a query asks.
 ghost use Rattle.std.specs.Prelude.{◌≡◌, ◌<◌, ◌≤◌, length, true};
 ghost use Rattle.mb_pdu.specs.Grammar.{spells};
 ghost use Rattle.mb_pdu.specs.declared.request.Request.TheVariants.{WriteRegisters};

@@ -1,3 +1,4 @@
+//! The number of a connection.
 ghost use Rattle.std.specs.Prelude.{◌≡◌};
 
 use std::fmt;

@@ -1,3 +1,4 @@
+//! Why there is no query.
 use thiserror::Error;
 
 /// Why there is no query.

@@ -1,3 +1,4 @@
+//! What a device's chain of models says.
 use crate::value::Value;
 
 /// A model of a device: its identifier, the address of its identifier, and its length, the number of

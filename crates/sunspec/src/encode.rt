@@ -1,3 +1,4 @@
+//! Numbers as registers.
 ghost use Rattle.std.specs.Prelude.{◌≡◌, ◌≢◌, ◌≤◌, ◌<◌, ◌^◌, ◌*◌, ℕ, List, pos, length, IfErr, IfNone, IfOk, IfSome};
 ghost use Rattle.sunspec.specs.declared.value.Value.{Value};
 ghost use Rattle.sunspec.specs.Value.{AreRegistersOf, AreWords, number_meant, register_sum, twos_complement, value};

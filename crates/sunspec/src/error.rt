@@ -1,3 +1,4 @@
+//! Why registers, texts and chains are refused.
 ghost use Rattle.std.specs.Prelude.{◌≡◌};
 ghost use Rattle.sunspec.specs.declared.error.SunError.TheVariants.{Memory, SourceFault as Failed};
 

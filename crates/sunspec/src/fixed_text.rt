@@ -1,3 +1,4 @@
+//! Short texts that take no memory.
 ghost use Rattle.std.specs.Prelude.{◌≡◌, ◌↔◌, ◌≤◌, length, IsSome, IfSome, Some, nat_eq, refl};
 ghost use Rattle.std.specs.Cmp.{partial_equiv_from_equiv, unsigned_Decides};
 ghost use Rattle.std.specs.Hash as fed;

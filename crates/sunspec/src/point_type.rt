@@ -1,3 +1,4 @@
+//! Types of points: their names, their sizes and what their registers hold.
 ghost use Rattle.std.specs.Prelude.{◌≡◌, ◌↔◌, ◌^◌, ◌-◌, ◌≤◌, IfSome, IsTrue, MatchResult, None, Some};
 ghost use Rattle.sunspec.specs.Value.{AreRegistersOf};
 ghost use Rattle.sunspec.specs.PointType.{IsSized, bits, bits_of, can_be_swapped, coded, is_unimplemented, named, resized, row, row_shown};

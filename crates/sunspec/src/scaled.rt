@@ -1,3 +1,4 @@
+//! Numbers with their scales, as exact texts.
 ghost use Rattle.std.specs.Prelude.{◌≡◌, ◌<◌, ◌≤◌, ◌^◌, ◌++◌, ◌⊎◌, ◌*ℤ◌, ◌<ℤ◌, ◌↔◌, IfErr, IfOk, IsErrOf, IsTrue, OnOk, negsuc, pos, replicate, string_bytes};
 ghost use Rattle.std.specs.Fmt.{signed_decimal};
 ghost use Rattle.sunspec.specs.declared.error.SunError.{SunError};

@@ -1,3 +1,4 @@
+//! Registers as they are shown.
 ghost use Rattle.std.specs.Prelude.{[], ◌≡◌, ◌<◌, ◌≤◌, ◌⊎◌, ◌<ℤ◌, ◌↔◌, IfErr, IfOk, IsErrOf, OnOk, length, map, negsuc, option_map, pos, reverse, string_bytes};
 ghost use Rattle.mb_pdu.specs.Packing.{words_text};
 ghost use Rattle.sunspec.specs.declared.error.SunError.{SunError};

@@ -1,3 +1,4 @@
+//! Sources of registers.
 ghost use Rattle.std.specs.Prelude.{◌≡◌, ◌≤◌, ℕ, Option, IfOk, IfSome, length};
 ghost use Rattle.sunspec.specs.Sources.{CountsFailures, Image, IsRead};
 

@@ -1,3 +1,4 @@
+//! Values, and how registers are read as them.
 ghost use Rattle.std.specs.Prelude.{reverse, ◌≡◌, ◌≢◌, ◌≤◌, ◌<◌, ◌^◌, ◌*◌, ◌==◌, if◌then◌else◌, length, position, take};
 ghost use Rattle.std.specs.List.{before_first, list_all};
 ghost use Rattle.mb_pdu.specs.Packing.{words_text};

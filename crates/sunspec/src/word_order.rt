@@ -1,3 +1,4 @@
+//! The order of a number's registers.
 ghost use Rattle.std.specs.Prelude.{◌≡◌, ◌≢◌, ◌<◌, ◌≤◌, MatchResult, Some, length, reverse};
 ghost use Rattle.sunspec.specs.WordOrder.{order_name};
 ghost use Rattle.sunspec.specs.declared.word_order.WordOrder.{WordOrder};

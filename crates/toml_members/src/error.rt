@@ -1,3 +1,4 @@
+//! Why a text is no document, and what is wrong with a member of one.
 ghost use Rattle.std.specs.Prelude.{◌≡◌};
 
 use thiserror::Error;
