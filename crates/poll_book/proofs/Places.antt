@@ -52,6 +52,19 @@ module _ {X : Type 0} (key : X → ℕ) (l : List X) (rising : IsRising key l) (
     above = all_from (λ x. k < key x) l at (λ i d le lt. ranked _ k _ (sym ((parted comparisons_rise).1 i d le lt)));
   }
 
+  -- a key after the last would go to the end
+  pub behind_last : ((d : X) → 0 < length l → key (get_or l (length l - 1) d) < k) → IsGap key l k (length l)
+  behind_last after = record {
+    in_range = omega arith;
+    below = all_before (λ x. key x < k) l (length l) (omega arith) (λ i d lt.
+        let last = length l - 1 in
+        let low = rising i last d in
+        let same = λ (here : i ≡ last). ap (λ n. key (get_or l n d)) here in
+        let high = after d (omega (arith, lt)) in
+        grind (arith, low, same, high));
+    above = all_from (λ x. k < key x) l (length l) (λ i d le lt. absurd (omega (arith, le, lt)));
+  }
+
 module _ {X : Type 0} (key : X → ℕ) (l : List X) (k at : ℕ) (gap : IsGap key l k at) where
   below_gap : (i : ℕ) (d : X) → i < at → key (get_or l i d) < k
   below_gap i d lt =

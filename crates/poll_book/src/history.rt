@@ -1,8 +1,9 @@
 //! A point's readings by slot, and where they stand.
-ghost use Rattle.std.specs.Prelude.{◌≡◌, ◌+◌, ◌<◌, ◌≤◌, map, length, Contains, IsOk, IsTrue, IfOk, IfErr, vec_len, vec_capacity};
+ghost use Rattle.std.specs.Prelude.{◌≡◌, ◌+◌, ◌<◌, ◌≤◌, map, Contains, IsOk, IfOk, IfErr, vec_len, vec_capacity};
 ghost use Rattle.poll_book.specs.Tables.{with_row};
 ghost use Rattle.poll_book.specs.Histories.{AreSmall, IsAt, IsGap, IsRising, point_of, slot_of, slots_of};
 
+use crate::keyed::{Keyed, place_behind, place_numbered};
 use crate::rows::Reading;
 
 /// What is kept of a point in a slot.
@@ -19,59 +20,39 @@ pub(crate) struct History {
     pub slots: Vec<SlotRow>,
 }
 
-/// Whether the slot comes after all others.
-fn is_last(slots: &[SlotRow], slot: u32) -> bool
-    requires { IsRising slot_of slots.now }
-    ensures { IsTrue result → IsGap slot_of slots.now slot (length slots.now) }
-{
-    match slots.last() {
-        Some(row) => row.slot < slot,
-        None => true,
+impl Keyed for SlotRow {
+    ghost key_of = { slot_of };
+
+    fn key(&self) -> u32 {
+        self.slot
     }
 }
 
-/// Where the slot stands, or where it would go. A slot after all others is found at once.
+impl Keyed for History {
+    ghost key_of = { point_of };
+
+    fn key(&self) -> u32 {
+        self.point
+    }
+}
+
+/// Where the slot stands, or where it would go.
 pub(crate) fn slot_place(slots: &[SlotRow], slot: u32) -> Result<usize, usize>
     requires { IsRising slot_of slots.now }
     ensures found { IfOk result (IsAt slot_of slots.now slot) }
     ensures absent { IfErr result (IsGap slot_of slots.now slot) }
 {
-    if is_last(slots, slot) {
-        return Err(slots.len());
-    }
-    slots.binary_search_by_key(&slot, |row| row.slot)
+    place_behind(slots, slot)
 }
 
-/// Whether the point's history stands at the place.
-fn stands_at(histories: &[History], point: u32, place: usize) -> bool
-    requires { IsRising point_of histories.now }
-    ensures { IsTrue result → IsAt point_of histories.now point place }
-{
-    place < histories.len() && histories[place].point == point
-}
-
-fn search(histories: &[History], point: u32) -> Result<usize, usize>
-    requires { IsRising point_of histories.now }
-    ensures found { IfOk result (IsAt point_of histories.now point) }
-    ensures absent { IfErr result (IsGap point_of histories.now point) }
-    ensures known { Contains (map point_of histories.now) point → IsOk result }
-{
-    histories.binary_search_by_key(&point, |history| history.point)
-}
-
-/// Where the point's history stands, or where it would go. Points are numbered from 1, so where
-/// all have a history it stands at the number less 1, which is tried first.
+/// Where the point's history stands, or where it would go. Points are numbered from 1, and all may have one.
 pub(crate) fn history_place(histories: &[History], point: u32) -> Result<usize, usize>
     requires { IsRising point_of histories.now }
     ensures found { IfOk result (IsAt point_of histories.now point) }
     ensures absent { IfErr result (IsGap point_of histories.now point) }
     ensures known { Contains (map point_of histories.now) point → IsOk result }
 {
-    let guess = point.saturating_sub(1) as usize;
-    if stands_at(histories, point, guess) {
-        return Ok(guess);
-    }
-    search(histories, point)
+    place_numbered(histories, point)
 }
 
 impl History {

@@ -12,6 +12,7 @@ mod fault;
 mod histories;
 mod history;
 mod keeper;
+mod keyed;
 pub mod laws;
 mod marks;
 mod mem_keeper;

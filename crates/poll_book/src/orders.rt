@@ -1,59 +1,32 @@
 //! Orders in memory, by their numbers.
-ghost use Rattle.std.specs.Prelude.{◌≡◌, ◌<◌, IsTrue, IfOk, IfErr, Some, length, slice_get, vec_len, vec_capacity, List};
+ghost use Rattle.std.specs.Prelude.{◌≡◌, ◌<◌, IfOk, IfErr, Some, slice_get, vec_len, vec_capacity, List};
 ghost use Rattle.poll_book.specs.Orders.{last_order, setting_at};
 ghost use Rattle.poll_book.specs.Changes.{with_order};
 ghost use Rattle.poll_book.specs.Histories.{IsAt, IsGap, IsRising};
 ghost use Rattle.poll_book.specs.Marks.{AreRight, number_of, settings_of};
 ghost use Rattle.poll_book.specs.declared.rows.PointRow.{PointRow as Known};
 
+use crate::keyed::{Keyed, place_numbered};
 use crate::marks::Marks;
 use crate::points::is_waiting;
 use crate::rows::{Setting, SettingRow};
 use std::alloc::AllocError;
 
-/// Whether the number comes after all others.
-fn is_last(orders: &[SettingRow], number: u32) -> bool
-    requires { IsRising number_of orders.now }
-    ensures { IsTrue result → IsGap number_of orders.now number (length orders.now) }
-{
-    match orders.last() {
-        Some(row) => row.number < number,
-        None => true,
+impl Keyed for SettingRow {
+    ghost key_of = { number_of };
+
+    fn key(&self) -> u32 {
+        self.number
     }
 }
 
-/// Whether the order stands at the place.
-fn stands_at(orders: &[SettingRow], number: u32, place: usize) -> bool
-    requires { IsRising number_of orders.now }
-    ensures { IsTrue result → IsAt number_of orders.now number place }
-{
-    place < orders.len() && orders[place].number == number
-}
-
-fn search(orders: &[SettingRow], number: u32) -> Result<usize, usize>
-    requires { IsRising number_of orders.now }
-    ensures found { IfOk result (IsAt number_of orders.now number) }
-    ensures absent { IfErr result (IsGap number_of orders.now number) }
-{
-    orders.binary_search_by_key(&number, |row| row.number)
-}
-
-/// Where the order of a number stands, or where it would go. Orders are numbered from 1, so where
-/// all are there it stands at the number less 1, which is tried first. A number after all others is
-/// found at once.
+/// Where the order of a number stands, or where it would go. Orders are numbered from 1.
 fn order_place(orders: &[SettingRow], number: u32) -> Result<usize, usize>
     requires { IsRising number_of orders.now }
     ensures found { IfOk result (IsAt number_of orders.now number) }
     ensures absent { IfErr result (IsGap number_of orders.now number) }
 {
-    let guess = number.saturating_sub(1) as usize;
-    if stands_at(orders, number, guess) {
-        return Ok(guess);
-    }
-    if is_last(orders, number) {
-        return Err(orders.len());
-    }
-    search(orders, number)
+    place_numbered(orders, number)
 }
 
 fn copy_of(row: &SettingRow) -> Result<SettingRow, AllocError>

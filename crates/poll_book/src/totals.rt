@@ -1,5 +1,5 @@
 //! Totals by the numbers of their points.
-ghost use Rattle.std.specs.Prelude.{◌≡◌, ℕ, ◌+◌, ◌<◌, ◌≤◌, [], ◌∷◌, IsTrue, IfOk, IfErr, length, vec_len, vec_capacity};
+ghost use Rattle.std.specs.Prelude.{◌≡◌, ℕ, ◌+◌, ◌<◌, ◌≤◌, [], ◌∷◌, IfOk, IfErr, length, vec_len, vec_capacity};
 ghost use Rattle.poll_book.specs.Tables.{with_sum, with_sums};
 ghost use Rattle.poll_book.specs.Totals as counting;
 ghost use Rattle.poll_book.specs.Totals.{totals_of};
@@ -7,54 +7,25 @@ ghost use Rattle.poll_book.specs.Changes.{as_sums};
 ghost use Rattle.poll_book.specs.Histories.{IsAt, IsGap, IsRising};
 ghost use Rattle.poll_book.specs.Marks.{total_point};
 
+use crate::keyed::{Keyed, place_numbered};
 use crate::rows::{PointRow, TotalRow};
 use point_list::Role;
 
-/// Whether the point comes after all others.
-fn is_last(totals: &[TotalRow], point: u32) -> bool
-    requires { IsRising total_point totals.now }
-    ensures { IsTrue result → IsGap total_point totals.now point (length totals.now) }
-{
-    match totals.last() {
-        Some(row) => row.point < point,
-        None => true,
+impl Keyed for TotalRow {
+    ghost key_of = { total_point };
+
+    fn key(&self) -> u32 {
+        self.point
     }
 }
 
-fn search(totals: &[TotalRow], point: u32) -> Result<usize, usize>
-    requires { IsRising total_point totals.now }
-    ensures found { IfOk result (IsAt total_point totals.now point) }
-    ensures absent { IfErr result (IsGap total_point totals.now point) }
-{
-    totals.binary_search_by_key(&point, |row| row.point)
-}
-
-/// Whether the total of a point stands at a place.
-fn stands_at(totals: &[TotalRow], point: u32, place: usize) -> bool
-    requires { IsRising total_point totals.now }
-    ensures { IsTrue result → IsAt total_point totals.now point place }
-{
-    match totals.get(place) {
-        Some(row) => row.point == point,
-        None => false,
-    }
-}
-
-/// Where the total of a point stands, or where it would go. A point after all others is found at once, and so
-/// is one before which all points are counters.
+/// Where the total of a point stands, or where it would go. Points are numbered from 1, and all may be counters.
 fn total_place(totals: &[TotalRow], point: u32) -> Result<usize, usize>
     requires { IsRising total_point totals.now }
     ensures found { IfOk result (IsAt total_point totals.now point) }
     ensures absent { IfErr result (IsGap total_point totals.now point) }
 {
-    if is_last(totals, point) {
-        return Err(totals.len());
-    }
-    let guess = (point as usize).saturating_sub(1);
-    if stands_at(totals, point, guess) {
-        return Ok(guess);
-    }
-    search(totals, point)
+    place_numbered(totals, point)
 }
 
 /// What is stored of a point; 0 of one that has no row.
