@@ -6,7 +6,7 @@ use std::fmt;
 
 /// One of the four tables of a device (Modbus Application Protocol V1.1b3, 4.3). It prints as
 /// `coil`, `discrete`, `input` or `holding`, the words of a point list.
-#[derive(Clone, Copy, Debug, PartialEq, Eq)]
+#[derive(Clone, Copy, Debug, PartialEq, Eq, Hash)]
 pub enum Table {
     /// Bits that are read and written.
     Coil,

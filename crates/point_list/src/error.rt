@@ -80,6 +80,8 @@ impl fmt::Display for ListFault {
     }
 }
 
+impl Error for ListFault {}
+
 /// A fault with its place: the number of the record, of which the header is 1, and the column 1 to
 /// 10, or 0 where no column is at fault. A fault of a site file, and `Memory`, have row and column 0.
 /// It prints as the fault with its row and column, where it has them: `bad csv row 3`.

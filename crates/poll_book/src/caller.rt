@@ -12,7 +12,7 @@ use std::{fmt, str};
 use sunspec::FixedText;
 
 /// The name of a caller: 1 to 32 of `A-Z a-z 0-9 _ -`. Contracts see its bytes.
-#[derive(Clone, Copy)]
+#[derive(Clone, Copy, Hash)]
 pub struct Caller {
     text: FixedText<32>,
 }
@@ -31,7 +31,7 @@ impl Model for Caller {
 }
 
 /// A key under which a caller asks: 1 to 64 of `A-Z a-z 0-9 _ -`. Contracts see its bytes.
-#[derive(Clone, Copy)]
+#[derive(Clone, Copy, Hash)]
 pub struct Key {
     text: FixedText<64>,
 }

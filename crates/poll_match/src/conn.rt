@@ -5,7 +5,7 @@ use std::fmt;
 use std::marker::Model;
 
 /// The number of a connection, from 1. Contracts see the number.
-#[derive(Clone, Copy, Debug, PartialEq, Eq)]
+#[derive(Clone, Copy, Debug, PartialEq, Eq, Hash)]
 pub struct Conn {
     number: u32,
 }

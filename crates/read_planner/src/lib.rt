@@ -17,7 +17,7 @@ pub use planning::plan;
 
 /// What a query asks for: a span of coils (function 1), discrete inputs (2), holding registers (3)
 /// or input registers (4).
-#[derive(Clone, Copy, Debug, PartialEq, Eq)]
+#[derive(Clone, Copy, Debug, PartialEq, Eq, Hash)]
 pub struct Read {
     pub function: u8,
     pub span: Span,
