@@ -15,7 +15,7 @@ use Rattle.point_list.specs.declared.error.ListError.{ListError}
 use Rattle.point_list.specs.declared.error.ListFault.TheVariants.{TooManyPoints}
 use Rattle.point_list.specs.declared.site.Site.{Site}
 use Rattle.point_list.specs.Edition.{Edition}
-use Rattle.point_list.specs.Lists.{records_of}
+use Rattle.point_list.specs.Lists.{point_limit, records_of}
 use Rattle.point_list.specs.Resolving.{list_at}
 use Rattle.poll_book.specs.declared.rows.PointRow.{PointRow}
 use Rattle.poll_book.specs.declared.requests.Reason.{Reason}
@@ -82,7 +82,7 @@ too_many = record { fault = OfList TooManyPoints; row = 0; column = 0 }
 
 abbrev pub loading_new : List PointRow → List ListRow → List Point → Loading
 loading_new known rows new =
-    if nat_le (length known + length new) 10000 then Taken (length rows) new
+    if nat_le (length known + length new) point_limit then Taken (length rows) new
     else Refused too_many
 
 abbrev pub loading_rows : List PointRow → List ListRow → Option ListRow → Loading

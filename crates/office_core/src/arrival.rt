@@ -3,6 +3,7 @@ ghost use Rattle.std.specs.Prelude.{◌≡◌, ◌≤◌, ◌*◌, IfOk, OnErr, 
 ghost use Rattle.poll_book.specs.Tables.{Tables, Within};
 ghost use Rattle.poll_book.specs.Fault.{Accounts};
 ghost use Rattle.poll_book.specs.Looks.{IsRaisedAtMost};
+ghost use Rattle.point_list.specs.Lists.{point_limit};
 ghost use Rattle.office_core.specs.ByDevice.{AreDevicesOf};
 ghost use Rattle.office_core.specs.Orders as orders;
 ghost use Rattle.office_core.specs.Queries.{Answers, AnswersRead};
@@ -31,7 +32,7 @@ fn bring_readings<K: Keeper>(
     asking: &Asking,
     reply: &Reply,
 ) -> Result<Arrival, StoreFault>
-    requires few { length known.now ≤ 10000 }
+    requires few { length known.now ≤ point_limit }
     requires devices { AreDevicesOf known.now devices.now }
     requires answers { AnswersRead asking.now.read reply.now }
     ensures told { K.is_clean keeper.new → (kept : Tables) → K.holds keeper.old kept
@@ -95,7 +96,7 @@ pub(crate) fn bring<K: Keeper>(
     asked: &Asked,
     reply: &Reply,
 ) -> Result<Arrival, StoreFault>
-    requires few { length known.now ≤ 10000 }
+    requires few { length known.now ≤ point_limit }
     requires devices { AreDevicesOf known.now devices.now }
     requires answers { Answers asked.now reply.now }
     ensures told { K.is_clean keeper.new → (kept : Tables) → K.holds keeper.old kept

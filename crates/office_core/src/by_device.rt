@@ -3,6 +3,7 @@ ghost use Rattle.std.specs.List.{position};
 ghost use Rattle.std.specs.Prelude.{◌≡◌, ◌≤◌, ◌<◌, ◌+◌, ◌++◌, ◌∷◌, ◌==◌, ◌&&◌, [], cond, List, ℕ, IfSome, OnOk, OnErr, length};
 ghost use Rattle.std.specs.Str.{bytes_eq};
 ghost use Rattle.poll_book.specs.declared.rows.PointRow.{PointRow};
+ghost use Rattle.point_list.specs.Lists.{point_limit};
 ghost use Rattle.office_core.specs.ByDevice.{AreDevicesOf, AreTheirs, listed};
 
 use point_list::Label;
@@ -25,7 +26,7 @@ pub(crate) struct ByDevice {
 
 /// Whether points that are numbered on, or aren't, are so with one more behind so many.
 fn goes_on(in_order: bool, number: u32, count: usize) -> bool
-    requires { count ≤ 10000 }
+    requires { count ≤ point_limit }
     ensures { result ≡ (in_order && number == count + 1) }
 {
     in_order && number as usize == count + 1
@@ -65,7 +66,7 @@ impl ByDevice {
 
     /// Puts so many points in that don't stand in it yet, or all where they are fewer, as far as there is memory.
     pub(crate) fn follow(&mut self, known: &[PointRow], some: usize)
-        requires few { length known.now ≤ 10000 }
+        requires few { length known.now ≤ point_limit }
         requires of { AreDevicesOf known.now self.old }
         ensures { AreDevicesOf known.now self.new }
     {
@@ -83,7 +84,7 @@ impl ByDevice {
 
     /// Puts one point in that doesn't stand in it yet, unless they are few.
     pub(crate) fn follow_one(&mut self, known: &[PointRow])
-        requires few { length known.now ≤ 10000 }
+        requires few { length known.now ≤ point_limit }
         requires of { AreDevicesOf known.now self.old }
         ensures { AreDevicesOf known.now self.new }
     {

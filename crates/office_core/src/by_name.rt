@@ -3,6 +3,7 @@ ghost use Rattle.std.specs.Prelude.{◌≡◌, ◌≤◌, None, Some, cond, List
 ghost use Rattle.std.specs.Option.{option_or};
 ghost use Rattle.std.specs.Str.{bytes_eq};
 ghost use Rattle.poll_book.specs.declared.rows.PointRow.{PointRow};
+ghost use Rattle.point_list.specs.Lists.{point_limit};
 ghost use Rattle.office_core.specs.ByName.{AreNamesOf, place_of, row_at};
 ghost use Rattle.office_core.specs.Loads as loads;
 
@@ -50,7 +51,7 @@ impl ByName {
 
     /// Puts so many points in that don't stand in it yet, or all where they are fewer.
     pub(crate) fn follow(&mut self, known: &[PointRow], some: usize) -> Result<(), AllocError>
-        requires few { length known.now ≤ 10000 }
+        requires few { length known.now ≤ point_limit }
         requires of { AreNamesOf known.now self.old }
         ensures { AreNamesOf known.now self.new }
     {
@@ -66,7 +67,7 @@ impl ByName {
 
     /// Puts one point in that doesn't stand in it yet, unless they are few.
     pub(crate) fn follow_one(&mut self, known: &[PointRow])
-        requires few { length known.now ≤ 10000 }
+        requires few { length known.now ≤ point_limit }
         requires of { AreNamesOf known.now self.old }
         ensures { AreNamesOf known.now self.new }
     {

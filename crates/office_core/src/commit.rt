@@ -5,6 +5,7 @@ ghost use Rattle.poll_book.specs.Changes.{IsNew, applied, keyed};
 ghost use Rattle.poll_book.specs.Fault.{Accounts};
 ghost use Rattle.poll_book.specs.Looks.{IsRaisedAtMost};
 ghost use Rattle.poll_book.specs.Orders.{is_waiting, setting_at};
+ghost use Rattle.point_list.specs.Lists.{point_limit};
 ghost use Rattle.office_core.specs.Orders.{waiting_at};
 ghost use Rattle.office_core.specs.Keeping.{AreCovered, IsCounted, with_given, with_state};
 ghost use Rattle.office_core.specs.Leavings.{LeftAfter};
@@ -50,7 +51,7 @@ pub(crate) fn keep_readings<K: Keeper>(
     covered: &[(PointRow, Registers)],
     slot: u32,
 ) -> Result<u32, StoreFault>
-    requires { length covered.now ≤ 10000 }
+    requires { length covered.now ≤ point_limit }
     ensures count { K.is_clean keeper.new → (kept : Tables) → K.holds keeper.old kept
         → IfOk result (λ count. count ≡ length (new_rows kept.readings (keyed slot covered.now))) }
     ensures kept { K.is_clean keeper.new → (kept : Tables) → K.holds keeper.old kept → IsCounted kept → AreCovered kept.points slot covered.now

@@ -1,6 +1,7 @@
 //! The copy of the points that an office has grows: the rows, and what finds them by device and by name.
 ghost use Rattle.std.specs.Prelude.{◌≡◌, ◌≤◌, ◌++◌, ◌+◌, IfSome, List, length, vec_len, vec_capacity};
 ghost use Rattle.poll_book.specs.declared.rows.PointRow.{PointRow};
+ghost use Rattle.point_list.specs.Lists.{point_limit};
 ghost use Rattle.office_core.specs.ByDevice.{AreDevicesOf};
 ghost use Rattle.office_core.specs.ByName.{AreNamesOf};
 
@@ -39,7 +40,7 @@ pub(crate) fn add_points(
     rows: &[PointRow],
 )
     requires room { vec_len points.old + length rows.now ≤ vec_capacity points.old }
-    requires few { length points.old.items + length rows.now ≤ 10000 }
+    requires few { length points.old.items + length rows.now ≤ point_limit }
     requires devices { AreDevicesOf points.old.items by_device.old }
     requires names { AreNamesOf points.old.items by_name.old }
     ensures points { points.new.items ≡ points.old.items ++ rows.now }
@@ -54,7 +55,7 @@ pub(crate) fn add_points(
 
 /// Puts one point in behind an arrival that looked for those of a device.
 pub(crate) fn follow_behind(by_device: &mut ByDevice, points: &[PointRow], arrival: &Arrival)
-    requires few { length points.now ≤ 10000 }
+    requires few { length points.now ≤ point_limit }
     requires devices { AreDevicesOf points.now by_device.old }
     ensures { AreDevicesOf points.now by_device.new }
 {

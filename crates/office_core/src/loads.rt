@@ -3,7 +3,7 @@ ghost use Rattle.std.specs.Prelude.{◌≡◌, ◌≢◌, ◌≤◌, ◌+◌, �
 ghost use Rattle.std.specs.List.{position};
 ghost use Rattle.std.specs.Str.{bytes_eq};
 ghost use Rattle.point_list.specs.Edition.{Second};
-ghost use Rattle.point_list.specs.Lists.{IsMemory, records_of};
+ghost use Rattle.point_list.specs.Lists.{IsMemory, point_limit, records_of};
 ghost use Rattle.point_list.specs.Resolving.{list_at};
 ghost use Rattle.point_list.specs.Sites.{IsSound};
 ghost use Rattle.point_list.specs.declared.point.ListRow.{ListRow};
@@ -12,12 +12,14 @@ ghost use Rattle.office_core.specs.Loads as loads;
 ghost use Rattle.office_core.specs.Loads.{ArePointsOf};
 
 use crate::by_name::ByName;
-use point_list::{ListError, ListFault, Point, Site, is_same_name, read_list, resolve};
+use point_list::{
+    ListError, ListFault, MOST_POINTS, Point, Site, is_same_name, read_list, resolve,
+};
 use poll_book::{Outcome, PointRow, Reason, RequestFault, StoreFault};
 use std::alloc::{AllocError, Global};
 
-/// From so many rows on all known points are put into a map by name, unless they are few.
-const MANY: usize = 16;
+/// From so many rows of a list on a sort of the known names costs less than a search for each of its names.
+const SEARCHES_OF_A_SORT: usize = 16;
 
 fn place_named(known: &[PointRow], name: &[u8]) -> Option<usize>
     ensures { result ≡ position (λ point. bytes_eq point.point.name name.now) known.now }
@@ -32,10 +34,8 @@ fn place_named(known: &[PointRow], name: &[u8]) -> Option<usize>
 pub(crate) fn known_named(known: &[PointRow], name: &[u8]) -> Option<PointRow>
     ensures { result ≡ loads.known_named known.now name.now }
 {
-    match place_named(known, name) {
-        Some(place) => Some(known[place]),
-        None => None,
-    }
+    let place = place_named(known, name)?;
+    Some(known[place])
 }
 
 fn is_same_meaning(a: &Point, b: &Point) -> bool
@@ -68,8 +68,8 @@ fn new_points(
     points: &[Point],
 ) -> Result<Result<Vec<PointRow>, u32>, AllocError>
     requires names_of { AreNamesOf known.now names.now }
-    requires many { length known.now ≤ 10000 }
-    requires few { length points.now ≤ 10000 }
+    requires many { length known.now ≤ point_limit }
+    requires few { length points.now ≤ point_limit }
     ensures rows { IfOk result (λ told. IfOk told (λ rows. rows.items ≡ loads.numbered_on (length known.now) (loads.unknown_of known.now points.now))) }
     ensures agree { IfOk result (λ told. OnOk told ((rows : List ListRow) → ArePointsOf rows points.now
         → None ≡ option_map (λ row. row.row) (loads.differing known.now rows))) }
@@ -112,10 +112,10 @@ fn all_names(
     names: &ByName,
     rows: usize,
 ) -> Result<Option<ByName>, AllocError>
-    requires many { length known.now ≤ 10000 }
+    requires many { length known.now ≤ point_limit }
     ensures { IfOk result (λ made. IfSome made (AreNamesOf known.now)) }
 {
-    if rows < MANY || names.is_ready(known) {
+    if rows < SEARCHES_OF_A_SORT || names.is_ready(known) {
         return Ok(None);
     }
     let mut all = ByName::new(alloc);
@@ -131,11 +131,11 @@ fn judge_known(
     points: &[Point],
 ) -> Result<(Outcome, Vec<PointRow>), StoreFault>
     requires names_of { AreNamesOf known.now names.now }
-    requires many { length known.now ≤ 10000 }
-    requires few { length points.now ≤ 10000 }
+    requires many { length known.now ≤ point_limit }
+    requires few { length points.now ≤ point_limit }
     ensures outcome { IfOk result (λ x. (rows : List ListRow) → ArePointsOf rows points.now → x.0 ≡ loads.outcome (loads.loading_of known.now (Ok rows))) }
     ensures added { IfOk result (λ x. (rows : List ListRow) → ArePointsOf rows points.now → x.1.items ≡ loads.added (length known.now) (loads.loading_of known.now (Ok rows))) }
-    ensures few { IfOk result (λ x. length known.now + length x.1.items ≤ 10000) }
+    ensures few { IfOk result (λ x. length known.now + length x.1.items ≤ point_limit) }
     ensures memory { IfErr result (λ e. e ≡ StoreFault.Memory) }
 {
     let new = match new_points(alloc, known, names, points)? {
@@ -144,7 +144,7 @@ fn judge_known(
             return Ok((refused(RequestFault::PointDiffers, row, 1), Vec::new(alloc)));
         }
     };
-    if known.len() + new.len() > 10000 {
+    if known.len() + new.len() > MOST_POINTS {
         let fault = RequestFault::List(ListFault::TooManyPoints);
         return Ok((refused(fault, 0, 0), Vec::new(alloc)));
     }
@@ -170,12 +170,12 @@ fn judge_points(
     points: &[Point],
 ) -> Result<Judged, StoreFault>
     requires names_of { AreNamesOf known.now names.now }
-    requires many { length known.now ≤ 10000 }
-    requires few { length points.now ≤ 10000 }
+    requires many { length known.now ≤ point_limit }
+    requires few { length points.now ≤ point_limit }
     ensures names_of { IfOk result (λ x. IfSome x.names (AreNamesOf known.now)) }
     ensures outcome { IfOk result (λ x. (rows : List ListRow) → ArePointsOf rows points.now → x.outcome ≡ loads.outcome (loads.loading_of known.now (Ok rows))) }
     ensures added { IfOk result (λ x. (rows : List ListRow) → ArePointsOf rows points.now → x.points.items ≡ loads.added (length known.now) (loads.loading_of known.now (Ok rows))) }
-    ensures few { IfOk result (λ x. length known.now + length x.points.items ≤ 10000) }
+    ensures few { IfOk result (λ x. length known.now + length x.points.items ≤ point_limit) }
     ensures memory { IfErr result (λ e. e ≡ StoreFault.Memory) }
 {
     let all = all_names(alloc, known, names, points.len())?;
@@ -213,7 +213,7 @@ fn judge_fault(alloc: Global, error: ListError) -> Result<Judged, StoreFault>
 fn points_in(alloc: Global, site: &Site, list: &[u8]) -> Result<Vec<Point>, ListError>
     requires { IsSound site.now }
     ensures points { IfOk result (λ v. (rows : List ListRow) × (list_at Second site.now (records_of list.now) ≡ Ok rows) × ArePointsOf rows v.items) }
-    ensures few { IfOk result (λ v. length v.items ≤ 10000) }
+    ensures few { IfOk result (λ v. length v.items ≤ point_limit) }
     ensures fault { IfErr result (λ e. IsMemory e ⊎ (list_at Second site.now (records_of list.now) ≡ Err e)) }
 {
     match read_list(alloc, list, site) {
@@ -232,11 +232,11 @@ pub(crate) fn judge(
 ) -> Result<Judged, StoreFault>
     requires sound { IsSound site.now }
     requires names_of { AreNamesOf known.now names.now }
-    requires many { length known.now ≤ 10000 }
+    requires many { length known.now ≤ point_limit }
     ensures names_of { IfOk result (λ x. IfSome x.names (AreNamesOf known.now)) }
     ensures outcome { IfOk result (λ x. x.outcome ≡ loads.outcome (loads.loading Second site.now known.now list.now)) }
     ensures added { IfOk result (λ x. x.points.items ≡ loads.added (length known.now) (loads.loading Second site.now known.now list.now)) }
-    ensures few { IfOk result (λ x. length known.now + length x.points.items ≤ 10000) }
+    ensures few { IfOk result (λ x. length known.now + length x.points.items ≤ point_limit) }
     ensures memory { IfErr result (λ e. e ≡ StoreFault.Memory) }
 {
     match points_in(alloc, site, list) {

@@ -4,6 +4,7 @@ ghost use Rattle.poll_book.specs.Fault.{Accounts, HasCause};
 ghost use Rattle.poll_book.specs.Looks.{IsRaisedAtMost};
 ghost use Rattle.poll_book.specs.Tables.{Tables, Within};
 ghost use Rattle.poll_book.specs.Requests.{request_at};
+ghost use Rattle.point_list.specs.Lists.{point_limit};
 ghost use Rattle.point_list.specs.Sites.{IsSound};
 ghost use Rattle.office_core.specs.ByDevice.{AreDevicesOf};
 ghost use Rattle.office_core.specs.ByName.{AreNamesOf};
@@ -32,7 +33,7 @@ use crate::site::{Target, find_target, has_devices, line_place};
 use crate::voids::judge_void;
 use mb_mbap::Frame;
 use mb_pdu::Reply;
-use point_list::{Role, Site};
+use point_list::{MOST_POINTS, Role, Site};
 use poll_book::{Caller, Keeper, Key, OrderState, PointRow, Request, SettingRow, StoreFault};
 use poll_match::{Asked, Conn, Matcher};
 use read_planner::Read;
@@ -124,7 +125,7 @@ pub struct Office<K: Keeper> {
     by_name: ByName,
     matcher: Matcher,
     alloc: Global,
-    ghost few: { length points.items ≤ 10000 },
+    ghost few: { length points.items ≤ point_limit },
     ghost devices: { AreDevicesOf points.items by_device },
     ghost names: { AreNamesOf points.items by_name },
     ghost sound: { IsSound site },
@@ -153,7 +154,7 @@ impl<K: Keeper> Office<K> {
         ensures devices { IfOk result (λ office. K.is_clean (keeper_of office) → (kept : Tables) → K.holds keeper kept → has_devices site kept.points ≡ true) }
         ensures differs { IfErr result (λ e. e.0 ≡ OfficeError.SiteDiffers → K.is_clean e.1 → (kept : Tables) → K.holds keeper kept → has_devices site kept.points ≡ false) }
         ensures cause { IfErr result (λ e. IsCaused (HasCause K.may_refuse (K.refused keeper) (K.refused e.1)) e.0
-            ⊎ (K.is_clean e.1 → (kept : Tables) → K.holds keeper kept → 10000 < length kept.points)) }
+            ⊎ (K.is_clean e.1 → (kept : Tables) → K.holds keeper kept → point_limit < length kept.points)) }
         ensures counted { MatchResult result (λ office. K.refused (keeper_of office) ≡ K.refused keeper) (λ e. K.refused keeper ≤ K.refused e.1) }
         ensures same { MatchResult result (λ office. Within (K.holds keeper) (K.holds (keeper_of office))) (λ e. Within (K.holds keeper) (K.holds e.1)) }
         ensures clean { MatchResult result (λ office. K.is_clean (keeper_of office) → K.is_clean keeper) (λ e. K.is_clean e.1 → K.is_clean keeper) }
@@ -165,7 +166,7 @@ impl<K: Keeper> Office<K> {
         if !has_devices(&site, &points) {
             return Err((OfficeError::SiteDiffers, keeper));
         }
-        if points.len() > 10000 {
+        if points.len() > MOST_POINTS {
             return Err((OfficeError::Store(StoreFault::Other), keeper));
         }
         Ok(Office {

@@ -17,12 +17,9 @@ use crate::fields::{Length, body_length};
 use crate::heard::{Heard, Methods, Page, Refusal};
 use crate::place::Place;
 use httparse::spans::HeaderSpan;
-use poll_book::{Caller, Key};
+use poll_book::{Caller, Key, MOST_APART};
 use std::alloc::{AllocError, Global};
 use sunspec::digits;
-
-/// At most so many slots lie between the first and the last of a range.
-const WIDEST: u32 = 9_999;
 
 /// A request's method, and its fields as parts of its bytes.
 #[derive(Clone, Copy)]
@@ -69,7 +66,7 @@ fn range_of(from: &str, to: &str) -> Option<(u32, u32)>
 {
     let from = slot_of(from)?;
     let to = slot_of(to)?;
-    if from <= to && to - from <= WIDEST {
+    if from <= to && to - from <= MOST_APART {
         Some((from, to))
     } else {
         None

@@ -5,6 +5,7 @@ use Rattle.std.specs.Str.{bytes_eq}
 use Rattle.clap.specs.Words.{IsAmong, Kinds, Row, Text, fault_of, first_of, subcommand_of}
 use Rattle.clap.specs.declared.error.kind.ErrorKind.{ErrorKind}
 use Rattle.clap.specs.declared.error.kind.ErrorKind.TheVariants.{DisplayHelp, DisplayVersion}
+use Rattle.poll_book.specs.Tables.{most_apart}
 use Rattle.office_words.specs.Line.{help_line, office_line}
 use Rattle.office_words.specs.Values.{◌>>=◌, caller_of, if_given, key_of, number_of, period_of, port_of, seconds_of, value_of}
 use Rattle.office_words.specs.declared.job.Errand.{Errand}
@@ -112,7 +113,7 @@ report_of rows = do
   point ← first_of (codes "point") rows
   from ← first_of (codes "from") rows >>= number_of
   to ← first_of (codes "to") rows >>= number_of
-  if nat_le from to && nat_le to (from + 9999) then office_of rows (report point from to) else None
+  if nat_le from to && nat_le to (from + most_apart) then office_of rows (report point from to) else None
 
 unfoldable pub serve_of : List Row → Option JobView
 serve_of rows = do

@@ -8,10 +8,8 @@ use crate::given::{
 };
 use crate::{Errand, Job, WordFault};
 use clap::ArgMatches;
+use poll_book::MOST_APART;
 use std::alloc::Global;
-
-/// How far apart the first and the last slot of a report may be.
-const MOST_APART: u32 = 9999;
 
 /// An errand in the office that the values name.
 #[tactic(auto, unfolding(crate::specs::Jobs::office_of))]

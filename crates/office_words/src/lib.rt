@@ -1,4 +1,6 @@
 //! The command line of the program `office`: what its words ask for, and the text of its help.
+//!
+//! `crates/office_commands/src/running.rt` does what they ask for.
 #![tactic(auto)]
 
 mod builders;

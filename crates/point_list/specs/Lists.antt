@@ -17,6 +17,10 @@ use Rattle.point_list.specs.declared.error.ListError.{ListError}
 use Rattle.point_list.specs.declared.error.ListFault.{ListFault}
 use Rattle.point_list.specs.declared.error.ListFault.TheVariants.{BadCsv, BadHeader, BadName, UnknownDevice, BadTable, BadAddress, BadType, LeftOutType, BadLength, BadScale, BadRole, BadRoll, BadWords, Twice, TooManyPoints, Memory}
 
+-- the most points that a list has
+abbrev pub point_limit : ℕ
+point_limit = 10000
+
 -- the records of a list's bytes, without a byte order mark
 abbrev pub records_of : List ℕ → List Record
 records_of bytes = records default_config (strip_bom bytes)
@@ -73,7 +77,7 @@ check passes fault column = record { passes = passes; fault = fault; column = co
 abbrev pub place_checks : ℕ → (List ℕ → Bool) → ℕ → Record → List Check
 place_checks columns known before r =
     check (length r == columns) BadCsv 0
-    ∷ check (nat_lt before 10000) TooManyPoints 0
+    ∷ check (nat_lt before point_limit) TooManyPoints 0
     ∷ check (is_name (field r 0)) BadName 1
     ∷ check (known (field r 1)) UnknownDevice 2
     ∷ check (is_some (table_in r)) BadTable 3

@@ -16,6 +16,10 @@ Key = ℕ × ℕ
 abbrev pub key_cmp : Key → Key → Ordering
 key_cmp a b = ordering_then (nat_cmp a.0 b.0) (nat_cmp a.1 b.1)
 
+-- the first and the last slot of a report are at most so far apart
+abbrev pub most_apart : ℕ
+most_apart = 9999
+
 abbrev pub Readings : Type 0
 Readings = List (Key × Reading)
 

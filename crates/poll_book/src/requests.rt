@@ -4,6 +4,9 @@ use point_list::{Items, ListFault, Text};
 use std::error::Error;
 use std::fmt;
 
+/// How far apart the first and the last slot of a report may be.
+pub const MOST_APART: u32 = 9_999;
+
 /// What a caller asks for.
 #[derive(Debug, Drop)]
 pub enum Body {
