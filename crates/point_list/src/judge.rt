@@ -163,14 +163,8 @@ pub(crate) fn row_in(
         × SaysRow number (fields_of record.now) x) }
     ensures fault { IfErr result (λ e. fault_below columns (has_device devices.now) (names_of rows.now) (fields_of record.now) ≡ Some e) }
 {
-    let place = match place_in(columns, devices, rows, record) {
-        Ok(place) => place,
-        Err(e) => return Err(e),
-    };
-    let meaning = match meaning_in(place.table, record) {
-        Ok(meaning) => meaning,
-        Err(e) => return Err(e),
-    };
+    let place = place_in(columns, devices, rows, record)?;
+    let meaning = meaning_in(place.table, record)?;
     if !ends_in_time(place.address, meaning.kind) {
         return Err((ListFault::BadAddress, 4));
     }

@@ -3,7 +3,7 @@ ghost use Rattle.std.specs.Prelude.{◌≡◌, ◌≤◌, ◌+◌, ◌⊎◌, �
 ghost use Rattle.std.specs.List.{find};
 ghost use Rattle.point_list.specs.Columns.{◌then◌};
 ghost use Rattle.point_list.specs.Edition.{Second};
-ghost use Rattle.point_list.specs.Lists.{IsMemory, records_of};
+ghost use Rattle.point_list.specs.Lists.{IsMemory, point_limit, records_of};
 ghost use Rattle.point_list.specs.Resolving.{first_misplaced, misplaced, model_at, point_placed, points_at};
 ghost use Rattle.point_list.specs.Sites.{IsSound};
 
@@ -68,10 +68,7 @@ pub fn resolve(alloc: Global, rows: Vec<ListRow>, site: &Site) -> Result<Vec<Poi
     // Room for all at once; where that is refused, it is asked for as points come.
     let _ = points.reserve(rows.len().min(MOST_POINTS));
     for row in rows.as_slice() {
-        let point = match placed(site, row) {
-            Ok(point) => point,
-            Err(e) => return Err(e),
-        };
+        let point = placed(site, row)?;
         if points.push(point).is_err() {
             return Err(ListError::memory());
         }
@@ -83,7 +80,7 @@ pub fn resolve(alloc: Global, rows: Vec<ListRow>, site: &Site) -> Result<Vec<Poi
 pub fn read_points(alloc: Global, bytes: &[u8], site: &Site) -> Result<Vec<Point>, ListError>
     requires { IsSound site.now }
     ensures points { IfOk result (λ v. points_at Second site.now (records_of bytes.now) ≡ Ok v.items) }
-    ensures few { IfOk result (λ v. length v.items ≤ 10000) }
+    ensures few { IfOk result (λ v. length v.items ≤ point_limit) }
     ensures fault { IfErr result (λ e. IsMemory e ⊎ (points_at Second site.now (records_of bytes.now) ≡ Err e)) }
 {
     match read_list(alloc, bytes, site) {

@@ -165,14 +165,12 @@ impl Connection {
         let Some(query) = self.query_at(number) else {
             return Err(MatchError::NoQuery);
         };
-        match reply_to(&query, frame) {
-            Ok(reply) => Ok(Found {
-                number,
-                asked: query.asked,
-                reply,
-            }),
-            Err(e) => Err(e),
-        }
+        let reply = reply_to(&query, frame)?;
+        Ok(Found {
+            number,
+            asked: query.asked,
+            reply,
+        })
     }
 
     /// The query that a frame answers, with a reply without bits. Of one that reads bits nothing is told.
@@ -188,14 +186,12 @@ impl Connection {
         if query.asked.reads_bits() {
             return Ok(None);
         }
-        match brief_reply_to(&query, frame) {
-            Ok(reply) => Ok(Some(FoundBrief {
-                number,
-                asked: query.asked,
-                reply,
-            })),
-            Err(e) => Err(e),
-        }
+        let reply = brief_reply_to(&query, frame)?;
+        Ok(Some(FoundBrief {
+            number,
+            asked: query.asked,
+            reply,
+        }))
     }
 
     /// Marks a kept query as answered.

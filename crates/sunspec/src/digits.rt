@@ -17,10 +17,7 @@ pub fn within(text: &[u8], limit: u128) -> Option<u128>
     }
     let mut number = 0;
     for byte in text {
-        match more(number, *byte, limit) {
-            Some(next) => number = next,
-            None => return None,
-        }
+        number = more(number, *byte, limit)?;
     }
     Some(number)
 }

@@ -1,18 +1,21 @@
 use Rattle.std.proofs.Common.{◌∙◌, sym, refl, rules}
+use Rattle.std.proofs.lemmas.Result.{err_from_is_err_and}
 use Rattle.csv.specs.Records.{fields_of}
 use Rattle.point_list.specs.DeviceNames.{has_device}
 use Rattle.point_list.proofs.Judging.{below-meaning, below-name}
 use Rattle.point_list.proofs.judge.row_in.Goals as goal
 
-pub returns-in-Err-meaning_in-clause-fault : goal.returns-in-Err-meaning_in-clause-fault
-returns-in-Err-meaning_in-clause-fault c =
-    below-meaning c.args.columns (has_device c.args.devices.now) c.args.rows.now (fields_of c.args.record.now) c.in-Err-meaning_in.e c.in-Ok.ensures.place.0 c.in-Err-meaning_in.ensures.fault
+pub returns-in_err-meaning-clause-fault : goal.returns-in_err-meaning-clause-fault
+returns-in_err-meaning-clause-fault c =
+    let p = err_from_is_err_and c.from_residual-in_err-meaning.result c.from_residual-in_err-meaning.ensures.1 in
+    rw (p.1, p.2)
+    (below-meaning c.args.columns (has_device c.args.devices.now) c.args.rows.now (fields_of c.args.record.now) c.in_err-meaning.field-0.0 c.in_ok-place.ensures.place.0 c.in_err-meaning.ensures.fault)
 
 pub returns-clause-row : goal.returns-clause-row
 returns-clause-row c =
-    let place = c.in-Ok.ensures.place in
-    let meaning = c.in-Ok-meaning_in.ensures.meaning in (
-      below-name c.args.columns (has_device c.args.devices.now) c.args.rows.now (fields_of c.args.record.now) c.in-Ok.place.address c.in-Ok-meaning_in.meaning.kind place.0 meaning.0 place.1.address meaning.1.kind
+    let place = c.in_ok-place.ensures.place in
+    let meaning = c.in_ok-meaning.ensures.meaning in (
+      below-name c.args.columns (has_device c.args.devices.now) c.args.rows.now (fields_of c.args.record.now) c.in_ok-place.place.address c.in_ok-meaning.meaning.kind place.0 meaning.0 place.1.address meaning.1.kind
           (sym c.ends_in_time.ensures ∙ c.if-not-ends_in_time.false),
       record {
         row = refl;

@@ -14,8 +14,8 @@ reply_to-requires c =
     let valid : list_all (λ (query : Matched). is_valid query.asked) on.last ≡ true = ap (λ (o : Open). list_all (λ (query : Matched). is_valid query.asked) o.last) (sym c.self.view_is) ∙ c.self.invariant.valid in
     can_be_asked c.in-Some-query_at.query.asked (kept_is_valid on c.in-Some.number c.in-Some-query_at.query valid at)
 
-pub returns-in-Ok-clause-kept : goal.returns-in-Ok-clause-kept
-returns-in-Ok-clause-kept c =
+pub returns-clause-kept : goal.returns-clause-kept
+returns-clause-kept c =
     let named : numbered c.args.frame.now.transaction c.self.inside.made ≡ Some c.in-Some.number = search rules in
     let near = numbered_is c.args.frame.now.transaction c.self.inside.made c.in-Some.number named in
     let made : c.args.self.now.made ≡ c.self.inside.made = ap (λ (o : Open). o.made) (sym c.self.view_is) in

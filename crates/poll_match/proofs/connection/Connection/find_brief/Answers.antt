@@ -15,8 +15,8 @@ brief_reply_to-requires-clause-valid c =
     let valid : list_all (λ (query : Matched). is_valid query.asked) on.last ≡ true = ap (λ (o : Open). list_all (λ (query : Matched). is_valid query.asked) o.last) (sym c.self.view_is) ∙ c.self.invariant.valid in
     kept_is_valid on c.in-Some.number c.in-Some-query_at.query valid at
 
-pub returns-in-Ok : goal.returns-in-Ok
-returns-in-Ok c =
+pub returns : goal.returns
+returns c =
     let on : Open = c.args.self.now in
     let frame = c.args.frame.now in
     let query = c.in-Some-query_at.query in
@@ -24,6 +24,6 @@ returns-in-Ok c =
     let at : query_at on c.in-Some.number ≡ Some query = search rules in
     let near = numbered_is frame.transaction on.made c.in-Some.number so in
     let plain : asks_bits (named (Some on) frame) ≡ false = rw (so, at) (sym c.reads_bits.ensures ∙ c.if-reads_bits.false) in
-    let accepted : refusal (Some on) frame ≡ None = rw (so, at) c.in-Ok.ensures.accepted in
-    let names : Names (Some on) frame c.in-Some.number query.asked (whole c.in-Ok.reply) = search rules in
+    let accepted : refusal (Some on) frame ≡ None = rw (so, at) c.in_ok-reply.ensures.accepted in
+    let names : Names (Some on) frame c.in-Some.number query.asked (whole c.in_ok-reply.reply) = search rules in
     (plain, accepted, names, (near.0, near.1))
