@@ -68,12 +68,6 @@ impl From<AllocError> for Gone {
     }
 }
 
-impl From<StoreFault> for Gone {
-    fn from(_: StoreFault) -> Gone {
-        Gone
-    }
-}
-
 /// A caller that is connected.
 #[derive(Drop)]
 pub(crate) struct Caller {
@@ -434,10 +428,17 @@ impl Caller {
         if self.out.pending().len() >= ENOUGH {
             return Ok(false);
         }
-        let shown = showing.go_on(self.alloc, office, board)?;
-        self.out.push(shown.text.as_bytes())?;
-        self.showing = shown.next;
-        Ok(true)
+        match showing.go_on(self.alloc, office, board) {
+            Ok(shown) => {
+                self.out.push(shown.text.as_bytes())?;
+                self.showing = shown.next;
+                Ok(true)
+            }
+            Err(fault) => {
+                self.news.refused = Some(fault);
+                Err(Gone)
+            }
+        }
     }
 
     /// Shows what a page shows next, if one is shown, and writes on; tells whether there may be more to do at once.

@@ -16,6 +16,8 @@ pub(crate) struct Place {
     alloc: Global,
     at: usize,
     caller: Option<Caller>,
+    // What became of what a caller asked for that is gone, of which nobody was told yet.
+    left: Option<News>,
     /// The pass in which it did something last.
     pub served: u64,
 }
@@ -32,6 +34,7 @@ impl Place {
             alloc,
             at,
             caller: None,
+            left: None,
             served: 0,
         }
     }
@@ -54,14 +57,14 @@ impl Place {
         self.caller.is_none()
     }
 
-    /// What became of what its caller asked for since this was asked last; nothing where it has none.
+    /// What became of what its caller asked for since this was asked last, though it is gone since.
     pub fn news(&mut self) -> Option<News>
         ensures at { self.new.at ≡ self.old.at }
         ensures same { session_at self.new ≡ session_at self.old }
     {
         match &mut self.caller {
             Some(caller) => Some(caller.news()),
-            None => None,
+            None => self.left.take(),
         }
     }
 
@@ -112,6 +115,7 @@ impl Place {
         match caller.go_on(office, sockets, board, Source::Caller(self.at), now) {
             Ok(is_more) => is_more,
             Err(Gone) => {
+                self.left = Some(caller.news());
                 self.clear(sockets);
                 true
             }

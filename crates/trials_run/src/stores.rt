@@ -134,3 +134,30 @@ fn unordered(trial: &Trial<'_>) -> Result<(), OfficeError> {
 fn an_order_that_was_refused_may_come_again(rt: HostRuntime) -> Result<(), Fail> {
     Ok(twice!(rt, unordered)?)
 }
+
+/// The head of `GET /points` and what stands before the first point.
+const BEGUN: &str =
+    "HTTP/1.1 200 OK\r\nContent-Type: application/json\r\nConnection: close\r\n\r\n{\"points\":[";
+
+/// The store refuses once, as the first point of a page is looked up.
+fn unshown(trial: &Trial<'_>) -> Result<(), OfficeError> {
+    let alloc = trial.alloc();
+    let keeper = Refusing::new(alloc, 40, StoreFault::Other);
+    let asked = Speech::at_once(4_000, "GET /points HTTP/1.1\r\n\r\n");
+    let left = keep_up_in(alloc, keeper, &[], world(alloc, 9_000, &[], &[asked])?)?;
+    for guest in left.world.guests.all.iter() {
+        trial.told(&"heard", &guest.heard.as_slice(), &BEGUN.as_bytes());
+        trial.told(&"gone", &guest.gone, &Some(4_000));
+    }
+    assert_told(
+        trial,
+        &left.world,
+        "1970-01-01T00:08:22Z office: line roof is up\n1970-01-01T00:08:22Z office: line cellar is up\n1970-01-01T00:08:26Z office: the store refuses: other\n1970-01-01T00:08:30Z office: the store takes what comes again\n",
+    );
+    Ok(())
+}
+
+#[test]
+fn a_page_that_the_store_refuses_breaks_off_and_is_told(rt: HostRuntime) -> Result<(), Fail> {
+    Ok(twice!(rt, unshown)?)
+}
