@@ -1,4 +1,6 @@
 //! Pieces and frames over counted readers and writers. Each call is told which fault it has.
+//!
+//! `crates/tour/src/pieces.rt` is a short example.
 #![tactic(auto)]
 
 mod reading;

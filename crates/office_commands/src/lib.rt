@@ -1,5 +1,7 @@
 //! What the program `office` does with the words of its command line, over an office, readers, writers and
 //! sockets that are handed in: where files, streams and the office's store are is the host's matter.
+//!
+//! `crates/office/src/machine.rt` is a host, and `crates/cases_office/src/world.rt` another one, on which pages are played.
 #![tactic(auto)]
 
 mod discovering;

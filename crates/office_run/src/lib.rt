@@ -1,5 +1,7 @@
 //! An office that stays up: each line's connection and rounds, and each caller's exchange, as machines that are
 //! called once a turn over sockets that never wait.
+//!
+//! `crates/office_commands/src/staying.rt` runs it over any sockets, and `crates/trials_run/src/scenes.rt` over played ones.
 #![tactic(auto)]
 
 mod ahead;

@@ -1,6 +1,6 @@
 //! The tables of an office in a database of SQLite.
 //!
-//! The program `office` opens a keeper over a file in `crates/office/src/stores.rt`.
+//! The program `office` opens a store's file in `crates/office/src/stores.rt`.
 #![tactic(auto)]
 
 mod apply;

@@ -1,4 +1,6 @@
 //! What an office stands for that is opened again on what a crash left of another.
+//!
+//! The calls are those that the program makes as it opens a store; `docs/PROVED.md` says what they promise together.
 #![tactic(auto)]
 
 ghost use Rattle.std.specs.Prelude.{◌≡◌, [], ◌∷◌, List, false, IfErr, IfOk, IfSome, IsTrue, MatchResult};

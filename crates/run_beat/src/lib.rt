@@ -1,6 +1,8 @@
 //! What an office that stays up needs beside the office and its sockets: slots by the clock, when a
 //! line is due and how long it is left alone, bytes that wait to be written, and turns in which
 //! each line and each caller is called once.
+//!
+//! `crates/tour/src/beats.rt` is a short example.
 #![tactic(auto)]
 
 mod beat;

@@ -1,4 +1,6 @@
 //! The sockets of an office that stays up, over `mio`: what `run_beat` asks of the system.
+//!
+//! The program `office` listens on them in `crates/office/src/machine.rt`.
 #![tactic(auto)]
 
 mod address;

@@ -1,4 +1,6 @@
 //! Members of a table of TOML: numbers up to a limit, texts and arrays, or what is wrong with them.
+//!
+//! `crates/tour/src/members.rt` is a short example.
 #![tactic(auto)]
 
 ghost use Rattle.std.specs.Prelude.{◌≡◌, ◌≢◌, ◌≤◌, option_map, IfErr, IfOk, None, Some};

@@ -2,6 +2,7 @@
 //! stands in `stdout` beside `src/`, which the gate compares.
 #![tactic(auto)]
 
+mod beats;
 mod bytes;
 mod chains;
 mod devices;
@@ -9,7 +10,10 @@ mod exchanges;
 mod frames;
 mod keepers;
 mod lists;
+mod members;
 mod offices;
+mod pages;
+mod pieces;
 mod plans;
 mod queries;
 mod rounds;
@@ -23,6 +27,8 @@ use anyhow::Result;
 fn main(rt: HostRuntime) -> Result<()> {
     units::show(&rt)?;
     frames::show(&rt)?;
+    pieces::show(&rt)?;
+    members::show(&rt)?;
     devices::show(&rt)?;
     values::show(&rt)?;
     chains::show(&rt)?;
@@ -34,5 +40,7 @@ fn main(rt: HostRuntime) -> Result<()> {
     offices::show(&rt)?;
     rounds::show(&rt)?;
     exchanges::show(&rt)?;
-    scripts::show(&rt)
+    scripts::show(&rt)?;
+    beats::show(&rt)?;
+    pages::show(&rt)
 }
