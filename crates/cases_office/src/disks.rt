@@ -1,4 +1,4 @@
-//! The disk of the stores that a console makes, as words behind `console` say: `room N`, or `fails`.
+//! The disk of the stores that a console makes, as words behind `console` say: `room N`, `fails`, or `files`.
 use case_pages::Trouble;
 use office_plays::refusing::Refusing;
 use poll_book::StoreFault;
@@ -11,6 +11,8 @@ pub(crate) enum Disk {
     Room(u32),
     /// Each call of a store fails.
     Failing,
+    /// It is sound, and a store on it is a database.
+    Files,
 }
 
 impl Disk {
@@ -20,6 +22,7 @@ impl Disk {
             Some(count) => Ok(Disk::Room(count)),
             None if words.is_empty() => Ok(Disk::Sound),
             None if words == " fails" => Ok(Disk::Failing),
+            None if words == " files" => Ok(Disk::Files),
             None => Err(Trouble::Page("no disk of this kind")),
         }
     }
@@ -27,7 +30,7 @@ impl Disk {
     /// The keeper of a new store, of which the call of a number is refused where the disk is sound.
     pub(crate) fn keeper(self, alloc: Global, refused: u32) -> Refusing {
         match self {
-            Disk::Sound => Refusing::new(alloc, refused, StoreFault::Disk),
+            Disk::Sound | Disk::Files => Refusing::new(alloc, refused, StoreFault::Disk),
             Disk::Room(count) => Refusing::changes(alloc, count, u32::MAX, StoreFault::Full),
             Disk::Failing => Refusing::from(alloc, 0, StoreFault::Disk),
         }

@@ -1,6 +1,6 @@
 //! Plays the cases of the program `office` that are written as data: pages whose blocks are consoles, requests over
 //! HTTP, and rows. The program's own library does what the words say, over files that the pages have, stores in
-//! memory or in such files, and devices that are played in the same process.
+//! memory or in files, and devices that are played in the same process.
 #![tactic(auto)]
 
 mod console;

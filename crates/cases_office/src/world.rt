@@ -7,13 +7,14 @@ use crate::disks::Disk;
 use crate::wire::{Devices, End};
 use case_pages::Block;
 use mb_mbap::Counted;
-use office_commands::{Failure, Fault, Host, Migration, Stay, Stores, Task, Why, work_in};
+use office_commands::{Failure, Fault, Host, Migration, Stay, Stores, Task, Why};
 use office_core::Office;
+use office_files::{busy, tries, work_with};
 use office_net::serve_one;
 use office_plays::refusing::Refusing;
 use office_words::Errand;
 use point_list::Site;
-use poll_book::{Keeper, StoreFault};
+use poll_book::Keeper;
 use sqlite::{Connection, FileStore, Files};
 use sqlite_disk::Memory;
 use std::alloc::{AllocError, Global};
@@ -24,6 +25,9 @@ use std::io::{self, ErrorKind};
 /// The system's number for a connection that is refused, `ECONNREFUSED`.
 const REFUSED: i32 = 111;
 
+/// Its number for a file that isn't there, `ENOENT`.
+const ABSENT: i32 = 2;
+
 /// A store in memory.
 #[derive(Drop)]
 struct Store {
@@ -31,7 +35,7 @@ struct Store {
     keeper: Refusing,
 }
 
-/// A store that is a file of the page's folder, and its log.
+/// A store that is a file, of the page's folder or made by a command, and its log.
 #[derive(Drop)]
 struct Database {
     name: String,
@@ -167,10 +171,24 @@ impl<'a> World<'a> {
         !store.is_empty() && self.held.as_str() == store
     }
 
+    /// Waits so many seconds, of which none passes here, for a store that a server of the page may have open.
+    fn wait_for(&self, store: &str, seconds: u16) -> Result<(), Failure> {
+        for _ in 0..tries(seconds) {
+            if !self.is_held(store) {
+                return Ok(());
+            }
+        }
+        Err(busy())
+    }
+
+    /// The place of a store among those in memory, if it is one.
+    fn kept(&self, name: &str) -> Option<usize> {
+        self.stores.iter().position(|it| it.name.as_str() == name)
+    }
+
     /// Takes the keeper of a store out of the world, a new one if there is none.
     fn take_keeper(&mut self, name: &str) -> Refusing {
-        let place = self.stores.iter().position(|it| it.name.as_str() == name);
-        let mut keeper = match place {
+        let mut keeper = match self.kept(name) {
             Some(place) if place < self.stores.len() => self.stores.remove(place).keeper,
             _ => self.disk.keeper(self.rt.alloc(), self.play.refused),
         };
@@ -199,9 +217,8 @@ impl<'a> World<'a> {
         }
     }
 
-    /// The place of a store among the databases, if it is a file of the page's folder.
+    /// The place of a store among the databases, if it is a file that was made, or one of the page's folder.
     fn database(&mut self, name: &str) -> Result<Option<usize>, Failure> {
-        let alloc = self.rt.alloc();
         let place = self
             .databases
             .iter()
@@ -209,16 +226,36 @@ impl<'a> World<'a> {
         if place.is_some() {
             return Ok(place);
         }
-        let Some(bytes) = self.stored(name)? else {
-            return Ok(None);
-        };
+        match self.stored(name)? {
+            Some(bytes) => Ok(Some(self.add_database(name, &bytes)?)),
+            None => Ok(None),
+        }
+    }
+
+    /// Whether a store that is no file yet would be one.
+    fn makes_file(&self, name: &str) -> bool {
+        matches!(self.disk, Disk::Files) && self.kept(name).is_none()
+    }
+
+    /// The place of a store that a task works in among the databases, if it is to be one.
+    fn database_for_task(&mut self, name: &str) -> Result<Option<usize>, Failure> {
+        let place = self.database(name)?;
+        if place.is_none() && self.makes_file(name) {
+            return Ok(Some(self.add_database(name, &[])?));
+        }
+        Ok(place)
+    }
+
+    /// Adds a store in a file of these bytes to the databases, and gives its place.
+    fn add_database(&mut self, name: &str, bytes: &[u8]) -> Result<usize, AllocError> {
+        let alloc = self.rt.alloc();
         let files = Files {
             log: file_of(alloc, &[])?,
-            db: file_of(alloc, &bytes)?,
+            db: file_of(alloc, bytes)?,
         };
         let name = String::from_str(alloc, name)?;
         self.push_database(Database { name, files })?;
-        Ok(Some(self.databases.len().saturating_sub(1)))
+        Ok(self.databases.len().saturating_sub(1))
     }
 
     fn push_database(&mut self, database: Database) -> Result<(), AllocError> {
@@ -231,6 +268,12 @@ impl<'a> World<'a> {
             database.files = files;
         }
     }
+}
+
+/// A file isn't there.
+fn absent(alloc: Global, path: &str) -> Failure {
+    let error = io::Error::from_raw_os_error(ABSENT);
+    Failure::new(Fault::File, Why::System(error)).of(alloc, path)
 }
 
 /// Answers a request with the bytes that are given back.
@@ -248,38 +291,10 @@ fn answered<K: Keeper>(
     }
 }
 
-fn office_over<K: Keeper + Drop>(
-    alloc: Global,
-    keeper: K,
-    site: Site,
-) -> Result<Office<K>, (Fault, K)>
-    requires { IsSound site }
-{
-    Office::new(alloc, keeper, site).map_err(|(error, keeper)| (Fault::from(error), keeper))
-}
-
-/// Does a task over a keeper, and gives it back.
-pub(crate) fn worked<K: Keeper + Drop>(
-    world: &mut World<'_>,
-    keeper: K,
-    site: Site,
-    task: &Task<'_>,
-) -> (Result<(), Failure>, K)
-    requires { IsSound site }
-{
-    match office_over(world.rt.alloc(), keeper, site) {
-        Ok(mut office) => {
-            let done = work_in(world, &mut office, task);
-            (done, office.into_keeper())
-        }
-        Err((fault, keeper)) => (Err(Failure::from(fault)), keeper),
-    }
-}
-
 /// The database at a place.
 fn connected_at(world: &World<'_>, place: usize) -> Result<Connection<FileStore<Memory>>, Failure> {
     match world.databases.get(place) {
-        Some(database) => connected(world.rt.alloc(), &database.files),
+        Some(database) => connected(world.rt.alloc(), database.name.as_str(), &database.files),
         None => Err(Failure::from(Fault::File)),
     }
 }
@@ -386,27 +401,28 @@ impl<'a> Host for World<'a> {
 impl Stores for World<'_> {
     fn work(&mut self, store: &str, site: Site, task: &Task<'_>) -> Result<(), Failure> {
         let is_server = matches!(task.errand, Errand::Serve { .. });
-        if !is_server && self.is_held(store) {
-            return Err(Failure::from(Fault::Store(StoreFault::Other)));
+        if !is_server {
+            self.wait_for(store, task.timeout)?;
         }
-        if let Some(place) = self.database(store)? {
+        if let Some(place) = self.database_for_task(store)? {
             return worked_at(self, place, site, task);
         }
         let name = String::from_str(self.rt.alloc(), store)?;
         let keeper = self.take_keeper(store);
-        let (done, keeper) = worked(self, keeper, site, task);
+        let (done, keeper) = work_with(self, keeper, site, task);
         self.put_keeper(name, keeper)?;
         done
     }
 
     /// Stores that are no files are of today's version.
-    fn migrate(&mut self, store: &str, _seconds: u16) -> Result<Migration, Failure> {
-        if self.is_held(store) {
-            return Err(Failure::from(Fault::Store(StoreFault::Other)));
+    fn migrate(&mut self, store: &str, seconds: u16) -> Result<Migration, Failure> {
+        self.wait_for(store, seconds)?;
+        if let Some(place) = self.database(store)? {
+            return moved_at(self, place);
         }
-        match self.database(store)? {
-            Some(place) => moved_at(self, place),
-            None => Ok(Migration::Already),
+        if self.makes_file(store) {
+            return Err(absent(self.rt.alloc(), store));
         }
+        Ok(Migration::Already)
     }
 }
