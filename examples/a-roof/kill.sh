@@ -50,7 +50,8 @@ look_at_readings() {
 "$office" load "${store[@]}" --caller ann --key l1 points.csv
 mkfifo said
 exec 3<> said
-bash "$here/vex.sh" hall=15020 roof=15021 < said > heard &
+: > heard
+bash "$here/vex.sh" hall=15020 roof=15021 < said >> heard &
 players+=($!)
 printf 'open hall\nopen roof\n' >&3
 until grep -q 'roof is open' heard; do sleep 0.1; done
