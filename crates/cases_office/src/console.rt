@@ -47,7 +47,7 @@ fn told_by(world: &mut World<'_>, command: &str) -> Result<String, Trouble> {
 }
 
 /// Counts a case where a page is played first; else a case that differs is counted besides.
-pub(crate) fn judge<R: Print>(
+pub(crate) fn count_case<R: Print>(
     world: &World<'_>,
     tally: &mut Tally<'_, R>,
     line: usize,
@@ -70,7 +70,7 @@ fn judge_peer<R: Print>(world: &World<'_>, tally: &mut Tally<'_, R>) -> Result<(
     };
     match devices.wanted() {
         Some((wanted, line)) if !wanted.is_empty() => {
-            judge(world, tally, line, heard.as_str(), wanted)
+            count_case(world, tally, line, heard.as_str(), wanted)
         }
         _ => Ok(()),
     }
@@ -91,7 +91,7 @@ fn play_step<R: Print>(
     } else {
         told.as_str()
     };
-    judge(world, tally, line, told, wanted)?;
+    count_case(world, tally, line, told, wanted)?;
     judge_peer(world, tally)
 }
 

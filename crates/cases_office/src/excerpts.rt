@@ -1,5 +1,5 @@
 //! Parts of files, as a page shows them.
-use crate::console::judge;
+use crate::console::count_case;
 use crate::shell::{file, text_of};
 use crate::world::World;
 use case_pages::{Block, Tally, Trouble};
@@ -28,5 +28,5 @@ pub(crate) fn play<R: Print>(
     } else {
         "not these lines\n"
     };
-    judge(world, tally, block.line, told, block.text)
+    count_case(world, tally, block.line, told, block.text)
 }

@@ -1,7 +1,7 @@
 //! Requests over HTTP and their answers: lines `> ..` of a request, and below them lines `< ..` of its answer. The
 //! lines of a head end with a carriage return and a line feed, unless a `\` ends them; those behind the head's empty
 //! line are a body, and stand side by side.
-use crate::console::{is_refused, judge};
+use crate::console::{count_case, is_refused};
 use crate::shell::{serve, text_of};
 use crate::world::World;
 use case_pages::{Block, Tally, Trouble, bytes_of};
@@ -106,7 +106,7 @@ pub(crate) fn play<R: Print>(
         }
         let wanted = text_of(&answer.bytes);
         let told = told(world, &request.bytes, wanted)?;
-        judge(world, tally, line, told.as_str(), wanted)?;
+        count_case(world, tally, line, told.as_str(), wanted)?;
         line = line
             .saturating_add(request.lines)
             .saturating_add(answer.lines);

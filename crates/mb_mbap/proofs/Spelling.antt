@@ -60,7 +60,7 @@ fault-none xs h p low high = grind (arith, h, p, low, high)
 pub rest_of : (n : ℕ) (xs : List ℕ) → take (length xs - n) (drop n xs) ≡ drop n xs
 rest_of n xs = take_all (length xs - n) (drop n xs) (omega (arith, length-drop n xs))
 
--- what `judge` answers for a whole frame
+-- what `step_of` answers for a whole frame
 pub whole-means : (xs unit : List ℕ) (t l p : ℕ) → 6 ≤ length xs → 6 + l ≤ length xs → 2 ≤ l → l ≤ 254
     → p ≡ big_number 2 (take (length xs - 2) (drop 2 xs)) → p ≡ 0 → l ≡ big_number 2 (take (length xs - 4) (drop 4 xs)) → t ≡ big_number 2 xs → t < 65536
     → ((k : ℕ) → get_or xs k 0 < 256) → unit ≡ take (6 + l - 7) (drop 7 xs)

@@ -7,14 +7,14 @@ ghost use Rattle.mb_mbap.specs.Whole.{IsNoFrame, frame_of};
 
 use crate::fault::FrameFault;
 use crate::frame::Frame;
-use crate::judging::{Step, judge};
+use crate::judging::{Step, step_of};
 
 /// The frame that bytes are, or why they are none.
 fn whole(bytes: &[u8]) -> Result<Frame, FrameFault>
     ensures frame { IfOk result (λ f. IsFrame f × (spelled f ≡ bytes.now)) }
     ensures fault { IfErr result (λ fault. IsNoFrame bytes.now fault) }
 {
-    match judge(bytes) {
+    match step_of(bytes) {
         Step::More => Err(FrameFault::Short),
         Step::Bad(fault) => Err(fault),
         Step::Whole(frame) => {

@@ -3,7 +3,7 @@ ghost use Rattle.std.specs.Prelude.{◌≡◌, ◌≤◌, ◌<◌, ◌+◌, [], 
 ghost use Rattle.mb_mbap.specs.Stream.{IsOpen, wanted};
 ghost use Rattle.mb_mbap.specs.Feeding.{TakeMeans};
 
-use crate::judging::{Step, judge};
+use crate::judging::{Step, step_of};
 use byteorder::{BigEndian, ByteOrder};
 use std::marker::Model;
 
@@ -89,7 +89,7 @@ impl Held {
         requires none { self.old ≡ [] }
         ensures { TakeMeans self.old next.now result.0 result.1 self.new }
     {
-        let step = judge(next);
+        let step = step_of(next);
         match &step {
             Step::More => {
                 put_behind(&mut self.bytes, 0, next);
@@ -110,7 +110,7 @@ impl Held {
         let taken = (wanted(&self.bytes[..len]) - len).min(next.len());
         let end = len + taken;
         put_behind(&mut self.bytes, len, &next[..taken]);
-        let step = judge(&self.bytes[..end]);
+        let step = step_of(&self.bytes[..end]);
         match &step {
             Step::More => self.len = end,
             Step::Whole(_) => self.len = 0,

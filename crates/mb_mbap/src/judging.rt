@@ -16,7 +16,7 @@ pub(crate) enum Step {
 
 /// Judges the front of a buffer. A header is judged once its first six bytes are there.
 #[tactic(auto, unfolding(crate::specs::Stream::fault_of, crate::specs::Stream::header_fault, crate::specs::Stream::wanted))]
-pub(crate) fn judge(bytes: &[u8]) -> Step
+pub(crate) fn step_of(bytes: &[u8]) -> Step
     ensures { StepMeans bytes.now result }
 {
     if bytes.len() < 6 {

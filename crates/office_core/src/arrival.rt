@@ -87,7 +87,7 @@ fn written(reply: &Reply) -> Arrival
 }
 
 /// Writes what a reply to a query brings: readings, or how an order stands. Tells what it was.
-pub(crate) fn bring<K: Keeper>(
+pub(crate) fn keep_brought<K: Keeper>(
     alloc: Global,
     keeper: &mut K,
     site: &Site,

@@ -65,7 +65,7 @@ impl ByDevice {
     }
 
     /// Puts so many points in that don't stand in it yet, or all where they are fewer, as far as there is memory.
-    pub(crate) fn follow(&mut self, known: &[PointRow], some: usize)
+    pub(crate) fn catch_up(&mut self, known: &[PointRow], some: usize)
         requires few { length known.now ≤ point_limit }
         requires of { AreDevicesOf known.now self.old }
         ensures { AreDevicesOf known.now self.new }
@@ -83,13 +83,13 @@ impl ByDevice {
     }
 
     /// Puts one point in that doesn't stand in it yet, unless they are few.
-    pub(crate) fn follow_one(&mut self, known: &[PointRow])
+    pub(crate) fn catch_up_one(&mut self, known: &[PointRow])
         requires few { length known.now ≤ point_limit }
         requires of { AreDevicesOf known.now self.old }
         ensures { AreDevicesOf known.now self.new }
     {
         if known.len() > FEW {
-            self.follow(known, 1);
+            self.catch_up(known, 1);
         }
     }
 

@@ -50,7 +50,7 @@ impl ByName {
     }
 
     /// Puts so many points in that don't stand in it yet, or all where they are fewer.
-    pub(crate) fn follow(&mut self, known: &[PointRow], some: usize) -> Result<(), AllocError>
+    pub(crate) fn catch_up(&mut self, known: &[PointRow], some: usize) -> Result<(), AllocError>
         requires few { length known.now ≤ point_limit }
         requires of { AreNamesOf known.now self.old }
         ensures { AreNamesOf known.now self.new }
@@ -66,13 +66,13 @@ impl ByName {
     }
 
     /// Puts one point in that doesn't stand in it yet, unless they are few.
-    pub(crate) fn follow_one(&mut self, known: &[PointRow])
+    pub(crate) fn catch_up_one(&mut self, known: &[PointRow])
         requires few { length known.now ≤ point_limit }
         requires of { AreNamesOf known.now self.old }
         ensures { AreNamesOf known.now self.new }
     {
         if known.len() > FEW {
-            let _ = self.follow(known, 1);
+            let _ = self.catch_up(known, 1);
         }
     }
 

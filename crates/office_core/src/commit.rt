@@ -12,7 +12,7 @@ ghost use Rattle.office_core.specs.Leavings.{LeftAfter};
 
 use crate::changes::state_change;
 use mb_pdu::Registers;
-use poll_book::{Change, Keeper, OrderState, PointRow, Setting, StoreFault, record};
+use poll_book::{Change, Keeper, OrderState, PointRow, Setting, StoreFault, reply_change};
 use std::alloc::Global;
 
 /// Writes a change, whole or not at all.
@@ -63,7 +63,7 @@ pub(crate) fn keep_readings<K: Keeper>(
     ensures err { OnErr result (Within (K.holds keeper.old) (K.holds keeper.new)) }
     ensures clean { K.is_clean keeper.new → K.is_clean keeper.old }
 {
-    let change = record(alloc, keeper, covered, slot)?;
+    let change = reply_change(alloc, keeper, covered, slot)?;
     let count = change.readings.as_slice().len() as u32;
     if count == 0 {
         return Ok(0);

@@ -49,8 +49,8 @@ pub(crate) fn add_points(
 {
     push_points(points, rows);
     let count = rows.len().saturating_add(BESIDE);
-    by_device.follow(points, count);
-    let _ = by_name.follow(points, count);
+    by_device.catch_up(points, count);
+    let _ = by_name.catch_up(points, count);
 }
 
 /// Puts one point in behind an arrival that looked for those of a device.
@@ -60,6 +60,6 @@ pub(crate) fn follow_behind(by_device: &mut ByDevice, points: &[PointRow], arriv
     ensures { AreDevicesOf points.now by_device.new }
 {
     if let Arrival::Recorded(_) = arrival {
-        by_device.follow_one(points);
+        by_device.catch_up_one(points);
     }
 }

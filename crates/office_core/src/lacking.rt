@@ -26,7 +26,7 @@ fn one_lacks<K: Keeper>(
     ensures clean { K.is_clean keeper.new → K.is_clean keeper.old }
 {
     for row in known {
-        if lacks(keeper, row, device, slot, read)? {
+        if brings_new(keeper, row, device, slot, read)? {
             return Ok(true);
         }
     }
@@ -35,7 +35,7 @@ fn one_lacks<K: Keeper>(
 
 /// Whether a read covers a point that has no reading in the slot.
 #[inline(always)]
-fn lacks<K: Keeper>(
+fn brings_new<K: Keeper>(
     keeper: &mut K,
     row: &PointRow,
     device: &[u8],
@@ -73,7 +73,7 @@ fn lacks_at<K: Keeper>(
     ensures clean { K.is_clean keeper.new → K.is_clean keeper.old }
 {
     match known.get(place as usize) {
-        Some(row) => lacks(keeper, row, device, slot, read),
+        Some(row) => brings_new(keeper, row, device, slot, read),
         None => Ok(false),
     }
 }

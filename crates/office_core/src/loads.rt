@@ -119,7 +119,7 @@ fn all_names(
         return Ok(None);
     }
     let mut all = ByName::new(alloc);
-    all.follow(known, known.len())?;
+    all.catch_up(known, known.len())?;
     Ok(Some(all))
 }
 
@@ -223,7 +223,7 @@ fn points_in(alloc: Global, site: &Site, list: &[u8]) -> Result<Vec<Point>, List
 }
 
 /// What becomes of a list by a site and the points that are known.
-pub(crate) fn judge(
+pub(crate) fn judge_list(
     alloc: Global,
     site: &Site,
     known: &[PointRow],

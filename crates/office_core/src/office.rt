@@ -15,7 +15,7 @@ ghost use Rattle.office_core.specs.History as history;
 ghost use Rattle.office_core.specs.Loads as loads;
 ghost use Rattle.office_core.specs.Standing.{Closes, Goes, Runs, is_refusal};
 
-use crate::arrival::bring;
+use crate::arrival::keep_brought;
 use crate::by_device::ByDevice;
 use crate::by_name::ByName;
 use crate::changes::{connection_change, request_change, with_request};
@@ -25,7 +25,7 @@ use crate::error::OfficeError;
 use crate::event::{Arrival, Event, EventAnswer, RequestAnswer};
 use crate::growing::{add_points, follow_behind, take_names};
 use crate::lacking::some_lacks;
-use crate::loads::{Judged, judge};
+use crate::loads::{Judged, judge_list};
 use crate::orders::{judge_order, judge_send};
 use crate::requests::{list_again, list_row, order_again, order_row, void_again, void_row};
 use crate::showing::{ShownReading, shown};
@@ -221,7 +221,7 @@ impl<K: Keeper> Office<K> {
             outcome,
             points,
             names,
-        } = judge(self.alloc, &self.site, &self.points, &self.by_name, list)?;
+        } = judge_list(self.alloc, &self.site, &self.points, &self.by_name, list)?;
         let request = list_row(self.alloc, caller, key, list, outcome)?;
         self.points.reserve(points.len())?;
         let change = request_change(self.alloc, points, None, request);
@@ -282,7 +282,7 @@ impl<K: Keeper> Office<K> {
         let request = order_row(self.alloc, caller, key, point, value, outcome)?;
         let change = request_change(self.alloc, Vec::new(self.alloc), setting, request);
         write(&mut self.keeper, change)?;
-        self.by_name.follow_one(&self.points);
+        self.by_name.catch_up_one(&self.points);
         Ok(RequestAnswer::Kept {
             first: true,
             outcome,
@@ -333,7 +333,7 @@ impl<K: Keeper> Office<K> {
         )?;
         let request = void_row(self.alloc, caller, key, point, slot, outcome)?;
         write(&mut self.keeper, with_request(change, request))?;
-        self.by_name.follow_one(&self.points);
+        self.by_name.catch_up_one(&self.points);
         Ok(RequestAnswer::Kept {
             first: true,
             outcome,
@@ -466,7 +466,7 @@ impl<K: Keeper> Office<K> {
             → IsRaisedAtMost (5 * length (covered_of self.old conn frame)) (K.looked (keeper_of self.old)) (K.looked (keeper_of self.new)) }
         ensures same { OnErr result (IsAlike self.old self.new) }
     {
-        let arrival = bring(
+        let arrival = keep_brought(
             self.alloc,
             &mut self.keeper,
             &self.site,

@@ -10,7 +10,7 @@ use crate::asked::Awaited;
 use crate::body::heard_in;
 use crate::heard::{Heard, Refusal};
 use crate::routes::Routes;
-use crate::verdict::{Verdict, judge};
+use crate::verdict::{Verdict, verdict_of};
 use std::alloc::{AllocError, Global};
 
 /// How far a request came.
@@ -59,7 +59,7 @@ fn judge_head(
     ensures asked { IfOk result (Judges routes bytes.old.items) }
     ensures short { IfOk result (IsShort bytes.old.items) }
 {
-    match judge(alloc, routes, bytes)? {
+    match verdict_of(alloc, routes, bytes)? {
         Verdict::Partial => {
             *stage = Stage::Headless;
             Ok(None)

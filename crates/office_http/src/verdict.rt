@@ -55,7 +55,7 @@ fn asked_by_head(
 }
 
 /// What is known of the bytes so far by their head.
-pub(crate) fn judge(alloc: Global, routes: Routes, bytes: &[u8]) -> Result<Verdict, AllocError>
+pub(crate) fn verdict_of(alloc: Global, routes: Routes, bytes: &[u8]) -> Result<Verdict, AllocError>
     requires { 0 < length bytes.now }
     ensures { IfOk result (IsJudged routes bytes.now) }
 {

@@ -60,7 +60,7 @@ fn conn_of(event: &Event) -> Option<Conn>
 }
 
 /// Has frames come over a connection, each answered with room that is made first.
-fn bring<K: Keeper>(
+fn arrive_all<K: Keeper>(
     office: &mut Office<K>,
     conn: Conn,
     frames: Vec<Frame>,
@@ -109,7 +109,7 @@ fn make<K: Keeper>(
     let _ = told.push(answer);
     match given? {
         Some(given) => {
-            bring(office, conn, given, told)?;
+            arrive_all(office, conn, given, told)?;
             Ok(true)
         }
         None => Ok(false),
@@ -191,7 +191,7 @@ fn finish<K: Keeper>(
     let held = sim.rest()?;
     match last {
         Some(conn) => {
-            bring(office, conn, held, told)?;
+            arrive_all(office, conn, held, told)?;
             Ok(())
         }
         None => Ok(()),

@@ -52,7 +52,7 @@ fn send<K: Keeper, W: Write>(
 }
 
 /// Takes frames as they came, and writes each query that may be sent after each.
-fn bring<K: Keeper, W: Write>(
+fn take_frames<K: Keeper, W: Write>(
     poll: &mut Poll,
     office: &mut Office<K>,
     frames: &[Frame],
@@ -121,7 +121,7 @@ fn read_on<K: Keeper, R: Read, W: Write>(
     let most = PIECE.min(MOST_READ - read);
     let count = read_some(reader, &mut piece, most, PollFault::Line)?;
     let fed = stream.feed(&piece[..count])?;
-    bring(poll, office, &fed.frames, writer)?;
+    take_frames(poll, office, &fed.frames, writer)?;
     judge_stream(fed.fault, poll)?;
     Ok(read + count)
 }

@@ -42,7 +42,7 @@ pub struct SqlKeeper<S: Alter> {
     // How many calls were refused, up to the greatest count.
     refusals: u64,
     // How many were when a void was last told: where more are, the database may be closed.
-    told_at: u64,
+    refusals_told: u64,
     // How many look-ups were made, up to the greatest count.
     lookups: u64,
     ghost idle: { connection.in_transaction ≡ false },
@@ -104,7 +104,7 @@ impl<S: Alter> SqlKeeper<S> {
                         ends: Ends::new(alloc),
                         void_ends: Ends::new(alloc),
                         refusals: 0,
-                        told_at: 0,
+                        refusals_told: 0,
                         lookups: 0,
                     })
                 } else {
@@ -193,12 +193,12 @@ impl<S: Alter> Neighbours for SqlKeeper<S> {
         let is = ends::is_void(
             &mut self.connection,
             &mut self.void_ends,
-            self.refusals != self.told_at,
+            self.refusals != self.refusals_told,
             point.number,
             slot,
         );
         if is.is_ok() {
-            self.told_at = self.refusals;
+            self.refusals_told = self.refusals;
         }
         counted(&mut self.refusals, is)
     }

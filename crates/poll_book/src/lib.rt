@@ -33,7 +33,7 @@ pub use counting::{counted_number, removed, repaired, step_between};
 pub use fault::StoreFault;
 pub use keeper::{Keeper, Neighbours};
 pub use mem_keeper::MemKeeper;
-pub use recording::record;
+pub use recording::reply_change;
 pub use requests::{Body, MOST_APART, Outcome, Reason, Request, RequestFault, RequestRow};
 pub use rows::{
     Change, OrderState, PointRow, Reading, ReadingRow, Setting, SettingRow, TotalRow, VoidRow,

@@ -136,7 +136,7 @@ fn push_found(
 /// The change that a reply makes: of these points with their registers the readings of those that have
 /// none in the slot, in their order, and the totals that change by them. In a slot that is voided they don't
 /// count. It makes at most five look-ups a point.
-pub fn record<N: Neighbours>(
+pub fn reply_change<N: Neighbours>(
     alloc: Global,
     keeper: &mut N,
     covered: &[(PointRow, Registers)],

@@ -9,7 +9,7 @@ use poll_book::Keeper;
 
 const REQUEST: &[u8] = b"GET /points/energy/total HTTP/1.1\r\n\r\n";
 
-fn judge(rt: &HostRuntime) -> Result<()> {
+fn hear(rt: &HostRuntime) -> Result<()> {
     let mut exchange = Exchange::new(rt.alloc(), Routes::Basic);
     for piece in REQUEST.chunks(20) {
         let asked = exchange.take(piece)?;
@@ -27,7 +27,7 @@ fn serve<K: Keeper>(rt: &HostRuntime, office: &mut Office<K>) -> Result<()> {
 }
 
 pub(crate) fn show(rt: &HostRuntime) -> Result<()> {
-    judge(rt)?;
+    hear(rt)?;
     let mut office = office(rt.alloc())?;
     load(&mut office)?;
     serve(rt, &mut office)

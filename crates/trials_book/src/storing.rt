@@ -3,7 +3,7 @@
 use mb_pdu::{Registers, Table};
 use point_list::{Label, Name, Point, Role};
 use poll_book::{
-    Change, Keeper, MemKeeper, Neighbours, PointRow, ReadingRow, StoreFault, Words, record,
+    Change, Keeper, MemKeeper, Neighbours, PointRow, ReadingRow, StoreFault, Words, reply_change,
     void_one,
 };
 use std::alloc::{AllocError, Global};
@@ -83,7 +83,7 @@ pub(crate) fn store(
     let Some(registers) = Registers::from_slice(words) else {
         return Err(StoreFault::Other);
     };
-    let change = record(alloc, keeper, &[(*point, registers)], slot)?;
+    let change = reply_change(alloc, keeper, &[(*point, registers)], slot)?;
     apply(keeper, &change)?;
     Ok(change.readings.as_slice().len())
 }

@@ -639,7 +639,7 @@ impl Book {
     }
 
     /// What a reply to a query brings.
-    fn bring(&mut self, asked: Asked, brought: Brought) -> Result<Arrival, OfficeError> {
+    fn take_brought(&mut self, asked: Asked, brought: Brought) -> Result<Arrival, OfficeError> {
         match brought {
             Brought::Words(number, _) => Ok(Arrival::Recorded(self.give(asked, number)?)),
             Brought::Exception(_, code) => {
@@ -698,7 +698,7 @@ impl Book {
         };
         query.is_answered = true;
         let asked = query.asked;
-        Ok(EventAnswer::Arrived(self.bring(asked, reply.brought)?))
+        Ok(EventAnswer::Arrived(self.take_brought(asked, reply.brought)?))
     }
 
     fn restart(&mut self) {

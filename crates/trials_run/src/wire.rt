@@ -193,7 +193,7 @@ impl Wire {
     }
 
     /// The replies that are due come.
-    fn bring(&mut self, now: u64) -> Result<(), AllocError> {
+    fn come_due(&mut self, now: u64) -> Result<(), AllocError> {
         for reply in &self.later {
             if reply.due <= now {
                 self.replies
@@ -213,7 +213,7 @@ impl Wire {
         requires { 0 < length piece.old }
         ensures { CameWithin (length piece.new) result }
     {
-        if self.has(Trouble::Away, now) || self.bring(now).is_err() {
+        if self.has(Trouble::Away, now) || self.come_due(now).is_err() {
             return Came::Ended;
         }
         let count = give(&self.replies, piece);

@@ -6,7 +6,7 @@ use office_plays::builders::office_after;
 use office_plays::steps::Happens::{self, Load};
 use point_list::Items;
 use poll_book::{
-    Change, Keeper, MemKeeper, PointRow, ReadingRow, StoreFault, TotalRow, VoidRow, record,
+    Change, Keeper, MemKeeper, PointRow, ReadingRow, StoreFault, TotalRow, VoidRow, reply_change,
 };
 use std::alloc::Global;
 use std::test::Fail;
@@ -47,7 +47,7 @@ fn keep<K: Keeper>(
     (slot, value): Arrival,
 ) -> Result<(), StoreFault> {
     let registers = Registers::from_slice(&[0, value]).ok_or(StoreFault::Other)?;
-    let change = record(alloc, keeper, &[(*point, registers)], slot)?;
+    let change = reply_change(alloc, keeper, &[(*point, registers)], slot)?;
     keeper.apply(&change)
 }
 

@@ -74,7 +74,7 @@ impl Line {
 
     /// What becomes of the round that is under way. Until its slot is over a device that was passed over may answer.
     /// Where nothing was answered then, or for three time-outs, the line is silent.
-    fn judge(&self, times: Times) -> Option<Becomes> {
+    fn becomes(&self, times: Times) -> Option<Becomes> {
         let Connection::Up(link) = &self.connection else {
             return None;
         };
@@ -121,7 +121,7 @@ impl Line {
         ensures settles { Settles (wire_at self.old) (wire_at self.new) }
     {
         let now = times.now;
-        match self.judge(times) {
+        match self.becomes(times) {
             Some(Becomes::Done) => {
                 self.refusals = Delay::none();
                 self.count_round(now);

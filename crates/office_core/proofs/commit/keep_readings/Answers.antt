@@ -19,7 +19,7 @@ returns-clause-kept g c clean kept h counted are =
       totals = told.totals before kept h counted.by_key (totals_had kept slot covered counted are);
     } in
     subst (g.K.Neighbours.holds c.write.new.keeper) (applied_replied change kept slot covered is counted are)
-    (c.in_ok-write.ensures.kept clean kept (c.record.ensures.same kept h) (new_replied change kept slot covered is counted are))
+    (c.in_ok-write.ensures.kept clean kept (c.reply_change.ensures.same kept h) (new_replied change kept slot covered is counted are))
 
 pub returns-clause-leaves : goal.returns-clause-leaves
 returns-clause-leaves g c clean kept h counted are left m =
@@ -33,7 +33,7 @@ returns-clause-leaves g c clean kept h counted are left m =
       readings = told.readings before kept h;
       totals = told.totals before kept h counted.by_key (totals_had kept slot covered counted are);
     } in
-    inl (c.in_ok-write.ensures.leaves clean kept (c.record.ensures.same kept h) (new_replied change kept slot covered is counted are) left m
+    inl (c.in_ok-write.ensures.leaves clean kept (c.reply_change.ensures.same kept h) (new_replied change kept slot covered is counted are) left m
     ∙ applied_replied change kept slot covered is counted are)
 
 pub returns-in_err-write-clause-leaves : goal.returns-in_err-write-clause-leaves
@@ -49,10 +49,10 @@ returns-in_err-write-clause-leaves g c clean kept h counted are left m =
       readings = told.readings before kept h;
       totals = told.totals before kept h counted.by_key (totals_had kept slot covered counted are);
     } in
-    let tried = c.in_err-write.ensures.leaves clean kept (c.record.ensures.same kept h) (new_replied change kept slot covered is counted are) left m in
+    let tried = c.in_err-write.ensures.leaves clean kept (c.reply_change.ensures.same kept h) (new_replied change kept slot covered is counted are) left m in
     let lost : may left ⊎ (left ≡ with_given (keyed slot covered) kept) =
     elim tried [
-      | inl was ↦ inl (c.record.ensures.crash before left was)
+      | inl was ↦ inl (c.reply_change.ensures.crash before left was)
       | inr made ↦ inr (made ∙ applied_replied change kept slot covered is counted are)
     ] in
     left_refused may kept (with_given (keyed slot covered) kept) left c.from_residual-in_err-write.result c.from_residual-in_err-write.ensures.0 lost

@@ -26,36 +26,36 @@ returns-in_err-given-clause-err g c = λ clean.
       led_one (Stands old) (Stands new) (may (keeper_of old)) (may (keeper_of new)) c.args.event.now c.step-answer.result (c.step-answer.ensures.goes clean) (c.step-answer.ensures.leaves clean),
     )
 
-pub returns-in_err-bring-in-Some-clause-err : goal.returns-in_err-bring-in-Some-clause-err
-returns-in_err-bring-in-Some-clause-err g c = λ clean.
+pub returns-in_err-arrive_all-in-Some-clause-err : goal.returns-in_err-arrive_all-in-Some-clause-err
+returns-in_err-arrive_all-in-Some-clause-err g c = λ clean.
     let may = g.K.Neighbours.may_leave in
     let old = c.args.office.now in
     let mid = c.step-answer.new.self in
     let event = c.args.event.now in
     let answer = c.step-answer.result in
-    let middle = c.bring.ensures.counts.1 clean in
+    let middle = c.arrive_all.ensures.counts.1 clean in
     let led = led_one (Stands old) (Stands mid) (may (keeper_of old)) (may (keeper_of mid)) event answer (c.step-answer.ensures.goes middle) (c.step-answer.ensures.leaves middle) in
-    let same = sym c.in_err-bring-in-Some.ensures.err.0 in
-    on_err c.from_residual-in_err-bring-in-Some.result (
+    let same = sym c.in_err-arrive_all-in-Some.ensures.err.0 in
+    on_err c.from_residual-in_err-arrive_all-in-Some.result (
       event ∷ [],
       answer ∷ [],
       inr refl,
       subst (λ (o : Office g.row.K.Denot g.K.Neighbours). IsLed (Stands old) (Stands o) (may (keeper_of old)) (may (keeper_of o)) (event ∷ []) (answer ∷ [])) same led,
     )
 
-pub returns-in_ok-bring-in-Some-clause-ok : goal.returns-in_ok-bring-in-Some-clause-ok
-returns-in_ok-bring-in-Some-clause-ok g c = λ clean.
+pub returns-in_ok-arrive_all-in-Some-clause-ok : goal.returns-in_ok-arrive_all-in-Some-clause-ok
+returns-in_ok-arrive_all-in-Some-clause-ok g c = λ clean.
     let may = g.K.Neighbours.may_leave in
     let old = c.args.office.now in
     let mid = c.step-answer.new.self in
-    let new = c.bring.new.office in
+    let new = c.arrive_all.new.office in
     let event = c.args.event.now in
     let answer = c.step-answer.result in
     let told = c.args.told.now.items in
     let given = c.in-Some.given.items in
-    let brought = c.in_ok-bring-in-Some.ensures.ok clean in
+    let brought = c.in_ok-arrive_all-in-Some.ensures.ok clean in
     let more = brought.0 in
-    let middle = c.bring.ensures.counts.1 clean in
+    let middle = c.arrive_all.ensures.counts.1 clean in
     let ok : is_ok c.push.result ≡ true = c.push.ensures.succeeds (omega (arith, c.in_ok-reserve.ensures.ok, c.in_ok-reserve.ensures.len)) in
     let items = c.push.ensures.items ∙ ap (λ b. cond b (c.reserve.new.self.items ++ answer ∷ []) c.reserve.new.self.items) ok
     ∙ ap (λ l. l ++ answer ∷ []) c.in_ok-reserve.ensures.items in (

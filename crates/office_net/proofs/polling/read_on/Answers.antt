@@ -13,8 +13,8 @@ use Rattle.office_net.proofs.Cutting.{cut_unfed, cut_in, cut_after, frames_few, 
 use Rattle.office_net.proofs.Pieces.{breaks_later, breaks_still}
 use Rattle.office_net.proofs.polling.read_on.Goals as goal
 
-pub bring-requires : goal.bring-requires
-bring-requires g c =
+pub take_frames-requires : goal.take_frames-requires
+take_frames-requires g c =
     let (bytes, frames, fed) = c.requires.fed in
     let piece = take c.in_ok-count.count c.read_some.new.piece in
     let adds = c.in_ok-fed.ensures.stream bytes frames fed.frames_are in
@@ -53,38 +53,38 @@ returns-in_err-fed-clause-cuts g c = λ clean bytes frames fed.
     (cut_unfed _ c.args.poll.now c.args.stream.now c.args.read bytes frames unread left (take c.in_ok-count.count c.read_some.new.piece) Memory fed c.in_ok-count.ensures.bytes
     (λ rest. tt) (breaks_still c.args.office.now c.args.poll.now (NoneFailed c.args.writer.now c.args.writer.now) wrote Memory (λ now conn. tt)))
 
-pub returns-in_err-bring-clause-cuts : goal.returns-in_err-bring-clause-cuts
-returns-in_err-bring-clause-cuts g c = λ clean bytes frames fed.
-    let e = c.in_err-bring.field-0.0 in
-    caused_so c.from_residual-in_err-bring.result _ e c.from_residual-in_err-bring.ensures.1
+pub returns-in_err-take_frames-clause-cuts : goal.returns-in_err-take_frames-clause-cuts
+returns-in_err-take_frames-clause-cuts g c = λ clean bytes frames fed.
+    let e = c.in_err-take_frames.field-0.0 in
+    caused_so c.from_residual-in_err-take_frames.result _ e c.from_residual-in_err-take_frames.ensures.1
     (cut_in c.args.poll.now c.args.stream.now c.feed.new.self c.args.read 0 bytes frames (g.R.Read.remaining (inner_of c.args.reader.now)) (g.R.Read.remaining (inner_of c.read_some.new.reader))
     (take c.in_ok-count.count c.read_some.new.piece) c.in_ok-fed.fed.frames.items c.in_ok-fed.fed.fault fed (c.in_ok-fed.ensures.stream bytes frames fed.frames_are) c.in_ok-count.ensures.bytes
-    _ e (HasRisen (failures_of c.args.writer.now) (failures_of c.bring.new.writer)) (CauseFrom c.args.office.now c.bring.new.office) c.in_err-bring.ensures.accounts.0
-    (subst (BreaksIn _) c.deref.ensures.value (c.in_err-bring.ensures.goes clean)))
+    _ e (HasRisen (failures_of c.args.writer.now) (failures_of c.take_frames.new.writer)) (CauseFrom c.args.office.now c.take_frames.new.office) c.in_err-take_frames.ensures.accounts.0
+    (subst (BreaksIn _) c.deref.ensures.value (c.in_err-take_frames.ensures.goes clean)))
 
 pub returns-in_err-judge_stream-clause-cuts : goal.returns-in_err-judge_stream-clause-cuts
 returns-in_err-judge_stream-clause-cuts g c = λ clean bytes frames fed.
     let e = c.in_err-judge_stream.field-0.0 in
     let (bad, told, is) = c.in_err-judge_stream.ensures in
     let old = c.args.office.now in
-    let new = c.bring.new.office in
+    let new = c.take_frames.new.office in
     let wrote = g.W.Write.contents (inner_of c.args.writer.now) in
-    let writes = g.W.Write.contents (inner_of c.bring.new.writer) in
+    let writes = g.W.Write.contents (inner_of c.take_frames.new.writer) in
     caused_so c.from_residual-in_err-judge_stream.result _ e c.from_residual-in_err-judge_stream.ensures.1
     (cut_after c.args.poll.now c.args.stream.now c.feed.new.self c.args.read 0 bytes frames (g.R.Read.remaining (inner_of c.args.reader.now)) (g.R.Read.remaining (inner_of c.read_some.new.reader))
     (take c.in_ok-count.count c.read_some.new.piece) c.in_ok-fed.fed.frames.items c.in_ok-fed.fed.fault fed (c.in_ok-fed.ensures.stream bytes frames fed.frames_are) c.in_ok-count.ensures.bytes
     _ e bad is c.requires.sound told
-    (breaks_later old new c.args.poll.now c.bring.new.poll c.in_ok-fed.fed.frames.items (NoneFailed c.args.writer.now c.bring.new.writer) wrote writes e (frames_open e bad is)
-    (subst (λ l. Handles old c.args.poll.now new c.bring.new.poll l wrote writes) c.deref.ensures.value (c.in_ok-bring.ensures.goes clean))))
+    (breaks_later old new c.args.poll.now c.take_frames.new.poll c.in_ok-fed.fed.frames.items (NoneFailed c.args.writer.now c.take_frames.new.writer) wrote writes e (frames_open e bad is)
+    (subst (λ l. Handles old c.args.poll.now new c.take_frames.new.poll l wrote writes) c.deref.ensures.value (c.in_ok-take_frames.ensures.goes clean))))
 
 pub returns-clause-takes : goal.returns-clause-takes
 returns-clause-takes g c = λ bytes frames fed.
     takes_whole c.args.poll.now c.args.stream.now c.feed.new.self c.args.read c.in_ok-count.count bytes frames
     (g.R.Read.remaining (inner_of c.args.reader.now)) (g.R.Read.remaining (inner_of c.read_some.new.reader)) (take c.in_ok-count.count c.read_some.new.piece)
     c.in_ok-fed.fed.frames.items c.in_ok-fed.fed.fault fed (c.in_ok-fed.ensures.stream bytes frames fed.frames_are) c.in_ok-count.ensures.bytes
-    (λ came. g.K.Neighbours.is_clean (keeper_of c.bring.new.office) → Handles c.args.office.now c.args.poll.now c.bring.new.office c.bring.new.poll came (g.W.Write.contents (inner_of c.args.writer.now)) (g.W.Write.contents (inner_of c.bring.new.writer)))
-    c.bring.new.poll
-    (λ clean. subst (λ l. Handles c.args.office.now c.args.poll.now c.bring.new.office c.bring.new.poll l (g.W.Write.contents (inner_of c.args.writer.now)) (g.W.Write.contents (inner_of c.bring.new.writer)))
-    c.deref.ensures.value (c.in_ok-bring.ensures.goes clean))
+    (λ came. g.K.Neighbours.is_clean (keeper_of c.take_frames.new.office) → Handles c.args.office.now c.args.poll.now c.take_frames.new.office c.take_frames.new.poll came (g.W.Write.contents (inner_of c.args.writer.now)) (g.W.Write.contents (inner_of c.take_frames.new.writer)))
+    c.take_frames.new.poll
+    (λ clean. subst (λ l. Handles c.args.office.now c.args.poll.now c.take_frames.new.office c.take_frames.new.poll l (g.W.Write.contents (inner_of c.args.writer.now)) (g.W.Write.contents (inner_of c.take_frames.new.writer)))
+    c.deref.ensures.value (c.in_ok-take_frames.ensures.goes clean))
     (length-take-le c.in_ok-count.count c.read_some.new.piece (omega (arith, c.in_ok-count.ensures.some, c.min-most.ensures)))
-    (c.in_ok-bring.ensures.taken ∙ ap (λ n. taken_of c.args.poll.now + n) (ap length c.deref.ensures.value))
+    (c.in_ok-take_frames.ensures.taken ∙ ap (λ n. taken_of c.args.poll.now + n) (ap length c.deref.ensures.value))

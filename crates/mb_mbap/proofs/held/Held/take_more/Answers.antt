@@ -41,8 +41,8 @@ returns c =
       some,
       omega (arith, c.min-taken.ensures),
       elim c.match-step.branch [
-        | in-More w ↦ rw w.self-is (stands_more held taken _ _ w.in-More.is xs-is c.judge-step.ensures)
-        | in-Whole w ↦ rw w.self-is (stands_whole held taken _ _ _ w.in-Whole.is part xs-is most c.judge-step.ensures)
-        | in-Bad w ↦ stands_bad held taken _ c.match-step.self _ _ w.in-Bad.is xs-is c.judge-step.ensures
+        | in-More w ↦ rw w.self-is (stands_more held taken _ _ w.in-More.is xs-is c.step_of-step.ensures)
+        | in-Whole w ↦ rw w.self-is (stands_whole held taken _ _ _ w.in-Whole.is part xs-is most c.step_of-step.ensures)
+        | in-Bad w ↦ stands_bad held taken _ c.match-step.self _ _ w.in-Bad.is xs-is c.step_of-step.ensures
       ],
     )

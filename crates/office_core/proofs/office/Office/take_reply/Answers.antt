@@ -22,8 +22,8 @@ returns-clause-goes g c frame answered clean =
     let asked = c.args.asked.now in
     let reply = c.args.reply.now in
     arrival_goes (holds office.keeper) office.site office.points.items office.matcher c.args.conn frame c.args.number asked reply answered.0 answered.1
-    (holds c.bring.new.keeper)
-    (λ kept h copy. subst (λ l. holds c.bring.new.keeper (brought office.site l asked reply kept)) c.deref.ensures.value
+    (holds c.keep_brought.new.keeper)
+    (λ kept h copy. subst (λ l. holds c.keep_brought.new.keeper (brought office.site l asked reply kept)) c.deref.ensures.value
     (c.in_ok-arrival.ensures.kept clean kept h (subst (λ l. IsCopy l kept) (sym c.deref.ensures.value) copy)))
     c.settle.new.self c.settle.ensures c.in_ok-arrival.arrival
     (λ kept h. c.in_ok-arrival.ensures.told clean kept h ∙ ap (λ l. arrival_of office.site l asked reply kept) c.deref.ensures.value)
@@ -33,7 +33,7 @@ returns-in_err-arrival-clause-leaves g c frame answered clean =
     let office = c.args.self.now in
     let holds : Tables → Type 0 = g.K.Neighbours.holds office.keeper in
     let may : Tables → Type 0 = g.K.Neighbours.may_leave office.keeper in
-    let may' : Tables → Type 0 = g.K.Neighbours.may_leave c.bring.new.keeper in
+    let may' : Tables → Type 0 = g.K.Neighbours.may_leave c.keep_brought.new.keeper in
     let known = office.points.items in
     let asked = c.args.asked.now in
     let reply = c.args.reply.now in
@@ -51,7 +51,7 @@ returns-clause-leaves g c frame answered clean =
     let office = c.args.self.now in
     let holds : Tables → Type 0 = g.K.Neighbours.holds office.keeper in
     let may : Tables → Type 0 = g.K.Neighbours.may_leave office.keeper in
-    let may' : Tables → Type 0 = g.K.Neighbours.may_leave c.bring.new.keeper in
+    let may' : Tables → Type 0 = g.K.Neighbours.may_leave c.keep_brought.new.keeper in
     let known = office.points.items in
     let asked = c.args.asked.now in
     let reply = c.args.reply.now in
@@ -68,10 +68,10 @@ pub returns-clause-looks : goal.returns-clause-looks
 returns-clause-looks g c frame answered =
     let office = c.args.self.now in
     looks_named office.site office.points.items c.deref.result.now (held c.args.conn office.matcher) frame c.args.number c.args.asked.now c.args.reply.now
-    (g.K.Neighbours.looked office.keeper) (g.K.Neighbours.looked c.bring.new.keeper) answered.1 c.deref.ensures.value c.bring.ensures.looks
+    (g.K.Neighbours.looked office.keeper) (g.K.Neighbours.looked c.keep_brought.new.keeper) answered.1 c.deref.ensures.value c.keep_brought.ensures.looks
 
 pub returns-in_err-arrival-clause-looks : goal.returns-in_err-arrival-clause-looks
 returns-in_err-arrival-clause-looks g c frame answered =
     let office = c.args.self.now in
     looks_named office.site office.points.items c.deref.result.now (held c.args.conn office.matcher) frame c.args.number c.args.asked.now c.args.reply.now
-    (g.K.Neighbours.looked office.keeper) (g.K.Neighbours.looked c.bring.new.keeper) answered.1 c.deref.ensures.value c.bring.ensures.looks
+    (g.K.Neighbours.looked office.keeper) (g.K.Neighbours.looked c.keep_brought.new.keeper) answered.1 c.deref.ensures.value c.keep_brought.ensures.looks

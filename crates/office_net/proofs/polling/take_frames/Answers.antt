@@ -5,7 +5,7 @@ use Rattle.office_net.specs.Faults.{NoneFailed}
 use Rattle.office_net.specs.Rounds.{Handles}
 use Rattle.office_net.proofs.Called.{err_so}
 use Rattle.office_net.proofs.Pieces.{handles_none, handles_then, handles_frame, breaks_after, breaks_refused, breaks_with, calm_later, joined}
-use Rattle.office_net.proofs.polling.bring.Goals as goal
+use Rattle.office_net.proofs.polling.take_frames.Goals as goal
 
 pub loop-frame-init : goal.loop-frame-init
 loop-frame-init g c = record {

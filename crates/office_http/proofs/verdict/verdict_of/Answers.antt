@@ -4,7 +4,7 @@ use Rattle.office_http.specs.declared.asked.Asked.TheVariants.{Known}
 use Rattle.office_http.specs.Awaiting.{Asks, asked_with}
 use Rattle.office_http.specs.Heard.{meaning_of}
 use Rattle.office_http.proofs.Reading.{asks_headed, asks_in, decided_full, decided_refused, decides_known, front_whole_or_full, headless, headless_over}
-use Rattle.office_http.proofs.verdict.judge.Goals as goal
+use Rattle.office_http.proofs.verdict.verdict_of.Goals as goal
 
 pub returns-in-Known : goal.returns-in-Known
 returns-in-Known c =

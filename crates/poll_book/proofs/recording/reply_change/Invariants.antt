@@ -2,7 +2,7 @@ use Rattle.std.proofs.Common.{◌≡◌, ◌≤◌, ◌*◌, take, vec_len}
 use Rattle.poll_book.specs.Tables.{AreByKey, Tables, Within, marked, new_rows}
 use Rattle.poll_book.specs.Changes.{HaveTotals, as_rows, as_sums, keyed, new_sums}
 use Rattle.poll_book.specs.Looks.{IsRaisedAtMost}
-use Rattle.poll_book.proofs.recording.record.Given as goal
+use Rattle.poll_book.proofs.recording.reply_change.Given as goal
 
 abbrev pub invariant-loop-entry : goal.invariant-loop-entry
 invariant-loop-entry g l = record {

@@ -7,7 +7,7 @@ use Rattle.point_list.specs.declared.point.ListRow.{ListRow}
 use Rattle.office_core.specs.Loads as loads
 use Rattle.office_core.specs.Loads.{ArePointsOf}
 use Rattle.office_core.proofs.Loading.{ok_so, refused_so}
-use Rattle.office_core.proofs.loads.judge.Goals as goal
+use Rattle.office_core.proofs.loads.judge_list.Goals as goal
 
 pub returns-in-Ok-clause-outcome : goal.returns-in-Ok-clause-outcome
 returns-in-Ok-clause-outcome c =

@@ -3,7 +3,7 @@ use Rattle.mb_mbap.specs.Counted.{failures_of, inner_of}
 use Rattle.office_core.specs.Offices.{keeper_of}
 use Rattle.office_net.specs.Rounds.{Handles}
 use Rattle.office_net.specs.Stages.{IsWaiting, taken_of}
-use Rattle.office_net.proofs.polling.bring.Given as goal
+use Rattle.office_net.proofs.polling.take_frames.Given as goal
 
 abbrev pub invariant-loop-frame : goal.invariant-loop-frame
 invariant-loop-frame g l = record {

@@ -10,7 +10,7 @@ use Rattle.poll_book.specs.Tables.{Key, marked, new_rows, sum_at}
 use Rattle.poll_book.specs.Totals.{is_counter, total}
 use Rattle.poll_book.specs.Changes.{as_row, as_sum, keyed, new_sums}
 use Rattle.poll_book.proofs.Covered.{rows_more, sums_more}
-use Rattle.poll_book.proofs.recording.record.Goals as goal
+use Rattle.poll_book.proofs.recording.reply_change.Goals as goal
 
 pub loop-entry-preserved : goal.loop-entry-preserved
 loop-entry-preserved g c =

@@ -6,7 +6,7 @@ use Rattle.office_core.specs.declared.event.EventAnswer.{EventAnswer}
 use Rattle.office_core.specs.Offices.{Stands, keeper_of}
 use Rattle.office_net.specs.Drills.{IsLed, arrivals}
 use Rattle.office_net.proofs.Leading.{led_none, led_on, arrivals-append}
-use Rattle.office_net.proofs.drilling.bring.Goals as goal
+use Rattle.office_net.proofs.drilling.arrive_all.Goals as goal
 
 pub loop-frame-init : goal.loop-frame-init
 loop-frame-init g c =

@@ -1,6 +1,6 @@
 use Rattle.std.proofs.Common.{arith}
 use Rattle.mb_mbap.proofs.Spelling.{whole-means}
-use Rattle.mb_mbap.proofs.judging.judge.Goals as goal
+use Rattle.mb_mbap.proofs.judging.step_of.Goals as goal
 
 pub returns : goal.returns
 returns c =

@@ -6,7 +6,7 @@ use Rattle.poll_book.specs.declared.rows.PointRow.{PointRow}
 use Rattle.office_core.specs.ByDevice.{is_numbered, places_from}
 use Rattle.office_core.proofs.ByDevice.{one_more_there}
 use Rattle.office_core.proofs.Numbered.{numbered_more}
-use Rattle.office_core.proofs.by_device.ByDevice.follow.Goals as goal
+use Rattle.office_core.proofs.by_device.ByDevice.catch_up.Goals as goal
 
 pub loop-self-preserved : goal.loop-self-preserved
 loop-self-preserved c =

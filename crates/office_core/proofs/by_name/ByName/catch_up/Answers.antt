@@ -4,7 +4,7 @@ use Rattle.std.specs.Option.{option_or}
 use Rattle.std.specs.Str.{bytes_eq}
 use Rattle.office_core.specs.ByName.{is_named}
 use Rattle.office_core.proofs.ByName.{one_more_named}
-use Rattle.office_core.proofs.by_name.ByName.follow.Goals as goal
+use Rattle.office_core.proofs.by_name.ByName.catch_up.Goals as goal
 
 pub loop-self-preserved : goal.loop-self-preserved
 loop-self-preserved c =

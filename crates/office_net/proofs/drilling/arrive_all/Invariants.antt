@@ -2,7 +2,7 @@ use Rattle.std.proofs.Common.{◌≡◌, ◌≤◌, ◌+◌, ◌++◌, List, len
 use Rattle.office_core.specs.declared.event.EventAnswer.{EventAnswer}
 use Rattle.office_core.specs.Offices.{keeper_of}
 use Rattle.office_net.specs.Drills.{Leads, arrivals}
-use Rattle.office_net.proofs.drilling.bring.Given as goal
+use Rattle.office_net.proofs.drilling.arrive_all.Given as goal
 
 abbrev pub invariant-loop-frame : goal.invariant-loop-frame
 invariant-loop-frame g l = record {
