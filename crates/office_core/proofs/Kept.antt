@@ -18,7 +18,7 @@ use Rattle.poll_book.specs.declared.rows.PointRow.{PointRow}
 use Rattle.poll_book.specs.declared.requests.Body.{Body}
 use Rattle.poll_book.specs.declared.requests.Body.TheVariants as body
 use Rattle.poll_book.specs.declared.requests.Outcome.{Outcome}
-use Rattle.poll_book.specs.declared.requests.Request.{Request}
+use Rattle.poll_book.specs.declared.requests.KeptRequest.{KeptRequest}
 use Rattle.poll_book.specs.Requests.{RequestKey, Requests, request_cmp, request_at, with_request}
 use Rattle.poll_book.specs.Tables.{Tables, marked}
 use Rattle.poll_book.specs.Totals.{totals_of}
@@ -53,7 +53,7 @@ pub own_key : (a : RequestKey) → is_same_key a a ≡ true
 own_key a = and_from (bytes_eq a.0 a.0) (bytes_eq a.1 a.1) ((bytes_eq-Decides a.0 a.0).1 refl) ((bytes_eq-Decides a.1 a.1).1 refl)
 
 -- what is found under a key after a row was put under another or the same
-at_with : (key k : RequestKey) (now : Request) (table : Requests)
+at_with : (key k : RequestKey) (now : KeptRequest) (table : Requests)
     → is_some (request_at (with_request k now table) key) ≡ (is_same_key k key || is_some (request_at table key))
 at_with key k now table = ap is_some (rows.find-put request_cmp requests_total key k now table) ∙ by (is_same_key k key) refl (eq_by_cmp request_cmp key k) refl
   where
@@ -68,7 +68,7 @@ used_more : (before : History) (k : RequestKey) (edition : Edition) (key : Reque
     → (is_same_key k key || is_used before key) ≡ is_some (request_at (first_asked before k edition now (requests before)) key)
 used_more before k edition key now earlier = by (is_used before k) refl
   where
-    new : Request
+    new : KeptRequest
     new = record { body = now; outcome = outcome_of before edition now }
 
     same : (s : Bool) → is_same_key k key ≡ s → is_used before k ≡ true → (s || is_used before key) ≡ is_used before key
@@ -207,7 +207,7 @@ module _ (holds : Tables → Type 0) (now : Site) (known : List PointRow) (all :
   site_still key (body.Void point slot) = stands.site
 
   -- a request whose key was used
-  pub asked_again : (key : RequestKey) (asked : Body) (first : Request) → request_at (requests before) key ≡ Some first
+  pub asked_again : (key : RequestKey) (asked : Body) (first : KeptRequest) → request_at (requests before) key ≡ Some first
       → (told : RequestAnswer) → ((outcome : Outcome) → told ≡ answer_again (Some first) asked outcome)
       → StandsFor holds now known all (asking key asked ∷ before) × (answer.Request told ≡ answer_of before (asking key asked))
   asked_again key asked first there told is =

@@ -15,7 +15,7 @@ use Rattle.poll_book.specs.declared.requests.Body.{Body}
 use Rattle.poll_book.specs.declared.requests.Body.TheVariants as body
 use Rattle.poll_book.specs.declared.requests.Outcome.{Outcome}
 use Rattle.poll_book.specs.declared.requests.Outcome.TheVariants.{Loaded, Ordered, Voided, RefusedFor}
-use Rattle.poll_book.specs.declared.requests.Request.{Request}
+use Rattle.poll_book.specs.declared.requests.KeptRequest.{KeptRequest}
 use Rattle.poll_book.specs.declared.rows.OrderState.{OrderState}
 use Rattle.poll_book.specs.declared.rows.OrderState.TheVariants.{Waiting}
 use Rattle.poll_book.specs.declared.rows.Setting.{Setting}
@@ -100,16 +100,16 @@ unused_so before key none = by (is_used before key) refl
 
 -- ---- rows
 
-abbrev told : History → Edition → Body → Request
+abbrev told : History → Edition → Body → KeptRequest
 told before edition now = record { body = now; outcome = outcome_of before edition now }
 
 -- what is found after a request was put
-at_put : (key k : RequestKey) (now : Request) (table : Requests)
+at_put : (key k : RequestKey) (now : KeptRequest) (table : Requests)
     → request_at (with_request k now table) key ≡ cond (eq_by_cmp request_cmp key k) (Some now) (request_at table key)
 at_put key k now table = rows.find-put request_cmp requests_total key k now table
 
 -- a row is what it was, or of the request that came
-pub row_either : {X : Type 0} (before : History) (k : RequestKey) (edition : Edition) (key : RequestKey) (now : Body) (request : Request)
+pub row_either : {X : Type 0} (before : History) (k : RequestKey) (edition : Edition) (key : RequestKey) (now : Body) (request : KeptRequest)
     → request_at (first_asked before k edition now (requests before)) key ≡ Some request
     → (request_at (requests before) key ≡ Some request → X)
     → (is_used before k ≡ false → k ≡ key → told before edition now ≡ request → X)
@@ -127,7 +127,7 @@ row_either {X} before k edition key now request e old new = by (is_used before k
     by false unused f =
         put unused (eq_by_cmp request_cmp key k) refl (sym (at_put key k (told before edition now) (requests before)) ∙ f)
 
-first_later : (h : Happening) (before : History) (key : RequestKey) (request : Request) → IsFirstRequest before key request → IsFirstRequest (h ∷ before) key request
+first_later : (h : Happening) (before : History) (key : RequestKey) (request : KeptRequest) → IsFirstRequest before key request → IsFirstRequest (h ∷ before) key request
 first_later h before key request r = record {
   earlier = r.earlier;
   edition = r.edition;
@@ -136,7 +136,7 @@ first_later h before key request r = record {
   outcome = r.outcome;
 }
 
-first_more : (before : History) (k : RequestKey) (edition : Edition) (key : RequestKey) (now : Body) (request : Request)
+first_more : (before : History) (k : RequestKey) (edition : Edition) (key : RequestKey) (now : Body) (request : KeptRequest)
     → (request_at (requests before) key ≡ Some request → IsFirstRequest before key request)
     → request_at (first_asked before k edition now (requests before)) key ≡ Some request → IsFirstRequest (asked_for k edition now ∷ before) key request
 first_more before k edition key now request rest e =
@@ -147,10 +147,10 @@ first_more before k edition key now request rest e =
       edition = edition;
       came = record { later = []; stands = λ i. asked_for (same i) edition (is i).body ∷ before };
       first = none_asked before key (ap (is_used before) (sym same) ∙ unused);
-      outcome = ap (λ (r : Request). r.outcome) (sym is) ∙ ap (λ (r : Request). outcome_of before edition r.body) is;
+      outcome = ap (λ (r : KeptRequest). r.outcome) (sym is) ∙ ap (λ (r : KeptRequest). outcome_of before edition r.body) is;
     })
 
-row_first : (before : History) (key : RequestKey) (request : Request) → request_at (requests before) key ≡ Some request → IsFirstRequest before key request
+row_first : (before : History) (key : RequestKey) (request : KeptRequest) → request_at (requests before) key ≡ Some request → IsFirstRequest before key request
 row_first [] key request e = absurd (none-some request e)
 row_first (Restart site ∷ before) key request e = first_later _ before key request (row_first before key request e)
 row_first (Load edition caller word list ∷ before) key request e = first_more before (caller, word) edition key (body.List list) request (λ f. row_first before key request f) e
@@ -165,7 +165,7 @@ row_first (Reply c n unit ∷ before) key request e = first_later _ before key r
 row_first (Noise c frame ∷ before) key request e = first_later _ before key request (row_first before key request e)
 
 -- a row stays
-stays_by : (before : History) (k : RequestKey) (edition : Edition) (key : RequestKey) (now : Body) (request : Request) → request_at (requests before) key ≡ Some request
+stays_by : (before : History) (k : RequestKey) (edition : Edition) (key : RequestKey) (now : Body) (request : KeptRequest) → request_at (requests before) key ≡ Some request
     → request_at (first_asked before k edition now (requests before)) key ≡ Some request
 stays_by before k edition key now request e = by (is_used before k) refl
   where
@@ -183,7 +183,7 @@ stays_by before k edition key now request e = by (is_used before k) refl
     by true used = e
     by false unused = at_put key k (told before edition now) (requests before) ∙ put unused (eq_by_cmp request_cmp key k) refl
 
-pub row_stays : (later : List Happening) (before : History) (key : RequestKey) (request : Request) → request_at (requests before) key ≡ Some request
+pub row_stays : (later : List Happening) (before : History) (key : RequestKey) (request : KeptRequest) → request_at (requests before) key ≡ Some request
     → request_at (requests (later ++ before)) key ≡ Some request
 row_stays [] before key request e = e
 row_stays (Restart site ∷ later) before key request e = row_stays later before key request e
@@ -213,13 +213,13 @@ row_made before key edition now unused =
     ∙ ap (λ b. cond b (Some (told before edition now)) (request_at old key)) (tied_key key)
 
 -- and the first request makes it
-first_row : (before : History) (key : RequestKey) (request : Request) → IsFirstRequest before key request → request_at (requests before) key ≡ Some request
+first_row : (before : History) (key : RequestKey) (request : KeptRequest) → IsFirstRequest before key request → request_at (requests before) key ≡ Some request
 first_row before key request r =
     ap (λ h. request_at (requests h) key) r.came.stands
     ∙ row_stays r.came.later (asked_for key r.edition request.body ∷ r.earlier) key request
     (row_made r.earlier key r.edition request.body (unused_so r.earlier key r.first) ∙ (λ i. Some (record { body = request.body; outcome = sym r.outcome i })))
 
-pub kept_request : (before : History) (key : RequestKey) (request : Request)
+pub kept_request : (before : History) (key : RequestKey) (request : KeptRequest)
     → (request_at (requests before) key ≡ Some request → IsFirstRequest before key request)
     × (IsFirstRequest before key request → request_at (requests before) key ≡ Some request)
 kept_request before key request = (row_first before key request, first_row before key request)
@@ -441,7 +441,7 @@ ranged_more before k edition key now number rest u e =
     row_either before k edition key now (record { body = u; outcome = Ordered number }) e
     (λ old. let le : number ≤ last_order (settings before) = rest (u, old) in let more = asked_longer before k edition now in omega arith)
     (λ unused same is.
-    let out : outcome_of before edition now ≡ Ordered number = ap (λ (r : Request). r.outcome) is in
+    let out : outcome_of before edition now ≡ Ordered number = ap (λ (r : KeptRequest). r.outcome) is in
     let next : number ≡ last_order (settings before) + 1 = ordered_next before edition now number out in
     let last = ordered_last before k edition now number unused out in
     omega arith)
@@ -478,7 +478,7 @@ one_more before k edition a b now number rest u v e f =
         → (v : Body) → told before edition now ≡ record { body = v; outcome = Ordered number } → ⊥
     too_far key u old v is =
         let le : number ≤ last_order (settings before) = ranged before key number (u, old) in
-        let next : number ≡ last_order (settings before) + 1 = ordered_next before edition now number (ap (λ (r : Request). r.outcome) is) in
+        let next : number ≡ last_order (settings before) + 1 = ordered_next before edition now number (ap (λ (r : KeptRequest). r.outcome) is) in
         omega arith
 
 pub one_key : (before : History) (a b : RequestKey) (number : ℕ) → OrderedUnder before a number → OrderedUnder before b number → a ≡ b
@@ -498,7 +498,7 @@ one_key (Order caller word point value ∷ before) a b number u v =
 
 -- and a key one order
 pub one_order : (before : History) (key : RequestKey) (m n : ℕ) → OrderedUnder before key m → OrderedUnder before key n → m ≡ n
-one_order before key m n u v = ap (λ (r : Request). number_of r.outcome) (same_Some _ _ (sym u.1 ∙ v.1))
+one_order before key m n u v = ap (λ (r : KeptRequest). number_of r.outcome) (same_Some _ _ (sym u.1 ∙ v.1))
 
 -- each number is the order of a request
 abbrev HasKey : History → ℕ → Type 0

@@ -29,7 +29,7 @@ use Rattle.office_core.specs.Sites.{device_name, line_place}
 use Rattle.poll_book.specs.declared.requests.Body.TheVariants as body
 use Rattle.poll_book.specs.declared.requests.Body.{Body}
 use Rattle.poll_book.specs.declared.requests.Outcome.{Outcome}
-use Rattle.poll_book.specs.declared.requests.Request.{Request}
+use Rattle.poll_book.specs.declared.requests.KeptRequest.{KeptRequest}
 use Rattle.poll_book.specs.Orders.{last_order}
 use Rattle.poll_book.specs.Requests.{RequestKey, request_at, with_request}
 use Rattle.office_core.specs.declared.event.RequestAnswer.{RequestAnswer}
@@ -399,7 +399,7 @@ module _ (holds : Tables → Type 0) (now : Site) (known : List PointRow) (all :
   abbrev Unused : RequestKey → History → Type 0
   Unused key before = StandsFor holds now known all before × (request_at (requests before) key ≡ None)
 
-  pub again_goes : (key : RequestKey) (asked : Body) (first : Request) (holds' : Tables → Type 0) → ((kept : Tables) → holds kept → holds' kept)
+  pub again_goes : (key : RequestKey) (asked : Body) (first : KeptRequest) (holds' : Tables → Type 0) → ((kept : Tables) → holds kept → holds' kept)
       → ((kept : Tables) → holds kept → request_at kept.requests key ≡ Some first)
       → (told : RequestAnswer) → ((outcome : Outcome) → told ≡ answer_again (Some first) asked outcome)
       → Goes (StandsFor holds now known all) (StandsFor holds' now known all) (seen_of key asked) (answer.Request told)

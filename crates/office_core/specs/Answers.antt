@@ -9,7 +9,7 @@ use Rattle.poll_book.specs.declared.rows.PointRow.{PointRow}
 use Rattle.poll_book.specs.declared.requests.Body.{Body}
 use Rattle.poll_book.specs.declared.requests.Body.TheVariants as body
 use Rattle.poll_book.specs.declared.requests.Outcome.{Outcome}
-use Rattle.poll_book.specs.declared.requests.Request.{Request}
+use Rattle.poll_book.specs.declared.requests.KeptRequest.{KeptRequest}
 use Rattle.poll_book.specs.Requests.{RequestKey, request_at}
 use Rattle.poll_book.specs.Tables.{Readings, new_rows}
 use Rattle.office_core.specs.declared.error.OfficeError.{OfficeError}
@@ -44,7 +44,7 @@ same_body (body.Void p a) (body.List b) = false
 same_body (body.Void p a) (body.Order q b) = false
 
 -- the first outcome under a key is told again to the same request, and any other is refused
-abbrev pub answer_again : Option Request → Body → Outcome → RequestAnswer
+abbrev pub answer_again : Option KeptRequest → Body → Outcome → RequestAnswer
 answer_again None now outcome = Kept true outcome
 answer_again (Some first) now outcome = if same_body first.body now then Kept false first.outcome else KeyReused
 

@@ -4,7 +4,7 @@ use Rattle.point_list.specs.Edition.{Edition}
 use Rattle.poll_book.specs.declared.requests.Body.{Body}
 use Rattle.poll_book.specs.declared.requests.Body.TheVariants as body
 use Rattle.poll_book.specs.declared.requests.Outcome.TheVariants.{Ordered}
-use Rattle.poll_book.specs.declared.requests.Request.{Request}
+use Rattle.poll_book.specs.declared.requests.KeptRequest.{KeptRequest}
 use Rattle.poll_book.specs.Requests.{RequestKey, request_at}
 use Rattle.office_core.specs.History.{Happening, Load, Order, Void, History, requests, outcome_of}
 use Rattle.office_core.specs.FirstArrivals.{Happened}
@@ -16,7 +16,7 @@ asked_for key edition (body.Order point value) = Order key.0 key.1 point value
 asked_for key edition (body.Void point slot) = Void key.0 key.1 point slot
 
 -- a caller asked for this under the key, as the first under it, and this became of it where it stood
-pub record IsFirstRequest (before : History) (key : RequestKey) (request : Request) : Type 0 where
+pub record IsFirstRequest (before : History) (key : RequestKey) (request : KeptRequest) : Type 0 where
   pub earlier : History
   pub edition : Edition
   pub came : Happened before (asked_for key edition request.body) earlier

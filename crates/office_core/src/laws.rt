@@ -3,7 +3,7 @@
 ghost use Rattle.std.specs.Prelude.{[], ◌≡◌, ◌⊎◌, ◌↔◌, ◌≤◌, ℕ, ◌+◌, ◌*◌, All, Contains, false, List, ◌++◌, length, Some, IsSome};
 ghost use Rattle.sunspec.specs.declared.word_order.WordOrder.TheVariants as WordOrder;
 ghost use Rattle.read_planner.specs.Place.{CanBeRead};
-ghost use Rattle.poll_book.specs.declared.requests.Request.{Request};
+ghost use Rattle.poll_book.specs.declared.requests.KeptRequest.{KeptRequest};
 ghost use Rattle.poll_book.specs.declared.rows.OrderState.{OrderState};
 ghost use Rattle.poll_book.specs.declared.rows.OrderState.TheVariants.{Waiting};
 ghost use Rattle.poll_book.specs.declared.rows.PointRow.{PointRow};
@@ -87,7 +87,7 @@ pub fn old_histories()
 /// What is kept under a caller's key is the first request under it, with what became of it where it
 /// stood, whatever came after.
 pub fn kept_requests()
-    ensures { (before : History) (key : RequestKey) (request : Request)
+    ensures { (before : History) (key : RequestKey) (request : KeptRequest)
         → (request_at (requests before) key ≡ Some request) ↔ IsFirstRequest before key request }
 {}
 

@@ -34,7 +34,7 @@ use crate::voids::judge_void;
 use mb_mbap::Frame;
 use mb_pdu::Reply;
 use point_list::{MOST_POINTS, Role, Site};
-use poll_book::{Caller, Keeper, Key, OrderState, PointRow, Request, SettingRow, StoreFault};
+use poll_book::{Caller, Keeper, KeptRequest, Key, OrderState, PointRow, SettingRow, StoreFault};
 use poll_match::{Asked, Conn, Matcher};
 use read_planner::Read;
 use std::alloc::{AllocError, Global};
@@ -94,7 +94,7 @@ fn former<K: Keeper>(
     keeper: &mut K,
     caller: &Caller,
     key: &Key,
-) -> Result<Option<Request>, StoreFault>
+) -> Result<Option<KeptRequest>, StoreFault>
     ensures value { K.is_clean keeper.new → (kept : Tables) → K.holds keeper.old kept
         → IfOk result (λ found. found ≡ request_at kept.requests (caller.now, key.now)) }
     ensures cause { Accounts K.may_refuse (K.refused keeper.old) (K.refused keeper.new) result }
@@ -631,7 +631,11 @@ impl<K: Keeper> Office<K> {
 
     /// The first request of a caller under a key, and what became of it; `None` where the key wasn't
     /// used.
-    pub fn request_of(&mut self, caller: &Caller, key: &Key) -> Result<Option<Request>, OfficeError>
+    pub fn request_of(
+        &mut self,
+        caller: &Caller,
+        key: &Key,
+    ) -> Result<Option<KeptRequest>, OfficeError>
         ensures value { K.is_clean (keeper_of self.new) → (before : History) → Stands self.old before
             → IfOk result (λ found. found ≡ request_at (requests before) (caller.now, key.now)) }
         ensures accounts { AccountsFor IsOfStore self.old self.new result }

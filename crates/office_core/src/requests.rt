@@ -6,7 +6,7 @@ ghost use Rattle.office_core.specs.Answers as answers;
 
 use crate::event::RequestAnswer;
 use point_list::{Items, Text};
-use poll_book::{Body, Caller, Key, Outcome, Request, RequestRow};
+use poll_book::{Body, Caller, KeptRequest, Key, Outcome, RequestRow};
 use std::alloc::{AllocError, Global};
 
 /// Whether a caller asked for a list of these bytes.
@@ -49,7 +49,7 @@ fn is_void(asked: &Body, point: &str, slot: u32) -> bool
 }
 
 /// The answer to a request whose key was used: by the same request, or by another.
-fn told_again(first: &Request, same: bool) -> RequestAnswer
+fn told_again(first: &KeptRequest, same: bool) -> RequestAnswer
     ensures { result ≡ (if same then RequestAnswer.Kept false first.now.outcome else RequestAnswer.KeyReused) }
 {
     if same {
@@ -63,21 +63,21 @@ fn told_again(first: &Request, same: bool) -> RequestAnswer
 }
 
 /// The answer to a list whose key was used before.
-pub(crate) fn list_again(first: &Request, list: &[u8]) -> RequestAnswer
+pub(crate) fn list_again(first: &KeptRequest, list: &[u8]) -> RequestAnswer
     ensures { (outcome : AnOutcome) → result ≡ answers.answer_again (Some first.now) (body.List list.now) outcome }
 {
     told_again(first, is_list(&first.body, list))
 }
 
 /// The answer to an order whose key was used before.
-pub(crate) fn order_again(first: &Request, point: &str, value: i128) -> RequestAnswer
+pub(crate) fn order_again(first: &KeptRequest, point: &str, value: i128) -> RequestAnswer
     ensures { (outcome : AnOutcome) → result ≡ answers.answer_again (Some first.now) (body.Order point.now value) outcome }
 {
     told_again(first, is_order(&first.body, point, value))
 }
 
 /// The answer to a void whose key was used before.
-pub(crate) fn void_again(first: &Request, point: &str, slot: u32) -> RequestAnswer
+pub(crate) fn void_again(first: &KeptRequest, point: &str, slot: u32) -> RequestAnswer
     ensures { (outcome : AnOutcome) → result ≡ answers.answer_again (Some first.now) (body.Void point.now slot) outcome }
 {
     told_again(first, is_void(&first.body, point, slot))

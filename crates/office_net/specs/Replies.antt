@@ -9,7 +9,7 @@ use Rattle.poll_book.specs.declared.requests.Body.TheVariants as body
 use Rattle.poll_book.specs.declared.requests.Outcome.{Outcome}
 use Rattle.poll_book.specs.declared.requests.Outcome.TheVariants.{Loaded, Ordered, Voided, RefusedFor}
 use Rattle.poll_book.specs.declared.requests.Reason.{Reason}
-use Rattle.poll_book.specs.declared.requests.Request.{Request}
+use Rattle.poll_book.specs.declared.requests.KeptRequest.{KeptRequest}
 use Rattle.poll_book.specs.declared.rows.OrderState.{OrderState}
 use Rattle.poll_book.specs.declared.rows.OrderState.TheVariants.{Waiting}
 use Rattle.poll_book.specs.declared.rows.PointRow.{PointRow}
@@ -100,7 +100,7 @@ body_reply now (body.List list) outcome = not_found
 body_reply now (body.Order point value) outcome = order_reply now outcome
 body_reply now (body.Void point slot) outcome = not_found
 
-abbrev pub under_reply : History → Option Request → List ℕ
+abbrev pub under_reply : History → Option KeptRequest → List ℕ
 under_reply now None = not_found
 under_reply now (Some request) = body_reply now request.body request.outcome
 

@@ -4,7 +4,7 @@ ghost use Rattle.poll_book.specs.Fault.{CountsRefusal, IsCountedOn};
 ghost use Rattle.poll_book.specs.Looks.{CountsRows};
 
 use poll_book::{
-    Caller, Change, Keeper, Key, MemKeeper, Neighbours, PointRow, Reading, ReadingRow, Request,
+    Caller, Change, Keeper, KeptRequest, Key, MemKeeper, Neighbours, PointRow, Reading, ReadingRow,
     Setting, SettingRow, StoreFault,
 };
 use std::alloc::Global;
@@ -228,7 +228,7 @@ impl Keeper for Refusing {
         alloc: Global,
         caller: &Caller,
         key: &Key,
-    ) -> Result<Option<Request>, StoreFault> {
+    ) -> Result<Option<KeptRequest>, StoreFault> {
         self.count()?;
         let answer = self.kept.request(alloc, caller, key);
         counted(&mut self.refusals, answer)

@@ -25,7 +25,7 @@ use Rattle.sqlite.specs.Listing.{understood, reads_listing}
 use Rattle.sqlite.specs.State.{State, Shown}
 use Rattle.sqlite.proofs.Callers.{IsPlain, command_of, reads_as}
 use Rattle.poll_book.specs.Callers.{is_caller, is_key}
-use Rattle.poll_book.specs.declared.requests.Request.{Request}
+use Rattle.poll_book.specs.declared.requests.KeptRequest.{KeptRequest}
 use Rattle.poll_book.specs.declared.requests.Body.TheVariants.{List as Bytes}
 use Rattle.poll_book.specs.declared.requests.Outcome.TheVariants.{Loaded}
 use Rattle.poll_book.specs.Requests.{RequestKey, request_cmp, request_at}
@@ -69,13 +69,13 @@ text_is test (Text s) t h = elim (test s) as (λ b. (if b then Some s else None)
 text_is test _ t h = absurd (cc)
 
 -- the key of a request stands in its columns
-pub request_columns : (r : Row) (e : RequestKey × Request) → stored_request r ≡ Some e → (column r 1 ≡ Text e.0.0) × (column r 2 ≡ Text e.0.1)
+pub request_columns : (r : Row) (e : RequestKey × KeptRequest) → stored_request r ≡ Some e → (column r 1 ≡ Text e.0.0) × (column r 2 ≡ Text e.0.1)
 request_columns r e h =
     let c = and_then_some _ (text_that is_caller (column r 1)) _ h in
     let k = and_then_some _ (text_that is_key (column r 2)) _ c.2 in
     let b = and_then_some _ (body_of (column r 3) (column r 4)) _ k.2 in
     let o = map_some _ (outcome_of (column r 5) (column r 6) (column r 7) (column r 8)) _ b.2 in
-    (text_is is_caller (column r 1) e.0.0 (c.1 ∙ ap (λ (x : RequestKey × Request). Some x.0.0) o.2), text_is is_key (column r 2) e.0.1 (k.1 ∙ ap (λ (x : RequestKey × Request). Some x.0.1) o.2))
+    (text_is is_caller (column r 1) e.0.0 (c.1 ∙ ap (λ (x : RequestKey × KeptRequest). Some x.0.0) o.2), text_is is_key (column r 2) e.0.1 (k.1 ∙ ap (λ (x : RequestKey × KeptRequest). Some x.0.1) o.2))
 
 test_eq : (o : Ordering) → test Eq o ≡ is_eq o
 test_eq Less = refl
@@ -97,26 +97,26 @@ module _ (caller key : List ℕ) where
   abbrev pub given : Row
   given = Text caller ∷ Text key ∷ []
 
-  abbrev keep : RequestKey × Request → Bool
+  abbrev keep : RequestKey × KeptRequest → Bool
   keep e = eq_by_cmp request_cmp (caller, key) e.0
 
-  abbrev sort : RequestKey × Request → Row
+  abbrev sort : RequestKey × KeptRequest → Row
   sort e = []
 
-  abbrev blank : RequestKey × Request
+  abbrev blank : RequestKey × KeptRequest
   blank = (([], []), record { body = Bytes []; outcome = Loaded 0 })
 
-  agree : (r : Row) (e : RequestKey × Request) → stored_request r ≡ Some e
+  agree : (r : Row) (e : RequestKey × KeptRequest) → stored_request r ≡ Some e
       → (list_all (holds (given ∷ r ∷ [])) request_query.filter ≡ keep e) × (shown_request (output request_query (given ∷ r ∷ [])).1 ≡ Some e) × ((output request_query (given ∷ r ∷ [])).0 ≡ sort e)
   agree r e h =
       let it = request_columns r e h in
       let tests = λ (a b : Value). is_true (binary (Compare Eq Binary) a (Text caller)) && (is_true (binary (Compare Eq Binary) b (Text key)) && true) in
       (ap₂ tests it.0 it.1 ∙ rw (texts e.0.0 caller, texts e.0.1 key) (both (slice_cmp nat_cmp e.0.0 caller) (slice_cmp nat_cmp e.0.1 key)) ∙ flips request_cmp requests_total e.0 (caller, key), h, refl)
 
-  itself : (e : RequestKey × Request) → keep e ≡ true → (caller, key) ≡ e.0
+  itself : (e : RequestKey × KeptRequest) → keep e ≡ true → (caller, key) ≡ e.0
   itself e h = requests_exact (caller, key) e.0 (eq_is (request_cmp (caller, key) e.0) h)
 
-  alike : (a b : RequestKey × Request) → keep a ≡ true → keep b ≡ true → is_lt (sort_cmp 0 [] (sort a) (sort b)) ≡ is_lt (request_cmp a.0 b.0)
+  alike : (a b : RequestKey × KeptRequest) → keep a ≡ true → keep b ≡ true → is_lt (sort_cmp 0 [] (sort a) (sort b)) ≡ is_lt (request_cmp a.0 b.0)
   alike a b ka kb = sym (ap is_lt (ap₂ request_cmp (sym (itself a ka)) (sym (itself b kb)) ∙ tied_itself requests_total (caller, key)))
 
   shows_request : (old new : State) (kept : Tables) (held : IsHeld old kept) (rows : List Row) → Shown request_text given old new rows → map shown_request rows ≡ map Some (filter keep kept.requests)
@@ -131,17 +131,17 @@ module _ (caller key : List ℕ) where
   pub no_request : (old new : State) (kept : Tables) (held : IsHeld old kept) → Shown request_text given old new [] → None ≡ request_at kept.requests (caller, key)
   no_request old new kept held shown = sym (finds_none request_cmp (caller, key) keep (λ e. refl) kept.requests (empty (filter keep kept.requests) (shows_request old new kept held [] shown)))
     where
-      empty : (xs : List (RequestKey × Request)) → ◌≡◌ {A = List (Option (RequestKey × Request))} [] (map Some xs) → xs ≡ []
+      empty : (xs : List (RequestKey × KeptRequest)) → ◌≡◌ {A = List (Option (RequestKey × KeptRequest))} [] (map Some xs) → xs ≡ []
       empty [] h = refl
       empty (x ∷ xs) h = absurd (cc)
 
   pub one_request : (old new : State) (kept : Tables) (held : IsHeld old kept) (row : Row) (more : List Row) → Shown request_text given old new (row ∷ more)
-      → (found : RequestKey × Request) → shown_request row ≡ Some found → Some found.1 ≡ request_at kept.requests (caller, key)
+      → (found : RequestKey × KeptRequest) → shown_request row ≡ Some found → Some found.1 ≡ request_at kept.requests (caller, key)
   one_request old new kept held row more shown found is =
       let it = first (filter keep kept.requests) (shows_request old new kept held (row ∷ more) shown) in
-      let same : ◌≡◌ {A = Option (RequestKey × Request)} (Some found) (Some it.0) = sym is ∙ it.2 in
-      ap (option_map (λ (e : RequestKey × Request). e.1)) same ∙ sym (finds_first request_cmp (caller, key) keep (λ e. refl) kept.requests it.1.0 it.0 it.1.1)
+      let same : ◌≡◌ {A = Option (RequestKey × KeptRequest)} (Some found) (Some it.0) = sym is ∙ it.2 in
+      ap (option_map (λ (e : RequestKey × KeptRequest). e.1)) same ∙ sym (finds_first request_cmp (caller, key) keep (λ e. refl) kept.requests it.1.0 it.0 it.1.1)
     where
-      first : (xs : List (RequestKey × Request)) → map shown_request (row ∷ more) ≡ map Some xs → (e : RequestKey × Request) × ((rest : List (RequestKey × Request)) × (xs ≡ e ∷ rest)) × (shown_request row ≡ Some e)
+      first : (xs : List (RequestKey × KeptRequest)) → map shown_request (row ∷ more) ≡ map Some xs → (e : RequestKey × KeptRequest) × ((rest : List (RequestKey × KeptRequest)) × (xs ≡ e ∷ rest)) × (shown_request row ≡ Some e)
       first [] h = absurd (cc)
       first (x ∷ xs) h = let head : shown_request row ≡ Some x = cc in (x, (xs, refl), head)

@@ -22,7 +22,7 @@ use Rattle.sqlite.proofs.Callers.{runs_as, one_step, statement_of}
 use Rattle.poll_book.specs.Callers.{is_caller, is_key}
 use Rattle.poll_book.specs.declared.requests.Body.{Body}
 use Rattle.poll_book.specs.declared.requests.Outcome.{Outcome}
-use Rattle.poll_book.specs.declared.requests.Request.{Request}
+use Rattle.poll_book.specs.declared.requests.KeptRequest.{KeptRequest}
 use Rattle.poll_book.specs.Requests.{RequestKey, request_cmp, request_at, with_request}
 use Rattle.poll_book.specs.Tables.{Tables}
 use Rattle.office_store.specs.Schema.{request, office_schema}
@@ -40,11 +40,11 @@ abbrev request_table : Table
 request_table = record request { tree = 7 }
 
 -- the parts of a row that are in the form make its entry
-joined : (e : RequestKey × Request) (caller key : Option (List ℕ)) (body : Option Body) (outcome : Option Outcome) → caller ≡ Some e.0.0 → key ≡ Some e.0.1 → body ≡ Some e.1.body → outcome ≡ Some e.1.outcome
-    → option_and_then (λ c. option_and_then (λ k. option_and_then (λ b. option_map (λ o. let entry : RequestKey × Request = ((c, k), record { body = b; outcome = o }) in entry) outcome) body) key) caller ≡ Some e
+joined : (e : RequestKey × KeptRequest) (caller key : Option (List ℕ)) (body : Option Body) (outcome : Option Outcome) → caller ≡ Some e.0.0 → key ≡ Some e.0.1 → body ≡ Some e.1.body → outcome ≡ Some e.1.outcome
+    → option_and_then (λ c. option_and_then (λ k. option_and_then (λ b. option_map (λ o. let entry : RequestKey × KeptRequest = ((c, k), record { body = b; outcome = o }) in entry) outcome) body) key) caller ≡ Some e
 joined e caller key body outcome c k b o = rw (c, k, b, o) refl
 
-module _ (kind : ℕ) (bytes : List ℕ) (answer a b c : ℕ) (e : RequestKey × Request) where
+module _ (kind : ℕ) (bytes : List ℕ) (answer a b c : ℕ) (e : RequestKey × KeptRequest) where
   abbrev pub values : Row
   values = Text e.0.0 ∷ Text e.0.1 ∷ Int (pos kind) ∷ Blob bytes ∷ Int (pos answer) ∷ Int (pos a) ∷ Int (pos b) ∷ Int (pos c) ∷ []
 

@@ -28,7 +28,7 @@ use Rattle.poll_book.specs.Tables.{Key}
 use Rattle.poll_book.specs.Changes.{as_row}
 use Rattle.poll_book.specs.Callers.{is_caller, is_key}
 use Rattle.poll_book.specs.Requests.{RequestKey}
-use Rattle.poll_book.specs.declared.requests.Request.{Request}
+use Rattle.poll_book.specs.declared.requests.KeptRequest.{KeptRequest}
 use Rattle.poll_book.specs.declared.requests.Body.{Body}
 use Rattle.poll_book.specs.declared.requests.Body.TheVariants as body
 use Rattle.poll_book.specs.declared.requests.Outcome.{Outcome}
@@ -249,13 +249,13 @@ body_coded kind bytes =
 abbrev pub body_of : Value → Value → Option Body
 body_of kind bytes = option_and_then (λ k. option_and_then (body_coded k) (bytes_of bytes)) (number_below 256 kind)
 
-abbrev pub request_from : ℕ → Row → Option (RequestKey × Request)
+abbrev pub request_from : ℕ → Row → Option (RequestKey × KeptRequest)
 request_from at r =
     option_and_then (λ caller. option_and_then (λ key. option_and_then (λ b. option_map (λ o. ((caller, key), record { body = b; outcome = o }))
     (outcome_of (column r (at + 4)) (column r (at + 5)) (column r (at + 6)) (column r (at + 7)))) (body_of (column r (at + 2)) (column r (at + 3)))) (text_that is_key (column r (at + 1)))) (text_that is_caller (column r at))
 
-abbrev pub stored_request : Row → Option (RequestKey × Request)
+abbrev pub stored_request : Row → Option (RequestKey × KeptRequest)
 stored_request = request_from 1
 
-abbrev pub shown_request : Row → Option (RequestKey × Request)
+abbrev pub shown_request : Row → Option (RequestKey × KeptRequest)
 shown_request = request_from 0

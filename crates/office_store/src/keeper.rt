@@ -22,7 +22,7 @@ use crate::values::{number_of, value_at};
 use crate::waiting::{self, WaitingOrder};
 use crate::{numbers, points, readings, requests, settings, totals, voids};
 use poll_book::{
-    Caller, Change, Keeper, Key, Neighbours, PointRow, Reading, ReadingRow, Request, Setting,
+    Caller, Change, Keeper, KeptRequest, Key, Neighbours, PointRow, Reading, ReadingRow, Setting,
     SettingRow, StoreFault,
 };
 use sqlite::{Alter, Connection};
@@ -253,7 +253,7 @@ impl<S: Alter> Keeper for SqlKeeper<S> {
         alloc: Global,
         caller: &Caller,
         key: &Key,
-    ) -> Result<Option<Request>, StoreFault> {
+    ) -> Result<Option<KeptRequest>, StoreFault> {
         let found = requests::request_at(alloc, &mut self.connection, caller, key);
         counted(&mut self.refusals, found)
     }

@@ -25,7 +25,7 @@ use poll_book::RequestFault::{
     UnknownPoint,
 };
 use poll_book::{
-    Body, Caller, Key, Outcome, Reason, Request, RequestFault, RequestRow, StoreFault,
+    Body, Caller, KeptRequest, Key, Outcome, Reason, RequestFault, RequestRow, StoreFault,
 };
 use sqlite::types::ValueRef;
 use sqlite::{Alter, Connection, Row};
@@ -195,7 +195,7 @@ pub(crate) fn request_at<S: Alter>(
     connection: &mut Connection<S>,
     caller: &Caller,
     key: &Key,
-) -> Result<Option<Request>, StoreFault>
+) -> Result<Option<KeptRequest>, StoreFault>
     requires { connection.old.in_transaction ≡ false }
     ensures value { HasCleanDisk (state S.Store connection.new) → (kept : Tables) → Holds (state S.Store connection.old) kept
         → IfOk result (λ found. found ≡ request_at kept.requests (caller.now, key.now)) }
@@ -217,7 +217,7 @@ pub(crate) fn request_at<S: Alter>(
         [] => Ok(None),
         [row] => {
             let found = request_in(alloc, row)?;
-            Ok(Some(Request {
+            Ok(Some(KeptRequest {
                 body: found.body,
                 outcome: found.outcome,
             }))

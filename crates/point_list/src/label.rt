@@ -142,16 +142,16 @@ impl fmt::Display for Label {
 /// A text is no label.
 #[derive(Clone, Copy, Debug, PartialEq, Eq, Error)]
 #[error("not 1 to 64 ASCII characters")]
-pub struct NoLabel;
+pub struct LabelError;
 
 impl FromStr for Label {
-    type Err = NoLabel;
+    type Err = LabelError;
 
     ghost from_str_gives = { λ text result. MatchResult result
         (λ label. (is_label text ≡ true) × (label ≡ text))
         (λ _. is_label text ≡ false) };
 
-    fn from_str(text: &str) -> Result<Label, NoLabel> {
-        Label::new(text.as_bytes()).ok_or(NoLabel)
+    fn from_str(text: &str) -> Result<Label, LabelError> {
+        Label::new(text.as_bytes()).ok_or(LabelError)
     }
 }

@@ -25,11 +25,11 @@ mod texts;
 
 pub use error::{ListError, ListFault};
 pub use items::Items;
-pub use label::{Label, NoLabel, is_ascii};
+pub use label::{Label, LabelError, is_ascii};
 pub use list::{MOST_POINTS, read_list};
-pub use name::{Name, NoName};
+pub use name::{Name, NameError};
 pub use naming::is_same_name;
-pub use point::{ListRow, NoRole, Point, Role};
+pub use point::{ListRow, Point, Role, RoleError};
 pub use resolving::{read_points, resolve};
 pub use site::{Device, Line, MOST_DEVICES, MOST_LINES, MOST_OUTSTANDING, Site};
 pub use site_error::{Quoted, SiteError, SiteFault, SitePlace};

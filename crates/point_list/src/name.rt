@@ -94,16 +94,16 @@ impl fmt::Display for Name {
 /// A text is no name.
 #[derive(Clone, Copy, Debug, PartialEq, Eq, Error)]
 #[error("not 1 to 64 of A-Z a-z 0-9 _ - .")]
-pub struct NoName;
+pub struct NameError;
 
 impl FromStr for Name {
-    type Err = NoName;
+    type Err = NameError;
 
     ghost from_str_gives = { λ text result. MatchResult result
         (λ name. (is_name text ≡ true) × (name ≡ text))
         (λ _. is_name text ≡ false) };
 
-    fn from_str(text: &str) -> Result<Name, NoName> {
-        Name::new(text.as_bytes()).ok_or(NoName)
+    fn from_str(text: &str) -> Result<Name, NameError> {
+        Name::new(text.as_bytes()).ok_or(NameError)
     }
 }

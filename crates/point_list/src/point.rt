@@ -37,21 +37,21 @@ impl fmt::Display for Role {
 /// A text is no role.
 #[derive(Clone, Copy, Debug, PartialEq, Eq, Error)]
 #[error("none of gauge, counter, setting")]
-pub struct NoRole;
+pub struct RoleError;
 
 impl FromStr for Role {
-    type Err = NoRole;
+    type Err = RoleError;
 
     ghost from_str_gives = { λ text result. MatchResult result
         (λ role. text ≡ role_name role)
         (λ _. (role : Role) → text ≢ role_name role) };
 
-    fn from_str(text: &str) -> Result<Role, NoRole> {
+    fn from_str(text: &str) -> Result<Role, RoleError> {
         match text {
             "gauge" => Ok(Role::Gauge),
             "counter" => Ok(Role::Counter),
             "setting" => Ok(Role::Setting),
-            _ => Err(NoRole),
+            _ => Err(RoleError),
         }
     }
 }

@@ -4,7 +4,7 @@ ghost use Rattle.poll_book.specs.Requests.{request_at};
 ghost use Rattle.poll_book.specs.Changes.{with_asked};
 
 use crate::caller::{Caller, Key};
-use crate::requests::{Body, Request, RequestRow};
+use crate::requests::{Body, KeptRequest, RequestRow};
 use point_list::Items;
 use std::alloc::{AllocError, Global};
 use std::collections::BTreeMap;
@@ -25,10 +25,10 @@ fn copy_of_body(alloc: Global, body: &Body) -> Result<Body, AllocError>
     })
 }
 
-fn copy_of(alloc: Global, request: &Request) -> Result<Request, AllocError>
+fn copy_of(alloc: Global, request: &KeptRequest) -> Result<KeptRequest, AllocError>
     ensures { IfOk result (λ copy. copy ≡ request.now) }
 {
-    Ok(Request {
+    Ok(KeptRequest {
         body: copy_of_body(alloc, &request.body)?,
         outcome: request.outcome,
     })
@@ -61,10 +61,10 @@ pub(crate) fn copy_of_request(
 /// The request of a caller under a key, if there is one.
 pub(crate) fn request_at(
     alloc: Global,
-    requests: &BTreeMap<(Caller, Key), Request>,
+    requests: &BTreeMap<(Caller, Key), KeptRequest>,
     caller: &Caller,
     key: &Key,
-) -> Result<Option<Request>, AllocError>
+) -> Result<Option<KeptRequest>, AllocError>
     ensures { IfOk result (λ found. found ≡ request_at requests.now.entries (caller.now, key.now)) }
 {
     match requests.get(&(*caller, *key)) {
@@ -74,13 +74,13 @@ pub(crate) fn request_at(
 }
 
 fn put_row(
-    requests: &mut BTreeMap<(Caller, Key), Request>,
+    requests: &mut BTreeMap<(Caller, Key), KeptRequest>,
     row: RequestRow,
 ) -> Result<(), AllocError>
     ensures put { OnOk result (requests.new.entries ≡ with_asked (Some row) requests.old.entries) }
     ensures same { OnErr result (requests.new.entries ≡ requests.old.entries) }
 {
-    let request = Request {
+    let request = KeptRequest {
         body: row.body,
         outcome: row.outcome,
     };
@@ -92,7 +92,7 @@ fn put_row(
 
 /// Puts the request of a change, if it has one, under its caller and key.
 pub(crate) fn put_request(
-    requests: &mut BTreeMap<(Caller, Key), Request>,
+    requests: &mut BTreeMap<(Caller, Key), KeptRequest>,
     request: Option<RequestRow>,
 ) -> Result<(), AllocError>
     ensures put { OnOk result (requests.new.entries ≡ with_asked request requests.old.entries) }

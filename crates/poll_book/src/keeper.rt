@@ -12,7 +12,7 @@ ghost use Rattle.poll_book.specs.Totals.{stored_total, value_after, value_before
 
 use crate::caller::{Caller, Key};
 use crate::fault::StoreFault;
-use crate::requests::Request;
+use crate::requests::KeptRequest;
 use crate::rows::{Change, PointRow, Reading, ReadingRow, Setting, SettingRow};
 use std::alloc::Global;
 
@@ -167,7 +167,7 @@ pub trait Keeper: Neighbours {
         alloc: Global,
         caller: &Caller,
         key: &Key,
-    ) -> Result<Option<Request>, StoreFault>
+    ) -> Result<Option<KeptRequest>, StoreFault>
         ensures value { Self.is_clean self.new → (kept : Tables) → Self.holds self.old kept
             → IfOk result (λ found. found ≡ request_at kept.requests (caller.now, key.now)) }
         ensures cause { IfErr result (λ fault. Self.may_refuse fault) }

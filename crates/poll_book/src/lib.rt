@@ -34,7 +34,7 @@ pub use fault::StoreFault;
 pub use keeper::{Keeper, Neighbours};
 pub use mem_keeper::MemKeeper;
 pub use recording::reply_change;
-pub use requests::{Body, MOST_APART, Outcome, Reason, Request, RequestFault, RequestRow};
+pub use requests::{Body, KeptRequest, MOST_APART, Outcome, Reason, RequestFault, RequestRow};
 pub use rows::{
     Change, OrderState, PointRow, Reading, ReadingRow, Setting, SettingRow, TotalRow, VoidRow,
 };

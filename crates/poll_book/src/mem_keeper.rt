@@ -8,7 +8,7 @@ use crate::caller::{Caller, Key};
 use crate::fault::StoreFault;
 use crate::keeper::{Keeper, Neighbours};
 use crate::mem_tables::MemTables;
-use crate::requests::Request;
+use crate::requests::KeptRequest;
 use crate::rows::{Change, PointRow, Reading, ReadingRow, Setting, SettingRow};
 use std::alloc::{AllocError, Global};
 use std::marker::Model;
@@ -162,7 +162,7 @@ impl Keeper for MemKeeper {
         alloc: Global,
         caller: &Caller,
         key: &Key,
-    ) -> Result<Option<Request>, StoreFault> {
+    ) -> Result<Option<KeptRequest>, StoreFault> {
         let found = self.tables.request(alloc, caller, key);
         counted(&mut self.refusals, found)
     }

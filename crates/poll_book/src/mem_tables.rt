@@ -18,7 +18,7 @@ use crate::marks::{Marks, forget_for, next_waiting, pass_settled, past_of, set_m
 use crate::nearest::{first_counted, last_counted, slots_after, slots_before};
 use crate::orders::{copy_of_setting, last_number, order_at, put_order, setting_at};
 use crate::points::add_points;
-use crate::requests::Request;
+use crate::requests::KeptRequest;
 use crate::rows::{Change, PointRow, Reading, ReadingRow, Setting, SettingRow, TotalRow};
 use crate::totals::{begin_totals, put_totals, stored_total};
 use crate::voids::{Voids, is_void, put_void, take_void};
@@ -39,7 +39,7 @@ pub(crate) struct MemTables {
     totals: Vec<TotalRow>,
     orders: Vec<SettingRow>,
     marks: Marks,
-    requests: BTreeMap<(Caller, Key), Request>,
+    requests: BTreeMap<(Caller, Key), KeptRequest>,
     connections: u32,
     alloc: Global,
 }
@@ -175,7 +175,7 @@ impl MemTables {
         alloc: Global,
         caller: &Caller,
         key: &Key,
-    ) -> Result<Option<Request>, AllocError>
+    ) -> Result<Option<KeptRequest>, AllocError>
         ensures { IfOk result (λ found. found ≡ asked.request_at self.now.requests (caller.now, key.now)) }
     {
         request_at(alloc, &self.requests, caller, key)

@@ -86,7 +86,7 @@ pub enum Outcome {
 
 /// A request, and what became of it.
 #[derive(Debug, Drop)]
-pub struct Request {
+pub struct KeptRequest {
     pub body: Body,
     pub outcome: Outcome,
 }

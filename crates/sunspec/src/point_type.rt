@@ -357,17 +357,17 @@ impl fmt::Display for PointType {
 /// No type has this name.
 #[derive(Clone, Copy, Debug, PartialEq, Eq, Error)]
 #[error("unknown type")]
-pub struct UnknownType;
+pub struct PointTypeError;
 
 /// As `from_name`.
 impl FromStr for PointType {
-    type Err = UnknownType;
+    type Err = PointTypeError;
 
     ghost from_str_gives = { λ name result. MatchResult result
         (λ kind. named name ≡ Some kind)
         (λ _. named name ≡ None) };
 
-    fn from_str(name: &str) -> Result<PointType, UnknownType> {
-        PointType::from_name(name).ok_or(UnknownType)
+    fn from_str(name: &str) -> Result<PointType, PointTypeError> {
+        PointType::from_name(name).ok_or(PointTypeError)
     }
 }

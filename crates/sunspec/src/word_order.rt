@@ -33,20 +33,20 @@ impl fmt::Display for WordOrder {
 /// A text is no order.
 #[derive(Clone, Copy, Debug, PartialEq, Eq, Error)]
 #[error("neither big nor swapped")]
-pub struct NoOrder;
+pub struct WordOrderError;
 
 impl FromStr for WordOrder {
-    type Err = NoOrder;
+    type Err = WordOrderError;
 
     ghost from_str_gives = { λ text result. MatchResult result
         (λ order. text ≡ order_name order)
         (λ _. (order : WordOrder) → text ≢ order_name order) };
 
-    fn from_str(text: &str) -> Result<WordOrder, NoOrder> {
+    fn from_str(text: &str) -> Result<WordOrder, WordOrderError> {
         match text {
             "big" => Ok(WordOrder::Big),
             "swapped" => Ok(WordOrder::Swapped),
-            _ => Err(NoOrder),
+            _ => Err(WordOrderError),
         }
     }
 }
