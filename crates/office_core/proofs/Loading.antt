@@ -1,24 +1,18 @@
 -- What becomes of the rows of a list.
-use Rattle.std.proofs.Common.{◌≡◌, ◌≢◌, ◌≤◌, ◌<◌, ◌+◌, ◌⊎◌, ℕ, suc, Bool, true, false, cond, not, ltb, map, List, [], ◌∷◌, length, take, get_or, Some, None, Option, Result, Ok, Err, inl, inr, refl, sym, ap, ◌∙◌, arith, subst, length-take, ⊎_elim}
-use Rattle.std.specs.Prelude.{option_map, IfOk, IfErr, OnOk}
+use Rattle.std.proofs.Common.{◌≡◌, ◌≢◌, ◌≤◌, ◌<◌, ◌+◌, ◌⊎◌, ℕ, suc, Bool, true, false, cond, not, ltb, List, [], ◌∷◌, length, get_or, Some, None, Option, Result, Ok, Err, inl, inr, refl, sym, ap, ◌∙◌, arith, subst, ⊎_elim}
+use Rattle.std.specs.Prelude.{option_map, IfOk, OnOk}
 use Rattle.std.specs.List.{position, position_or_len}
 use Rattle.std.proofs.lemmas.Bool.{le-leb, lt-leb, cases_lt, lt-ltb, le-ltb}
-use Rattle.std.proofs.lemmas.List.{length-map, get_or_default}
+use Rattle.std.proofs.lemmas.List.{get_or_default}
 use Rattle.std.proofs.lemmas.List.Sums.{position_or_len_is}
-use Rattle.point_list.specs.Columns.{Record, field, is_device}
-use Rattle.point_list.specs.Edition.{Edition, Second}
-use Rattle.point_list.specs.Lists.{AreRows, SayRows, names_in, IsFaultOf, IsMemory}
-use Rattle.point_list.specs.ListMeaning.{rows_unless}
-use Rattle.point_list.specs.Resolving.{first_misplaced, list_at, placed, point_placed, resolved_list}
+use Rattle.point_list.specs.Lists.{IsMemory}
+use Rattle.point_list.specs.Resolving.{AreRowsFrom, ArePointsOf, points_of}
 use Rattle.point_list.specs.declared.point.Point.{Point}
-use Rattle.point_list.specs.declared.site.Site.{Site}
 use Rattle.point_list.specs.declared.error.ListError.{ListError}
 use Rattle.point_list.specs.declared.error.ListFault.TheVariants.{Memory}
 use Rattle.point_list.specs.declared.point.ListRow.{ListRow}
-use Rattle.point_list.proofs.OneMeaning.{fault_is, rows_are}
-use Rattle.point_list.proofs.Rows.{few_names}
 use Rattle.poll_book.specs.declared.rows.PointRow.{PointRow}
-use Rattle.office_core.specs.Loads.{AreRowsFrom, ArePointsOf, Refused, Taken, agrees, differing, known_named, loading_of, loading_rows, loading_new, unknown_of, points_of, numbered_on, too_many}
+use Rattle.office_core.specs.Loads.{Refused, Taken, agrees, differing, known_named, loading_of, loading_rows, loading_new, unknown_of, numbered_on, too_many}
 use Rattle.office_core.proofs.Numbering.{length-numbered}
 
 none_under : (o : Option ListRow) → None ≡ option_map (λ (row : ListRow). row.row) o → o ≡ None
@@ -43,22 +37,6 @@ module _ (known : List PointRow) (rows : List ListRow) (agree : None ≡ option_
       let n = count in
       agreed ∙ ap (λ b. cond b (Taken (length rows) (unknown_of known (points_of rows))) (Refused too_many)) (lt-leb (length known + length (unknown_of known (points_of rows))) 10000 (omega arith))
 
-said : (number : ℕ) (body : List Record) (rows : List ListRow) → SayRows number body rows → length rows ≡ length body
-said number [] [] say = refl
-said number [] (x ∷ rows) say = absurd say
-said number (r ∷ body) [] say = absurd say
-said number (r ∷ body) (x ∷ rows) say = ap suc (said (number + 1) body rows say.1)
-
--- a list has at most 10,000 rows
-pub few_rows : (edition : Edition) (known : List ℕ → Bool) (list : List Record) (rows : List ListRow) → AreRows edition known list rows → length rows ≤ 10000
-few_rows edition known list rows are =
-    let count = said 2 are.body rows are.say in
-    ⊎_elim (λ (gt : 10000 < length are.body).
-    let some = few_names (length are.first) known (names_in (take 10000 are.body)) (get_or are.body 10000 []) (are.faultless 10000 gt) in
-    absurd (omega (arith, some, length-map (take 10000 are.body) (λ (r : Record). field r 0), length-take 10000 are.body)))
-    (λ (le : length are.body ≤ 10000). (let n = count in omega arith))
-    (cases_lt 10000 (length are.body))
-
 -- what is said of a refused list holds of what it means, where its fault isn't memory's
 pub refused_so : {X E : Type 0} (m : Result (List ListRow) ListError) (e : ListError) → IsMemory e ⊎ (m ≡ Err e)
     → (told : Result X E) → OnOk told (e.fault ≢ Memory) → (P : Result (List ListRow) ListError → X → Type 0) → IfOk told (P (Err e)) → IfOk told (P m)
@@ -70,41 +48,6 @@ refused_so m e fault (Err y) other P is = is
 pub ok_so : {X E : Type 0} (told : Result X E) (P Q : X → Type 0) → IfOk told P → ((x : X) → P x → Q x) → IfOk told Q
 ok_so (Ok x) P Q is f = f x is
 ok_so (Err e) P Q is f = is
-
--- and what of a refusal, of that
-pub err_so : {X E : Type 0} (told : Result X E) (P Q : E → Type 0) → IfErr told P → ((e : E) → P e → Q e) → IfErr told Q
-err_so (Ok x) P Q is f = is
-err_so (Err e) P Q is f = f e is
-
--- ---- rows with their points placed
-
--- rows that records say follow each other, and still do with their points placed
-numbers_placed : (site : Site) (number : ℕ) (body : List Record) (rows : List ListRow) → SayRows number body rows → AreRowsFrom number (map (placed site) rows)
-numbers_placed site number [] [] say = tt
-numbers_placed site number [] (x ∷ rows) say = absurd say
-numbers_placed site number (r ∷ body) [] say = absurd say
-numbers_placed site number (r ∷ body) (x ∷ rows) say = (say.0.row, numbers_placed site (number + 1) body rows say.1)
-
--- their points
-points_placed : (site : Site) (rows : List ListRow) → map (point_placed site) rows ≡ points_of (map (placed site) rows)
-points_placed site [] = refl
-points_placed site (x ∷ rows) = ap (λ l. point_placed site x ∷ l) (points_placed site rows)
-
-module _ (site : Site) (list : List Record) (rows : List ListRow) (are : AreRows Second (is_device site) list rows) where
-  -- the rows of a list at a site are those that it says, placed
-  pub rows_at : first_misplaced site rows ≡ None → list_at Second site list ≡ Ok (map (placed site) rows)
-  rows_at none = ap (resolved_list site) (rows_are Second (is_device site) list rows are) ∙ ap (λ o. rows_unless o (map (placed site) rows)) none
-
-  pub fault_at_site : (e : ListError) → first_misplaced site rows ≡ Some e → list_at Second site list ≡ Err e
-  fault_at_site e some = ap (resolved_list site) (rows_are Second (is_device site) list rows are) ∙ ap (λ o. rows_unless o (map (placed site) rows)) some
-
-  pub are_points : (points : List Point) → points ≡ map (point_placed site) rows → ArePointsOf (map (placed site) rows) points
-  are_points points is = record { same = is ∙ points_placed site rows; numbered = numbers_placed site 2 are.body rows are.say }
-
--- the fault of a list alone is its fault at a site
-pub list_fault : (site : Site) (list : List Record) (e : ListError) → IsMemory e ⊎ IsFaultOf Second (is_device site) list e → IsMemory e ⊎ (list_at Second site list ≡ Err e)
-list_fault site list e (inl memory) = inl memory
-list_fault site list e (inr fault) = inr (ap (resolved_list site) (fault_is Second (is_device site) list e fault))
 
 -- ---- the first row that differs
 

@@ -7,7 +7,7 @@ use Rattle.point_list.specs.Edition.{Edition}
 use Rattle.point_list.specs.Header.{is_header}
 use Rattle.point_list.specs.ListMeaning.{point_in, row_before, rows_said, fault_or_later, first_fault, missing_header, rows_unless, body_meaning, list_meaning}
 use Rattle.point_list.specs.Lists.{fault_below, model_in, records_of}
-use Rattle.point_list.specs.Resolving.{first_misplaced, list_at, misplaced, placed, point_placed, resolved_list}
+use Rattle.point_list.specs.Resolving.{first_misplaced, list_at, misplaced, placed, point_placed, resolved_list, points_of}
 use Rattle.point_list.specs.declared.error.ListError.{ListError}
 use Rattle.point_list.specs.declared.error.ListFault.{ListFault}
 use Rattle.point_list.specs.declared.point.ListRow.{ListRow}
@@ -15,7 +15,7 @@ use Rattle.point_list.specs.declared.point.Point.{Point}
 use Rattle.point_list.specs.declared.site.Site.{Site}
 use Rattle.point_list.proofs.Placing.{none_misplaced}
 use Rattle.poll_book.specs.declared.rows.PointRow.{PointRow}
-use Rattle.office_core.specs.Loads.{Loading, Refused, Taken, known_named, unknown_of, points_of, too_many, loading_rows, differing, loading_of, loading, numbered_on, added}
+use Rattle.office_core.specs.Loads.{Loading, Refused, Taken, known_named, unknown_of, too_many, loading_rows, differing, loading_of, loading, numbered_on, added}
 
 module _ (edition : Edition) (site : Site) (P : Point → Type 0)
     (says : (first : Record) → is_header edition first ≡ true → (names : List (List ℕ)) (r : Record) (point : Point)

@@ -1,5 +1,5 @@
 -- What becomes of a list that is loaded.
-use Rattle.std.specs.Prelude.{◌≡◌, ⊤, ℕ, ◌+◌, Bool, true, false, not, ◌&&◌, ◌==◌, nat_le, List, [], ◌∷◌, map, filter, find, length, Option, Some, None, is_none, Result, Ok, Err, if◌then◌else◌}
+use Rattle.std.specs.Prelude.{ℕ, ◌+◌, Bool, true, false, not, ◌&&◌, ◌==◌, nat_le, List, [], ◌∷◌, filter, find, length, Option, Some, None, is_none, Result, Ok, Err, if◌then◌else◌}
 use Rattle.std.specs.Ordering.{int_eq}
 use Rattle.std.specs.Str.{bytes_eq}
 use Rattle.mb_pdu.specs.declared.table.Table.{Table}
@@ -16,7 +16,7 @@ use Rattle.point_list.specs.declared.error.ListFault.TheVariants.{TooManyPoints}
 use Rattle.point_list.specs.declared.site.Site.{Site}
 use Rattle.point_list.specs.Edition.{Edition}
 use Rattle.point_list.specs.Lists.{point_limit, records_of}
-use Rattle.point_list.specs.Resolving.{list_at}
+use Rattle.point_list.specs.Resolving.{list_at, points_of}
 use Rattle.poll_book.specs.declared.rows.PointRow.{PointRow}
 use Rattle.poll_book.specs.declared.requests.Reason.{Reason}
 use Rattle.poll_book.specs.declared.requests.RequestFault.TheVariants.{List as OfList, PointDiffers}
@@ -66,9 +66,6 @@ agrees point (Some there) = same_point there.point point
 abbrev pub unknown_of : List PointRow → List Point → List Point
 unknown_of known points = filter (λ (point : Point). is_none (known_named known point.name)) points
 
-abbrev pub points_of : List ListRow → List Point
-points_of rows = map (λ (said : ListRow). said.point) rows
-
 -- what becomes of a list: it is refused, or it has so many rows, of which these points are new
 pub data Loading : Type 0 where
   Refused : (reason : Reason) → Loading
@@ -104,16 +101,6 @@ loading_of known (Ok rows) = loading_rows known rows (differing known rows)
 -- a list by an edition, the site in force and the points that are known
 abbrev pub loading : Edition → Site → List PointRow → List ℕ → Loading
 loading edition site known list = loading_of known (list_at edition site (records_of list))
-
--- rows one after the other, of which the first has this number
-abbrev pub AreRowsFrom : ℕ → List ListRow → Type 0
-AreRowsFrom number [] = ⊤
-AreRowsFrom number (said ∷ rows) = (said.row ≡ number) × AreRowsFrom (number + 1) rows
-
--- the points of the rows of a list, whose first row is the second record
-pub record ArePointsOf (rows : List ListRow) (points : List Point) : Type 0 where
-  pub same : points ≡ points_of rows
-  pub numbered : AreRowsFrom 2 rows
 
 abbrev pub outcome : Loading → Outcome
 outcome (Refused reason) = RefusedFor reason

@@ -1,20 +1,17 @@
 //! What becomes of a list that is loaded.
-ghost use Rattle.std.specs.Prelude.{◌≡◌, ◌≢◌, ◌≤◌, ◌+◌, ◌⊎◌, [], List, false, length, option_map, None, Some, IfOk, IfErr, IfSome, OnOk, Ok, Err};
+ghost use Rattle.std.specs.Prelude.{◌≡◌, ◌≢◌, ◌≤◌, ◌+◌, [], List, length, option_map, None, Some, IfOk, IfErr, IfSome, OnOk, Ok, Err};
 ghost use Rattle.std.specs.List.{position};
 ghost use Rattle.std.specs.Str.{bytes_eq};
 ghost use Rattle.point_list.specs.Edition.{Second};
-ghost use Rattle.point_list.specs.Lists.{IsMemory, point_limit, records_of};
-ghost use Rattle.point_list.specs.Resolving.{list_at};
+ghost use Rattle.point_list.specs.Lists.{point_limit};
+ghost use Rattle.point_list.specs.Resolving.{ArePointsOf};
 ghost use Rattle.point_list.specs.Sites.{IsSound};
 ghost use Rattle.point_list.specs.declared.point.ListRow.{ListRow};
 ghost use Rattle.office_core.specs.ByName.{AreNamesOf};
 ghost use Rattle.office_core.specs.Loads as loads;
-ghost use Rattle.office_core.specs.Loads.{ArePointsOf};
 
 use crate::by_name::ByName;
-use point_list::{
-    ListError, ListFault, MOST_POINTS, Point, Site, is_same_name, read_list, resolve,
-};
+use point_list::{ListError, ListFault, MOST_POINTS, Point, Site, is_same_name, read_points};
 use poll_book::{Outcome, PointRow, Reason, RequestFault, StoreFault};
 use std::alloc::{AllocError, Global};
 
@@ -208,20 +205,6 @@ fn judge_fault(alloc: Global, error: ListError) -> Result<Judged, StoreFault>
     }
 }
 
-/// The points of a list at a site, or its first fault: those of the list alone come before those of
-/// places by model.
-fn points_in(alloc: Global, site: &Site, list: &[u8]) -> Result<Vec<Point>, ListError>
-    requires { IsSound site.now }
-    ensures points { IfOk result (λ v. (rows : List ListRow) × (list_at Second site.now (records_of list.now) ≡ Ok rows) × ArePointsOf rows v.items) }
-    ensures few { IfOk result (λ v. length v.items ≤ point_limit) }
-    ensures fault { IfErr result (λ e. IsMemory e ⊎ (list_at Second site.now (records_of list.now) ≡ Err e)) }
-{
-    match read_list(alloc, list, site) {
-        Ok(rows) => resolve(alloc, rows, site),
-        Err(error) => Err(error),
-    }
-}
-
 /// What becomes of a list by a site and the points that are known.
 pub(crate) fn judge_list(
     alloc: Global,
@@ -239,7 +222,7 @@ pub(crate) fn judge_list(
     ensures few { IfOk result (λ x. length known.now + length x.points.items ≤ point_limit) }
     ensures memory { IfErr result (λ e. e ≡ StoreFault.Memory) }
 {
-    match points_in(alloc, site, list) {
+    match read_points(alloc, list, site) {
         Ok(points) => judge_points(alloc, known, names, points.as_slice()),
         Err(error) => judge_fault(alloc, error),
     }

@@ -22,11 +22,11 @@ use Rattle.sunspec.specs.declared.word_order.WordOrder.{WordOrder}
 use Rattle.point_list.specs.Edition.{Edition, Second}
 use Rattle.point_list.specs.Lists.{check, first_failed, meaning_checks, whole_checks, table_in, address_in, type_in, scale_in, role_in, roll_in, order_in, fault_below, model_in, records_of}
 use Rattle.point_list.specs.ListMeaning.{point_in, row_before, rows_said, fault_or_later, first_fault, missing_header, rows_unless, body_meaning, list_meaning}
-use Rattle.point_list.specs.Resolving.{first_misplaced, list_at, placed, resolved_list}
+use Rattle.point_list.specs.Resolving.{first_misplaced, list_at, placed, resolved_list, points_of}
 use Rattle.poll_book.specs.declared.rows.PointRow.{PointRow}
 use Rattle.office_core.specs.declared.event.Event.{Event}
 use Rattle.office_core.specs.declared.event.Event.TheVariants as event
-use Rattle.office_core.specs.Loads.{Loading, Refused, Taken, known_named, unknown_of, points_of, too_many, loading_rows, differing, loading_of, loading, numbered_on, added}
+use Rattle.office_core.specs.Loads.{Loading, Refused, Taken, known_named, unknown_of, too_many, loading_rows, differing, loading_of, loading, numbered_on, added}
 use Rattle.office_core.specs.Queries.{Query}
 use Rattle.office_core.specs.Sites.{has_devices}
 use Rattle.office_core.specs.History.{Happening, Reply, Noise, History, site_of, points, open_line, asked, is_used}

@@ -7,7 +7,7 @@ use Rattle.point_list.specs.Columns.{Record, field, is_device}
 use Rattle.point_list.specs.Edition.{Edition}
 use Rattle.point_list.specs.ListMeaning.{rows_unless}
 use Rattle.point_list.specs.Lists.{AreRows, IsFaultOf, IsMemory, SayRows, names_in}
-use Rattle.point_list.specs.Resolving.{first_misplaced, placed, point_placed, points_at, points_in, points_of, resolved_list}
+use Rattle.point_list.specs.Resolving.{AreRowsFrom, ArePointsOf, first_misplaced, list_at, placed, point_placed, points_of, resolved_list}
 use Rattle.point_list.specs.declared.error.ListError.{ListError}
 use Rattle.point_list.specs.declared.point.ListRow.{ListRow}
 use Rattle.point_list.specs.declared.point.Point.{Point}
@@ -31,19 +31,30 @@ few_rows edition known list rows are =
     (λ (le : length are.body ≤ 10000). (let n = count in omega arith))
     (cases_lt 10000 (length are.body))
 
--- the points of rows that are placed
-points_placed : (site : Site) (rows : List ListRow) → points_of (map (placed site) rows) ≡ map (point_placed site) rows
+-- rows that records say follow each other, and still do with their points placed
+numbers_placed : (site : Site) (number : ℕ) (body : List Record) (rows : List ListRow) → SayRows number body rows → AreRowsFrom number (map (placed site) rows)
+numbers_placed site number [] [] say = tt
+numbers_placed site number [] (x ∷ rows) say = absurd say
+numbers_placed site number (r ∷ body) [] say = absurd say
+numbers_placed site number (r ∷ body) (x ∷ rows) say = (say.0.row, numbers_placed site (number + 1) body rows say.1)
+
+-- their points
+points_placed : (site : Site) (rows : List ListRow) → map (point_placed site) rows ≡ points_of (map (placed site) rows)
 points_placed site [] = refl
 points_placed site (x ∷ rows) = ap (λ l. point_placed site x ∷ l) (points_placed site rows)
 
 module _ (edition : Edition) (site : Site) (list : List Record) (rows : List ListRow) (are : AreRows edition (is_device site) list rows) where
-  meant : points_at edition site list ≡ points_in (rows_unless (first_misplaced site rows) (map (placed site) rows))
-  meant = ap (λ m. points_in (resolved_list site m)) (rows_are edition (is_device site) list rows are)
+  meant : list_at edition site list ≡ rows_unless (first_misplaced site rows) (map (placed site) rows)
+  meant = ap (resolved_list site) (rows_are edition (is_device site) list rows are)
 
   -- what resolving gives of the rows is what the list means at the site
   pub points_are : (told : Result (Vec Point Global) ListError) → IfOk told (λ v. (first_misplaced site rows ≡ None) × (v.items ≡ map (point_placed site) rows))
-      → IfOk told (λ v. points_at edition site list ≡ Ok v.items)
-  points_are (Ok v) is = meant ∙ ap (λ o. points_in (rows_unless o (map (placed site) rows))) is.0 ∙ ap Ok (points_placed site rows ∙ sym is.1)
+      → IfOk told (λ v. (at_site : List ListRow) × (list_at edition site list ≡ Ok at_site) × ArePointsOf at_site v.items)
+  points_are (Ok v) is = (
+    map (placed site) rows,
+    meant ∙ ap (λ o. rows_unless o (map (placed site) rows)) is.0,
+    record { same = is.1 ∙ points_placed site rows; numbered = numbers_placed site 2 are.body rows are.say },
+  )
   points_are (Err e) is = tt
 
   pub points_few : (told : Result (Vec Point Global) ListError) → IfOk told (λ v. (first_misplaced site rows ≡ None) × (v.items ≡ map (point_placed site) rows))
@@ -52,12 +63,12 @@ module _ (edition : Edition) (site : Site) (list : List Record) (rows : List Lis
   points_few (Err e) is = tt
 
   pub points_fault : (told : Result (Vec Point Global) ListError) → IfErr told (λ e. IsMemory e ⊎ (first_misplaced site rows ≡ Some e))
-      → IfErr told (λ e. IsMemory e ⊎ (points_at edition site list ≡ Err e))
+      → IfErr told (λ e. IsMemory e ⊎ (list_at edition site list ≡ Err e))
   points_fault (Ok v) is = tt
   points_fault (Err e) (inl memory) = inl memory
-  points_fault (Err e) (inr fault) = inr (meant ∙ ap (λ o. points_in (rows_unless o (map (placed site) rows))) fault)
+  points_fault (Err e) (inr fault) = inr (meant ∙ ap (λ o. rows_unless o (map (placed site) rows)) fault)
 
 -- the fault of a list alone is its fault at a site
-pub list_fault : (edition : Edition) (site : Site) (list : List Record) (e : ListError) → IsMemory e ⊎ IsFaultOf edition (is_device site) list e → IsMemory e ⊎ (points_at edition site list ≡ Err e)
+pub list_fault : (edition : Edition) (site : Site) (list : List Record) (e : ListError) → IsMemory e ⊎ IsFaultOf edition (is_device site) list e → IsMemory e ⊎ (list_at edition site list ≡ Err e)
 list_fault edition site list e (inl memory) = inl memory
-list_fault edition site list e (inr fault) = inr (ap (λ m. points_in (resolved_list site m)) (fault_is edition (is_device site) list e fault))
+list_fault edition site list e (inr fault) = inr (ap (resolved_list site) (fault_is edition (is_device site) list e fault))

@@ -1,5 +1,5 @@
 -- Points by model, at the addresses that a site's chains give them.
-use Rattle.std.specs.Prelude.{ℕ, ◌+◌, List, map, Option, Some, None, is_some, Result, Ok, Err, ◌==◌, nat_le, if◌then◌else◌}
+use Rattle.std.specs.Prelude.{◌≡◌, ⊤, ℕ, ◌+◌, List, [], ◌∷◌, map, Option, Some, None, is_some, Result, Ok, Err, ◌==◌, nat_le, if◌then◌else◌}
 use Rattle.std.specs.List.{find}
 use Rattle.sunspec.specs.PointType.{row}
 use Rattle.sunspec.specs.declared.chain.Model.{Model}
@@ -93,10 +93,12 @@ list_at edition site list = resolved_list site (list_meaning edition (is_device 
 abbrev pub points_of : List ListRow → List Point
 points_of rows = map (λ (said : ListRow). said.point) rows
 
-abbrev pub points_in : Result (List ListRow) ListError → Result (List Point) ListError
-points_in (Ok rows) = Ok (points_of rows)
-points_in (Err e) = Err e
+-- rows one after the other, of which the first has this number
+abbrev pub AreRowsFrom : ℕ → List ListRow → Type 0
+AreRowsFrom number [] = ⊤
+AreRowsFrom number (said ∷ rows) = (said.row ≡ number) × AreRowsFrom (number + 1) rows
 
--- the points of a list of these records at a site, or its fault there
-abbrev pub points_at : Edition → Site → List Record → Result (List Point) ListError
-points_at edition site list = points_in (list_at edition site list)
+-- the points of the rows of a list, whose first row is the second record
+pub record ArePointsOf (rows : List ListRow) (points : List Point) : Type 0 where
+  pub same : points ≡ points_of rows
+  pub numbered : AreRowsFrom 2 rows

@@ -1,11 +1,12 @@
 //! Points by model, at the addresses that a site's chains give them.
-ghost use Rattle.std.specs.Prelude.{◌≡◌, ◌≤◌, ◌+◌, ◌⊎◌, ◌==◌, Err, IfErr, IfOk, IfSome, MatchResult, None, Ok, Some, length, map};
+ghost use Rattle.std.specs.Prelude.{◌≡◌, ◌≤◌, ◌+◌, ◌⊎◌, ◌==◌, Err, IfErr, IfOk, IfSome, List, MatchResult, None, Ok, Some, length, map};
 ghost use Rattle.std.specs.List.{find};
 ghost use Rattle.point_list.specs.Columns.{◌then◌};
 ghost use Rattle.point_list.specs.Edition.{Second};
 ghost use Rattle.point_list.specs.Lists.{IsMemory, point_limit, records_of};
-ghost use Rattle.point_list.specs.Resolving.{first_misplaced, misplaced, model_at, point_placed, points_at};
+ghost use Rattle.point_list.specs.Resolving.{ArePointsOf, first_misplaced, list_at, misplaced, model_at, point_placed};
 ghost use Rattle.point_list.specs.Sites.{IsSound};
+ghost use Rattle.point_list.specs.declared.point.ListRow.{ListRow};
 
 use crate::error::{ListError, ListFault};
 use crate::list::{MOST_POINTS, read_list};
@@ -79,9 +80,9 @@ pub fn resolve(alloc: Global, rows: Vec<ListRow>, site: &Site) -> Result<Vec<Poi
 /// The points of a point list at a site, in the order of its records: `read_list`, and then `resolve`.
 pub fn read_points(alloc: Global, bytes: &[u8], site: &Site) -> Result<Vec<Point>, ListError>
     requires { IsSound site.now }
-    ensures points { IfOk result (λ v. points_at Second site.now (records_of bytes.now) ≡ Ok v.items) }
+    ensures points { IfOk result (λ v. (rows : List ListRow) × (list_at Second site.now (records_of bytes.now) ≡ Ok rows) × ArePointsOf rows v.items) }
     ensures few { IfOk result (λ v. length v.items ≤ point_limit) }
-    ensures fault { IfErr result (λ e. IsMemory e ⊎ (points_at Second site.now (records_of bytes.now) ≡ Err e)) }
+    ensures fault { IfErr result (λ e. IsMemory e ⊎ (list_at Second site.now (records_of bytes.now) ≡ Err e)) }
 {
     match read_list(alloc, bytes, site) {
         Ok(rows) => resolve(alloc, rows, site),

@@ -2,10 +2,9 @@ use Rattle.std.proofs.Common.{◌≡◌, ◌∙◌, sym, ap, subst, length}
 use Rattle.std.specs.Prelude.{List, Ok}
 use Rattle.point_list.specs.Edition.{Second}
 use Rattle.point_list.specs.Lists.{records_of}
-use Rattle.point_list.specs.Resolving.{list_at}
+use Rattle.point_list.specs.Resolving.{ArePointsOf, list_at}
 use Rattle.point_list.specs.declared.point.ListRow.{ListRow}
 use Rattle.office_core.specs.Loads as loads
-use Rattle.office_core.specs.Loads.{ArePointsOf}
 use Rattle.office_core.proofs.Loading.{ok_so, refused_so}
 use Rattle.office_core.proofs.loads.judge_list.Goals as goal
 
