@@ -155,3 +155,15 @@ impl FromStr for Label {
         Label::new(text.as_bytes()).ok_or(LabelError)
     }
 }
+
+impl TryFrom<&[u8]> for Label {
+    type Error = LabelError;
+
+    ghost try_from_gives = { λ text result. MatchResult result
+        (λ label. (is_label text.now ≡ true) × (label ≡ text.now))
+        (λ _. is_label text.now ≡ false) };
+
+    fn try_from(text: &[u8]) -> Result<Label, LabelError> {
+        Label::new(text).ok_or(LabelError)
+    }
+}

@@ -107,3 +107,15 @@ impl FromStr for Name {
         Name::new(text.as_bytes()).ok_or(NameError)
     }
 }
+
+impl TryFrom<&[u8]> for Name {
+    type Error = NameError;
+
+    ghost try_from_gives = { λ text result. MatchResult result
+        (λ name. (is_name text.now ≡ true) × (name ≡ text.now))
+        (λ _. is_name text.now ≡ false) };
+
+    fn try_from(text: &[u8]) -> Result<Name, NameError> {
+        Name::new(text).ok_or(NameError)
+    }
+}

@@ -1,5 +1,5 @@
 //! Who asks, and under which key: short words in the value itself.
-ghost use Rattle.std.specs.Prelude.{◌≡◌, if◌then◌else◌, Some, None, true, nat_eq, refl};
+ghost use Rattle.std.specs.Prelude.{◌≡◌, if◌then◌else◌, MatchResult, Some, None, false, true, nat_eq, refl};
 ghost use Rattle.std.specs.Cmp.{partial_equiv_from_equiv};
 ghost use Rattle.std.specs.Cmp.Lexicographic.{pointwise, nat_list_eq_equiv, slice_cmp, nat_list_cmp_total, texts_po, texts_ties};
 ghost use Rattle.std.specs.List.{list_all};
@@ -8,8 +8,10 @@ ghost use Rattle.poll_book.specs.Callers.{is_caller, is_key, is_key_byte, is_wor
 
 use std::cmp::Ordering;
 use std::marker::Model;
+use std::str::FromStr;
 use std::{fmt, str};
 use sunspec::FixedText;
+use thiserror::Error;
 
 /// The name of a caller: 1 to 32 of `A-Z a-z 0-9 _ -`. Contracts see its bytes.
 #[derive(Clone, Copy, Hash)]
@@ -214,5 +216,41 @@ impl fmt::Debug for Caller {
 impl fmt::Debug for Key {
     fn fmt<W: fmt::Write>(&self, f: &mut fmt::Formatter<W>) -> fmt::Result {
         fmt::Debug::fmt(&self.text, f)
+    }
+}
+
+/// A text is no caller.
+#[derive(Clone, Copy, Debug, PartialEq, Eq, Error)]
+#[error("not 1 to 32 of A-Z a-z 0-9 _ -")]
+pub struct CallerError;
+
+/// As `new`.
+impl FromStr for Caller {
+    type Err = CallerError;
+
+    ghost from_str_gives = { λ text result. MatchResult result
+        (λ caller. (is_caller text ≡ true) × (caller ≡ text))
+        (λ _. is_caller text ≡ false) };
+
+    fn from_str(text: &str) -> Result<Caller, CallerError> {
+        Caller::new(text).ok_or(CallerError)
+    }
+}
+
+/// A text is no key.
+#[derive(Clone, Copy, Debug, PartialEq, Eq, Error)]
+#[error("not 1 to 64 of A-Z a-z 0-9 _ -")]
+pub struct KeyError;
+
+/// As `new`.
+impl FromStr for Key {
+    type Err = KeyError;
+
+    ghost from_str_gives = { λ text result. MatchResult result
+        (λ key. (is_key text ≡ true) × (key ≡ text))
+        (λ _. is_key text ≡ false) };
+
+    fn from_str(text: &str) -> Result<Key, KeyError> {
+        Key::new(text).ok_or(KeyError)
     }
 }

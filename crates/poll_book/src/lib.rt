@@ -28,7 +28,7 @@ mod voiding;
 mod voids;
 mod words;
 
-pub use caller::{Caller, Key};
+pub use caller::{Caller, CallerError, Key, KeyError};
 pub use counting::{counted_number, removed, repaired, step_between};
 pub use fault::StoreFault;
 pub use keeper::{Keeper, Neighbours};

@@ -354,10 +354,23 @@ impl fmt::Display for PointType {
     }
 }
 
-/// No type has this name.
+/// No type has this name, or this code.
 #[derive(Clone, Copy, Debug, PartialEq, Eq, Error)]
 #[error("unknown type")]
 pub struct PointTypeError;
+
+/// As `from_code`.
+impl TryFrom<u8> for PointType {
+    type Error = PointTypeError;
+
+    ghost try_from_gives = { λ code result. MatchResult result
+        (λ kind. coded code ≡ Some kind)
+        (λ _. coded code ≡ None) };
+
+    fn try_from(code: u8) -> Result<PointType, PointTypeError> {
+        PointType::from_code(code).ok_or(PointTypeError)
+    }
+}
 
 /// As `from_name`.
 impl FromStr for PointType {
