@@ -1,4 +1,5 @@
-//! The store's file of an office: what `office_files` works in is opened and closed here.
+//! The store's file of an office: what `office_files` works in is opened and closed here. Only what opens names the
+//! file's type: a proof that carries it over a way out is a dear one.
 ghost use Rattle.point_list.specs.Sites.{IsSound};
 
 use crate::machine::Machine;
@@ -7,7 +8,8 @@ use office_files::{
     begins_as_database, busy, file_failure, is_busy, migrate_over, pause, tries, work_over,
 };
 use point_list::Site;
-use sqlite::{Alter, Connection, Error, File, FileStore};
+use sqlite::{Connection, Error, File, FileStore};
+use sqlite_disk::Disk;
 use std::io::Read;
 use std::{fs, thread};
 
@@ -43,22 +45,34 @@ fn open(
     Err(busy())
 }
 
-/// Does a task in the office of a connection's tables, and gives the connection back where that ended well.
-fn worked_in<S: Alter + Drop>(
+/// Closes a store. What was written stands in its one file then: the log beside it is taken in.
+fn close<D: Disk + Drop>(
+    rt: &HostRuntime,
+    connection: Connection<FileStore<D>>,
+    path: &str,
+) -> Result<(), Failure> {
+    match connection.close() {
+        Ok(()) => Ok(()),
+        Err(error) => Err(failure_of(rt, &error, path)),
+    }
+}
+
+/// Does a task in the office of a store's tables, and closes the store where that ended well.
+fn work_in<D: Disk + Drop>(
     machine: &mut Machine<'_>,
-    connection: Connection<S>,
+    connection: Connection<FileStore<D>>,
     site: Site,
     task: &Task<'_>,
-) -> Result<Connection<S>, Failure>
+    path: &str,
+) -> Result<(), Failure>
     requires { IsSound site }
 {
     let (done, connection) = work_over(machine, connection, site, task);
     done?;
-    Ok(connection)
+    close(machine.0, connection, path)
 }
 
-/// Does a task in the office of a store's file. What a task wrote stands in that one file when it ended well: the log
-/// beside it is taken in.
+/// Does a task in the office of a store's file.
 pub(crate) fn work_on(
     machine: &mut Machine<'_>,
     path: &str,
@@ -68,11 +82,18 @@ pub(crate) fn work_on(
     requires { IsSound site }
 {
     let connection = open(machine.0, path, task.timeout)?;
-    let connection = worked_in(machine, connection, site, task)?;
-    match connection.close() {
-        Ok(()) => Ok(()),
-        Err(error) => Err(failure_of(machine.0, &error, path)),
-    }
+    work_in(machine, connection, site, task, path)
+}
+
+/// Moves a store's tables to today's version, and closes the store where that ended well.
+fn migrate_in<D: Disk + Drop>(
+    rt: &HostRuntime,
+    mut connection: Connection<FileStore<D>>,
+    path: &str,
+) -> Result<Migration, Failure> {
+    let done = migrate_over(&mut connection)?;
+    close(rt, connection, path)?;
+    Ok(done)
 }
 
 /// Moves the tables of a store's file, which must be there, to today's version.
@@ -80,10 +101,6 @@ pub(crate) fn migrate_on(rt: &HostRuntime, path: &str, seconds: u16) -> Result<M
     if let Err(error) = fs::File::open(rt, path) {
         return Err(Failure::new(Fault::File, Why::System(error)).of(rt.alloc(), path));
     }
-    let mut connection = open(rt, path, seconds)?;
-    let done = migrate_over(&mut connection)?;
-    match connection.close() {
-        Ok(()) => Ok(done),
-        Err(error) => Err(failure_of(rt, &error, path)),
-    }
+    let connection = open(rt, path, seconds)?;
+    migrate_in(rt, connection, path)
 }

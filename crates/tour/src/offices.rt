@@ -1,7 +1,7 @@
 //! `office_core`: an office, from a list to a total.
 use crate::bytes::shown;
 use crate::lists::site;
-use anyhow::{Result, bail};
+use anyhow::Result;
 use mb_mbap::Frame;
 use mb_pdu::{Span, Unit};
 use office_core::Office;
@@ -23,9 +23,8 @@ pub(crate) fn office(alloc: Global) -> Result<Office<MemKeeper>> {
 
 /// Loads the list of one counter under a key.
 pub(crate) fn load<K: Keeper>(office: &mut Office<K>) -> Result<()> {
-    let (Some(caller), Some(key)) = (Caller::new("ann"), Key::new("l1")) else {
-        bail!("no caller and key");
-    };
+    let caller = "ann".parse::<Caller>()?;
+    let key = "l1".parse::<Key>()?;
     office.load(&caller, &key, LIST)?;
     Ok(())
 }
@@ -49,13 +48,11 @@ fn reply<K: Keeper>(
     value: u16,
 ) -> Result<()> {
     let [high, low] = value.to_be_bytes();
-    let Some(unit) = Unit::from_bytes(&[0x03, 0x02, high, low]) else {
-        bail!("no unit");
-    };
+    let bytes: &[u8] = &[0x03, 0x02, high, low];
     let frame = Frame {
         transaction,
         unit_id: 17,
-        unit,
+        unit: Unit::try_from(bytes)?,
     };
     let arrival = office.arrive(conn, &frame);
     println!(rt; "{value}: {arrival:?}")?;

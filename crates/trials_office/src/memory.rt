@@ -49,14 +49,14 @@ fn take_beside_twin<K: Keeper>(
     take_all(trial, office, &mut twin)
 }
 
-fn stored_calls(trial: &Trial<'_>) -> Result<(), OfficeError> {
-    let mut office = office_over(trial.alloc(), stored(trial.alloc())?)?;
+fn calls_over<K: Keeper + Drop>(trial: &Trial<'_>, keeper: K) -> Result<(), OfficeError> {
+    let mut office = office_over(trial.alloc(), keeper)?;
     take_beside_twin(trial, &mut office)
 }
 
 fn refused_calls(trial: &Trial<'_>) -> Result<(), OfficeError> {
-    take_beside_twin(trial, &mut twin(trial.alloc())?)?;
-    stored_calls(trial)
+    calls_over(trial, MemKeeper::new(trial.alloc()))?;
+    calls_over(trial, stored(trial.alloc())?)
 }
 
 /// Run under `rt try --test --fail-alloc N`, this one sees each allocation of a call refused.

@@ -6,7 +6,7 @@ use office_plays::steps::Happens::{self, Arrive, Ask, Load, Open, Void};
 use office_plays::steps::{rows, take_happening, total};
 use office_store::SqlKeeper;
 use poll_book::{Keeper, StoreFault};
-use sqlite::MemStore;
+use sqlite::Alter;
 use std::alloc::Global;
 use std::test::Fail;
 use store_plays::{opened, stored};
@@ -222,10 +222,10 @@ fn come<K: Keeper + Drop>(
 }
 
 /// The keeper of the same tables once a statement was run on them.
-fn changed(
-    keeper: SqlKeeper<MemStore>,
+fn changed<S: Alter + Drop>(
+    keeper: SqlKeeper<S>,
     statement: &str,
-) -> Result<SqlKeeper<MemStore>, OfficeError> {
+) -> Result<SqlKeeper<S>, OfficeError> {
     let mut connection = keeper.into_connection();
     run(&mut connection, statement)?;
     opened(connection).map_err(|(error, _)| error)
@@ -238,25 +238,38 @@ fn tables<K: Keeper + Drop>(alloc: Global, keeper: K) -> Result<(K, String), Off
     Ok((office.into_keeper(), text))
 }
 
-fn used(alloc: Global) -> Result<SqlKeeper<MemStore>, OfficeError> {
-    Ok(office_after(alloc, stored(alloc)?, HAPPENED)?.into_keeper())
+/// The same once an office over it took what happened.
+fn used<K: Keeper + Drop>(alloc: Global, keeper: K) -> Result<(K, String), OfficeError> {
+    let office = office_after(alloc, keeper, HAPPENED)?;
+    tables(alloc, office.into_keeper())
 }
 
-/// Expects that it is refused as `Other` over a wrong row, and that the tables are as before once that is right again.
-fn is_told(
+/// Expects that a wrong row is refused as `Other`, and gives the keeper back.
+fn is_refused<K: Keeper + Drop>(
     trial: &Trial<'_>,
-    (wrong, right): (&str, &str),
+    keeper: K,
+    wrong: &str,
     comes: Comes,
-) -> Result<(), OfficeError> {
-    let alloc = trial.alloc();
-    let (keeper, before) = tables(alloc, used(alloc)?)?;
-    let (keeper, refusal) = come(alloc, changed(keeper, wrong)?, comes)?;
+) -> Result<K, OfficeError> {
+    let (keeper, refusal) = come(trial.alloc(), keeper, comes)?;
     if refusal == Some(MEMORY) {
         return Err(MEMORY);
     }
     let other = Some(OfficeError::Store(StoreFault::Other));
     trial.told(&(wrong, comes), &refusal, &other);
-    let (_, after) = tables(alloc, changed(keeper, right)?)?;
+    Ok(keeper)
+}
+
+/// Expects that it is refused over a wrong row, and that the tables are as before once that is right again.
+fn is_told<S: Alter + Drop>(
+    trial: &Trial<'_>,
+    keeper: SqlKeeper<S>,
+    (wrong, right): (&str, &str),
+    comes: Comes,
+) -> Result<(), OfficeError> {
+    let (keeper, before) = used(trial.alloc(), keeper)?;
+    let keeper = is_refused(trial, changed(keeper, wrong)?, wrong, comes)?;
+    let (_, after) = tables(trial.alloc(), changed(keeper, right)?)?;
     trial.told(&(wrong, comes), &after, &before);
     Ok(())
 }
@@ -264,7 +277,7 @@ fn is_told(
 fn bad_rows(trial: &Trial<'_>) -> Result<(), OfficeError> {
     for (wrong, right, all) in CASES {
         for comes in *all {
-            is_told(trial, (*wrong, *right), *comes)?;
+            is_told(trial, stored(trial.alloc())?, (*wrong, *right), *comes)?;
         }
     }
     Ok(())

@@ -8,7 +8,7 @@ use office_core::OfficeError;
 use office_plays::builders::{MEMORY, office_after, office_over};
 use office_plays::tables::text_of;
 use office_store::{Migrated, SqlKeeper, StoreError, migrate};
-use poll_book::StoreFault;
+use poll_book::{Keeper, StoreFault};
 use sqlite::{Alter, Connection, Files};
 use sqlite_disk::Memory;
 use std::test::Fail;
@@ -176,16 +176,25 @@ fn a_stop_as_tables_are_moved_leaves_either_version(rt: HostRuntime) -> Result<(
     Ok(twice!(rt, moves)?)
 }
 
-/// Tables of today, of which some slot is voided and some point swapped, aren't moved.
-fn stay(trial: &Trial<'_>) -> Result<(), OfficeError> {
-    let office = office_after(trial.alloc(), stored(trial.alloc())?, HAPPENINGS)?;
-    let mut connection = office.into_keeper().into_connection();
-    trial.told(&"today's", &moved(&mut connection)?, &Ok(Migrated::Already));
-    let mut keeper = opened(connection).map_err(|(error, _connection)| error)?;
-    let tables = text_of(trial.alloc(), &mut keeper, KEYS)?;
+/// Expects the tables of all that happened.
+fn are_all<K: Keeper>(trial: &Trial<'_>, keeper: &mut K) -> Result<(), OfficeError> {
+    let tables = text_of(trial.alloc(), keeper, KEYS)?;
     let expected = tables_after(trial.alloc(), HAPPENINGS.len())?;
     trial.told(&"tables", &tables, &expected);
     Ok(())
+}
+
+/// Tables of today, of which some slot is voided and some point swapped, aren't moved.
+fn stay_over<S: Alter + Drop>(trial: &Trial<'_>, keeper: SqlKeeper<S>) -> Result<(), OfficeError> {
+    let office = office_after(trial.alloc(), keeper, HAPPENINGS)?;
+    let mut connection = office.into_keeper().into_connection();
+    trial.told(&"today's", &moved(&mut connection)?, &Ok(Migrated::Already));
+    let mut keeper = opened(connection).map_err(|(error, _connection)| error)?;
+    are_all(trial, &mut keeper)
+}
+
+fn stay(trial: &Trial<'_>) -> Result<(), OfficeError> {
+    stay_over(trial, stored(trial.alloc())?)
 }
 
 #[test]

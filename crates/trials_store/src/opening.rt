@@ -7,7 +7,7 @@ use office_plays::steps::{opened as opened_line, take};
 use office_plays::tables::text_of;
 use office_store::{SqlKeeper, StoreError};
 use poll_book::{Keeper, StoreFault};
-use sqlite::{Alter, Connection, Error, ErrorCode, MemStore};
+use sqlite::{Alter, Connection, Error, ErrorCode};
 use std::alloc::Global;
 use std::test::Fail;
 use store_plays::{empty, made, opened, stored};
@@ -55,11 +55,11 @@ pub(crate) fn run<S: Alter>(connection: &mut Connection<S>, sql: &str) -> Result
 }
 
 /// It isn't opened for this reason, and is given back.
-fn refused(
+fn refused<S: Alter + Drop>(
     trial: &Trial<'_>,
-    connection: Connection<MemStore>,
+    connection: Connection<S>,
     expected: StoreError,
-) -> Result<Connection<MemStore>, OfficeError> {
+) -> Result<Connection<S>, OfficeError> {
     match SqlKeeper::open(connection) {
         Ok(_) => Err(OfficeError::NoRead),
         Err((StoreError::Store(StoreFault::Memory), _)) => Err(MEMORY),
@@ -71,38 +71,54 @@ fn refused(
 }
 
 /// It isn't moved to another version either, for the same reason.
-fn is_unmoved(
+fn is_unmoved<S: Alter>(
     trial: &Trial<'_>,
-    connection: &mut Connection<MemStore>,
+    connection: &mut Connection<S>,
     expected: StoreError,
 ) -> Result<(), OfficeError> {
     trial.told(&"unmoved", &moved(connection)?, &Err(expected));
     Ok(())
 }
 
-/// What has these statements behind it isn't opened, as often as it is tried, nor moved.
-fn are_refused(
-    trial: &Trial<'_>,
+/// Makes the tables of an office in an empty database, or doesn't, and runs these statements behind that.
+fn prepare<S: Alter>(
+    connection: &mut Connection<S>,
     is_made: bool,
     statements: &[&str],
-    expected: StoreError,
 ) -> Result<(), OfficeError> {
-    let mut connection = empty(trial.alloc())?;
-    if is_made && made(&mut connection).is_err() {
+    if is_made && made(connection).is_err() {
         return Err(MEMORY);
     }
     for sql in statements {
-        run(&mut connection, sql)?;
+        run(connection, sql)?;
     }
+    Ok(())
+}
+
+/// It isn't opened for this reason, as often as it is tried, nor moved.
+fn stays_refused<S: Alter + Drop>(
+    trial: &Trial<'_>,
+    connection: Connection<S>,
+    expected: StoreError,
+) -> Result<(), OfficeError> {
     let mut connection = refused(trial, connection, expected)?;
     is_unmoved(trial, &mut connection, expected)?;
     refused(trial, connection, expected)?;
     Ok(())
 }
 
+fn are_refused<S: Alter + Drop>(
+    trial: &Trial<'_>,
+    mut connection: Connection<S>,
+    (is_made, statements, expected): (bool, &[&str], StoreError),
+) -> Result<(), OfficeError> {
+    prepare(&mut connection, is_made, statements)?;
+    stays_refused(trial, connection, expected)
+}
+
 fn others(trial: &Trial<'_>) -> Result<(), OfficeError> {
-    for (is_made, statements, expected) in OTHERS {
-        are_refused(trial, *is_made, statements, *expected)?;
+    for other in OTHERS {
+        are_refused(trial, empty(trial.alloc())?, *other)?;
     }
     Ok(())
 }
@@ -146,9 +162,16 @@ fn is_given_back<K: Keeper + Drop>(trial: &Trial<'_>, mut keeper: K) -> Result<(
     Ok(())
 }
 
-fn gives_back(trial: &Trial<'_>) -> Result<(), OfficeError> {
-    let keeper = used_keeper(trial.alloc(), stored(trial.alloc())?)?;
+fn gives_back_over<S: Alter + Drop>(
+    trial: &Trial<'_>,
+    keeper: SqlKeeper<S>,
+) -> Result<(), OfficeError> {
+    let keeper = used_keeper(trial.alloc(), keeper)?;
     is_given_back(trial, again(keeper)?)
+}
+
+fn gives_back(trial: &Trial<'_>) -> Result<(), OfficeError> {
+    gives_back_over(trial, stored(trial.alloc())?)
 }
 
 #[test]

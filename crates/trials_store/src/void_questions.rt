@@ -8,6 +8,7 @@ use crate::plays::{Reached, Task, copies, done_on, empty_files, left, options};
 use office_core::OfficeError;
 use office_plays::builders::{MEMORY, office_after};
 use office_plays::steps::Happens::{self, Load};
+use office_store::SqlKeeper;
 use poll_book::{Change, Keeper, MemKeeper, PointRow, StoreFault, VoidRow};
 use sqlite::{Alter, Connection, Error, ErrorCode, Files, params};
 use sqlite_disk::Memory;
@@ -259,30 +260,36 @@ fn prepared<S: Alter + Drop>(
     Ok(connection)
 }
 
-/// A keeper over these voids in memory, whose questions take few steps each, is told as beside it.
-fn told_beside<S: Alter>(
-    trial: &Trial<'_>,
-    beside: &mut Connection<S>,
-    voids: &str,
-    is_near: bool,
-) -> Result<(), OfficeError> {
-    let alloc = trial.alloc();
-    let mut connection = prepared(alloc, empty(alloc)?, voids)?;
+/// A keeper of a database's tables, whose questions take few steps each.
+fn kept_in<S: Alter + Drop>(mut connection: Connection<S>) -> Result<SqlKeeper<S>, OfficeError> {
     connection.set_step_limit(Some(FEW));
-    let mut keeper = opened(connection).map_err(|(error, _connection)| error)?;
-    told_from_near(trial, &mut keeper, beside, is_near)
+    opened(connection).map_err(|(error, _connection)| error)
 }
 
-/// Over these voids in memory.
-fn told_over(trial: &Trial<'_>, voids: &str, is_near: bool) -> Result<(), OfficeError> {
-    let alloc = trial.alloc();
-    let mut beside = prepared(alloc, empty(alloc)?, voids)?;
-    told_beside(trial, &mut beside, voids, is_near)
+/// A keeper over these voids in one empty database is told as beside it, in another.
+fn told_over<S: Alter + Drop, B: Alter + Drop>(
+    trial: &Trial<'_>,
+    connection: Connection<S>,
+    beside: Connection<B>,
+    (voids, is_near): (&str, bool),
+) -> Result<(), OfficeError> {
+    let mut beside = prepared(trial.alloc(), beside, voids)?;
+    let mut keeper = kept_in(prepared(trial.alloc(), connection, voids)?)?;
+    told_from_near(trial, &mut keeper, &mut beside, is_near)
+}
+
+/// The same of a keeper in memory.
+fn told_beside<S: Alter + Drop>(
+    trial: &Trial<'_>,
+    beside: Connection<S>,
+    table: (&str, bool),
+) -> Result<(), OfficeError> {
+    told_over(trial, empty(trial.alloc())?, beside, table)
 }
 
 fn questions(trial: &Trial<'_>) -> Result<(), OfficeError> {
     for (voids, is_near) in TABLES {
-        told_over(trial, voids, *is_near)?;
+        told_beside(trial, empty(trial.alloc())?, (voids, *is_near))?;
     }
     Ok(())
 }
