@@ -36,6 +36,6 @@ fn compare<K: Keeper>(rt: &HostRuntime, office: &mut Office<K>) -> io::Result<()
 }
 
 pub fn measure(rt: &HostRuntime) -> io::Result<()> {
-    let mut office = granted(Work::Slots(0).begun(rt.alloc()).ok())?;
+    let mut office = granted(Work::Counters(0).begun(rt.alloc()).ok())?;
     compare(rt, &mut office)
 }

@@ -2,9 +2,9 @@
 //! `frames`, `map`, `lists`, `plans`, `office`, `orders`, `late`, `serve` (requests over sockets on 127.0.0.1),
 //! `serve-list` and `window` (the memory of a connection's queries too). `replay=SLOTS` plays a script of so many
 //! slots. But `script` and `script-1000` write a script for `office replay` of 100 or 1,000 slots, `worked` lives
-//! through worked examples, for trials of refused memory, and `fuzz` tries each reader on 100,000 inputs that follow
-//! from a seed, which it prints, `fuzz=SEED` on those of that seed. Without words the program ends at once and prints
-//! nothing.
+//! through worked examples, for trials of refused memory, `map-memory=ORDERS` loads two lists at an office with so many
+//! orders, for such trials too, and `fuzz` tries each reader on 100,000 inputs that follow from a seed, which it prints,
+//! `fuzz=SEED` on those of that seed. Without words the program ends at once and prints nothing.
 #![tactic(auto)]
 
 use anyhow::{Result, bail};
@@ -13,6 +13,7 @@ use std::{env, io};
 mod fuzz;
 mod late;
 mod lists;
+mod map_memory;
 mod modbus;
 mod office;
 mod pace;
@@ -22,12 +23,13 @@ mod window;
 mod worked;
 
 const WORDS: &str =
-    "units frames map lists plans office orders late serve serve-list window script script-1000 worked fuzz fuzz=SEED replay=SLOTS";
+    "units frames map lists plans office orders late serve serve-list window script script-1000 worked map-memory=ORDERS fuzz fuzz=SEED replay=SLOTS";
 
 /// What a measure of this name did with a number; `None` where there is none of it.
 fn measured_with(rt: &HostRuntime, name: &str, number: &str) -> Option<io::Result<()>> {
     Some(match name {
         "fuzz" => fuzz::run(rt, Some(number.parse::<u64>().ok()?)),
+        "map-memory" => map_memory::run(rt, number.parse::<u32>().ok()?),
         "replay" => script::play(rt, number.parse::<u32>().ok()?),
         _ => return None,
     })

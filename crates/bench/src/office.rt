@@ -1,5 +1,5 @@
-//! Keeping readings, replies of 125 registers, slot after slot of 1,000 points; and orders under different
-//! keys, each of them sent and settled by its echo.
+//! Keeping readings of counters and of gauges, replies of 125 registers, slot after slot of 1,000 points; and orders
+//! under different keys, each of them sent and settled by its echo.
 use crate::modbus::reply_bytes;
 use crate::pace::{granted, print_each, timed};
 use mb_mbap::Frame;
@@ -35,13 +35,13 @@ pub fn loaded(alloc: Global, list: &str) -> Result<Office<MemKeeper>, OfficeErro
     Ok(office)
 }
 
-/// The list of so many counters of one register, one behind the other.
-fn counters(alloc: Global) -> Result<String, AllocError> {
+/// The list of so many points of a role, of one register each, one behind the other.
+fn points(alloc: Global, role: &str) -> Result<String, AllocError> {
     let mut text = String::from_str(alloc, HEADER)?;
     for number in 0..POINTS {
         writeln!(
             text,
-            "m1.energy-{number},m1,holding,{number},uint16,,,counter,"
+            "m1.energy-{number},m1,holding,{number},uint16,,,{role},"
         )?;
     }
     Ok(text)
@@ -123,10 +123,11 @@ fn carry_out_all<K: Keeper>(alloc: Global, office: &mut Office<K>, count: u32) -
     (state(office, count) == Ok(Some(OrderState::Done))).then_some(())
 }
 
-/// What an office is used for: readings of so many slots, or so many orders.
+/// What an office is used for: readings of counters or of gauges in so many slots, or so many orders.
 #[derive(Clone, Copy)]
 pub enum Work {
-    Slots(u32),
+    Counters(u32),
+    Gauges(u32),
     Orders(u32),
 }
 
@@ -134,14 +135,15 @@ impl Work {
     /// The list of its points.
     fn list(self, alloc: Global) -> Result<String, AllocError> {
         match self {
-            Work::Slots(_) => counters(alloc),
+            Work::Counters(_) => points(alloc, "counter"),
+            Work::Gauges(_) => points(alloc, "gauge"),
             Work::Orders(_) => format!(in alloc; "{HEADER}{SETTING}"),
         }
     }
 
     fn done<K: Keeper>(self, alloc: Global, office: &mut Office<K>) -> Option<()> {
         match self {
-            Work::Slots(slots) => poll_all(office, slots),
+            Work::Counters(slots) | Work::Gauges(slots) => poll_all(office, slots),
             Work::Orders(count) => carry_out_all(alloc, office, count),
         }
     }
@@ -155,10 +157,12 @@ impl Work {
     fn print<K: Keeper>(self, rt: &HostRuntime, office: &mut Office<K>) -> io::Result<()> {
         let (done, took) = timed!(rt, self.done(rt.alloc(), office));
         granted(done)?;
-        match self {
-            Work::Slots(slots) => print_each(rt, "reading", POINTS.wrapping_mul(slots), took),
-            Work::Orders(count) => print_each(rt, "event of an order", count.wrapping_mul(3), took),
-        }
+        let (what, count) = match self {
+            Work::Counters(slots) => ("reading of a counter", POINTS.wrapping_mul(slots)),
+            Work::Gauges(slots) => ("reading of a gauge", POINTS.wrapping_mul(slots)),
+            Work::Orders(count) => ("event of an order", count.wrapping_mul(3)),
+        };
+        print_each(rt, what, count, took)
     }
 
     /// The same of a new office.
@@ -170,7 +174,8 @@ impl Work {
 
 pub fn readings(rt: &HostRuntime) -> io::Result<()> {
     for slots in [10u32, 100, 1_000] {
-        Work::Slots(slots).measure(rt)?;
+        Work::Counters(slots).measure(rt)?;
+        Work::Gauges(slots).measure(rt)?;
     }
     Ok(())
 }

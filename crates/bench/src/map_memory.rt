@@ -1,14 +1,13 @@
 //! A list at an office that was opened over 300 points, of which some stand in its map of names: what became of it, and
 //! what becomes of it under another key. `.ci/refused` runs this and refuses each of the first list's requests for memory
 //! in turn, which stand between the first and the second line that is printed.
-#![tactic(auto)]
-
-use anyhow::{Result, bail};
+use crate::office::load;
+use crate::pace::granted;
 use office_core::{Office, OfficeError, RequestAnswer};
 use office_plays::builders::{HEADER, MEMORY, begun, named};
-use poll_book::{MemKeeper, Outcome};
+use poll_book::{Keeper, MemKeeper, Outcome};
 use std::alloc::{AllocError, Global};
-use std::env;
+use std::io;
 
 const SITE: &str =
     "[[line]]\nname = \"roof\"\naddress = \"127.0.0.1:502\"\n[[device]]\nname = \"m1\"\nline = \"roof\"\nunit = 17\n";
@@ -20,17 +19,6 @@ fn list(alloc: Global, from: u32, to: u32) -> Result<String, AllocError> {
         writeln!(text, "p{number},m1,holding,{number},uint16,,,setting,")?;
     }
     Ok(text)
-}
-
-// The calls of an office stand in functions that promise nothing of them.
-
-fn load(
-    office: &mut Office<MemKeeper>,
-    key: &str,
-    list: &str,
-) -> Result<RequestAnswer, OfficeError> {
-    let (caller, key) = named(key)?;
-    office.load(&caller, &key, list.as_bytes())
 }
 
 /// An order, behind which one name more stands in the office's map.
@@ -69,29 +57,15 @@ fn told(answer: Result<RequestAnswer, OfficeError>) -> &'static str {
     }
 }
 
-fn print_lists(rt: &HostRuntime, office: &mut Office<MemKeeper>, list: &str) -> Result<()> {
+fn print_lists<K: Keeper>(rt: &HostRuntime, office: &mut Office<K>, list: &str) -> io::Result<()> {
     println!(rt; "opened over {}", office.points().len())?;
     let first = told(load(office, "second", list));
     println!(rt; "{first}")?;
     let again = told(load(office, "third", list));
-    println!(rt; "{again}, {} known", office.points().len())?;
-    Ok(())
+    println!(rt; "{again}, {} known", office.points().len())
 }
 
-/// How many orders the word behind the program's name asks for.
-fn asked(rt: &HostRuntime) -> Result<Option<u32>> {
-    match env::args(rt)?.nth(1) {
-        Some(word) => Ok(word.parse::<u32>().ok()),
-        None => Ok(None),
-    }
-}
-
-fn main(rt: HostRuntime) -> Result<()> {
-    let Some(orders) = asked(&rt)? else {
-        bail!("usage: trials_memory ORDERS");
-    };
-    let Some(mut office) = opened(rt.alloc(), orders) else {
-        bail!("no office");
-    };
-    print_lists(&rt, &mut office, list(rt.alloc(), 280, 320)?.as_str())
+pub fn run(rt: &HostRuntime, orders: u32) -> io::Result<()> {
+    let mut office = granted(opened(rt.alloc(), orders))?;
+    print_lists(rt, &mut office, list(rt.alloc(), 280, 320)?.as_str())
 }
