@@ -1,4 +1,5 @@
-//! Tests of an office that stays up, in a small world with a clock of its own. Nothing stands on this crate.
+//! Tests of an office that stays up, in a small world with a clock of its own, and of what it shows (`shown_`). Nothing
+//! stands on this crate.
 #![tactic(auto)]
 
 #[cfg(test)]
@@ -25,6 +26,12 @@ mod pages;
 mod reports;
 #[cfg(test)]
 mod scenes;
+#[cfg(test)]
+mod shown_names;
+#[cfg(test)]
+mod shown_points;
+#[cfg(test)]
+mod shown_texts;
 #[cfg(test)]
 mod stores;
 #[cfg(test)]

@@ -1,5 +1,5 @@
 //! Texts of the same points and lines, written out.
-use crate::points::{point, reading, seen};
+use crate::shown_points::{point, reading, seen};
 use office_pages::{LineSeen, Seen, Tally, json, metrics, page};
 use point_list::Role;
 use run_beat::Slots;
