@@ -8,18 +8,19 @@ use Rattle.poll_book.specs.declared.keeper.Neighbours.{Ghosts}
 use Rattle.run_beat.specs.declared.sockets.Source.TheVariants as source
 use Rattle.run_beat.specs.Acts.{Act}
 use Rattle.office_core.specs.declared.office.Office.{Office}
-use Rattle.office_run.specs.declared.line.Line.{Line}
-use Rattle.office_run.specs.declared.place.Place.{Place}
-use Rattle.office_run.specs.Callers.{AreEmpty, session_at}
-use Rattle.office_run.specs.Deeds.{GoesBy, Passes}
-use Rattle.office_run.specs.Lines.{AreDown, all_terms, state_at, terms_in, terms_of}
-use Rattle.office_run.specs.Sessions.{AreServed, Free, Session, Through}
-use Rattle.office_run.specs.Wires.{AreWired, Down, LineMoves, State, Terms, terms_at}
-use Rattle.office_run.proofs.Callers.{free_empty}
-use Rattle.office_run.proofs.Deeds.{goes_wider}
+use Rattle.run_lines.specs.declared.line.Line.{Line}
+use Rattle.run_callers.specs.declared.place.Place.{Place}
+use Rattle.run_callers.specs.Callers.{at_of, session_at}
+use Rattle.run_deeds.specs.Deeds.{GoesBy, Passes}
+use Rattle.run_lines.specs.Lines.{place_of, state_at, terms_of}
+use Rattle.run_callers.specs.Sessions.{Free, Session, Through}
+use Rattle.run_lines.specs.Wires.{Down, LineMoves, State, Terms}
+use Rattle.office_run.specs.Beginnings.{AreDown, AreEmpty, all_terms, terms_in}
+use Rattle.office_run.specs.Parts.{AreServed, AreWired, terms_at}
+use Rattle.run_deeds.proofs.Deeds.{goes_wider}
 use Rattle.office_run.proofs.Staying.{Numbered, known, nth}
 
-pub one_more_down : (first : ℕ) (lines : List Line) (line : Line) → AreDown first lines → line.place ≡ first + length lines → state_at line ≡ record { from = 0; wire = Down } → AreDown first (lines ++ line ∷ [])
+pub one_more_down : (first : ℕ) (lines : List Line) (line : Line) → AreDown first lines → place_of line ≡ first + length lines → state_at line ≡ record { from = 0; wire = Down } → AreDown first (lines ++ line ∷ [])
 one_more_down first [] line down at is = (omega (arith, at), is, tt)
 one_more_down first (other ∷ lines) line down at is = (down.0, down.1, one_more_down (suc first) lines line down.2 (omega (arith, at)) is)
 
@@ -32,7 +33,7 @@ one_more_terms lines line all place one so_far named at =
     ∙ sym (map-append terms_in (take place all) (get_or all place one ∷ []))
     ∙ ap (map terms_in) (sym (take-suc all place one at.0) ∙ ap (λ (n : ℕ). take n all) next)
 
-pub numbered_down : (first : ℕ) (lines : List Line) → AreDown first lines → Numbered (λ line. line.place) first lines
+pub numbered_down : (first : ℕ) (lines : List Line) → AreDown first lines → Numbered place_of first lines
 numbered_down first [] down = tt
 numbered_down first (line ∷ lines) down = (down.0, numbered_down (suc first) lines down.2)
 
@@ -45,6 +46,24 @@ named : (lines : List Line) (place : ℕ) → known terms_of (record { name = []
 named [] place = refl
 named (line ∷ lines) zero = refl
 named (line ∷ lines) (suc place) = named lines place
+
+-- ---- places with nobody there
+
+pub one_more_empty : (first : ℕ) (places : List Place) (place : Place) → AreEmpty first places → at_of place ≡ first + length places → session_at place ≡ Free
+    → AreEmpty first (places ++ place ∷ [])
+one_more_empty first [] place empty at free = (omega (arith, at), free, tt)
+one_more_empty first (other ∷ places) place empty at free = (empty.0, empty.1, one_more_empty (suc first) places place empty.2 (omega (arith, at)) free)
+
+pub numbered_empty : (first : ℕ) (places : List Place) → AreEmpty first places → Numbered at_of first places
+numbered_empty first [] empty = tt
+numbered_empty first (place ∷ places) empty = (empty.0, numbered_empty (suc first) places empty.2)
+
+free_empty : (first : ℕ) (places : List Place) (caller : ℕ) → AreEmpty first places → known session_at Free (nth places caller) ≡ Free
+free_empty first [] caller empty = refl
+free_empty first (place ∷ places) zero empty = empty.1
+free_empty first (place ∷ places) (suc caller) empty = free_empty (suc first) places caller empty.2
+
+-- ---- a run
 
 -- each line went on from there, and whoever was taken was served
 pub from_nothing : {K : Type 0} {g : Ghosts K} (old new : Office K g) (acted : List Act → Type 0) (lines lines' : List Line) (places places' : List Place) → AreDown 0 lines → AreEmpty 0 places

@@ -1,9 +1,2 @@
 mod Beginning
-mod Callers
-mod Deeds
-mod Lines
-mod Pages
-mod Passing
-mod Sessions
 mod Staying
-mod Wires

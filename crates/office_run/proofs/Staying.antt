@@ -10,11 +10,11 @@ use Rattle.run_beat.proofs.Along.{by_turn, by_turns}
 use Rattle.office_core.specs.declared.office.Office.{Office}
 use Rattle.office_core.specs.History.{History}
 use Rattle.office_core.specs.Proceeding.{stepped}
-use Rattle.office_run.specs.Deeds.{AllOf, Deed, GoesBy, Is, Passes, steps_of}
-use Rattle.office_run.specs.Sessions.{Exchanges, Free, Moves, Session, Through}
-use Rattle.office_run.specs.Wires.{Down, LineMoves, Lined, State, Terms}
-use Rattle.office_run.proofs.Deeds.{goes_still, goes_then, goes_wider}
-use Rattle.office_run.proofs.Passing.{passes_others, passes_then}
+use Rattle.run_deeds.specs.Deeds.{AllOf, Deed, GoesBy, Is, Passes, steps_of}
+use Rattle.run_callers.specs.Sessions.{Exchanges, Free, Moves, Session, Through}
+use Rattle.run_lines.specs.Wires.{Down, LineMoves, Lined, State, Terms}
+use Rattle.run_deeds.proofs.Deeds.{goes_still, goes_then, goes_wider}
+use Rattle.run_deeds.proofs.Passing.{passes_others, passes_then}
 
 -- what is in the place of a number
 abbrev pub nth : {C : Type 0} → List C → ℕ → Option C

@@ -4,29 +4,25 @@ ghost use Rattle.run_beat.specs.declared.sockets.Source.TheVariants as source;
 ghost use Rattle.point_list.specs.Sites.{IsSound};
 ghost use Rattle.office_core.specs.Offices.{site_of};
 ghost use Rattle.office_core.specs.Proceeding.{GoesAlong, Nothing};
-ghost use Rattle.office_run.specs.Callers.{AreEmpty, session_at};
-ghost use Rattle.office_run.specs.Deeds.{GoesBy};
-ghost use Rattle.office_run.specs.Doings.{Runs};
-ghost use Rattle.office_run.specs.Lines.{AreDown, Keeps, all_terms, site_terms, state_at, terms_of};
-ghost use Rattle.office_run.specs.Sessions.{Acting, AreServed, Exchanges};
-ghost use Rattle.office_run.specs.Wires.{AreWired, Lined};
+ghost use Rattle.run_callers.specs.Callers.{at_of, session_at};
+ghost use Rattle.run_deeds.specs.Deeds.{GoesBy};
+ghost use Rattle.run_deeds.specs.Doings.{Runs};
+ghost use Rattle.run_lines.specs.Lines.{Keeps, place_of, state_at, terms_of};
+ghost use Rattle.run_callers.specs.Sessions.{Acting, Exchanges};
+ghost use Rattle.run_lines.specs.Wires.{Lined};
+ghost use Rattle.office_run.specs.Beginnings.{AreDown, AreEmpty, all_terms, site_terms};
+ghost use Rattle.office_run.specs.Parts.{AreServed, AreWired};
 
-use crate::ahead::Ahead;
-use crate::board::Board;
-use crate::caller::{Hold, News, orders_of};
-use crate::event::Event;
-use crate::journal::Journal;
-use crate::line::Line;
 use crate::pass::Pass;
-use crate::place::Place;
-use crate::times::{Times, earlier};
-use crate::turned::Turned;
 use office_core::Office;
 use point_list::Site;
 use poll_book::{Keeper, StoreFault};
 use run_beat::{
     Called, MOST_CALLERS, MOST_LINES, Moment, Slots, SocketFault, Sockets, Watch, World,
 };
+use run_callers::{Hold, News, Place, orders_of};
+use run_deeds::Board;
+use run_lines::{Ahead, Event, Journal, Line, Times, Turned, earlier};
 use std::alloc::{AllocError, Global};
 use thiserror::Error;
 
@@ -237,9 +233,9 @@ impl<K: Keeper, S: Sockets> Running<'_, K, S> {
         ensures line { Keeps line.old line.new }
     {
         let now = self.moment();
-        let is_admitted = self.lines.admit(line.served, now);
+        let is_admitted = self.lines.admit(line.served(), now);
         if is_admitted {
-            line.served = self.lines.number();
+            line.serve(self.lines.number(), self.voids);
         } else {
             self.expect(line.due());
             self.note_unreached(line);
@@ -250,15 +246,15 @@ impl<K: Keeper, S: Sockets> Running<'_, K, S> {
     /// Whether a place may do something in this turn. If not, it is noted how it stands.
     fn admit(&mut self, place: &mut Place) -> bool
         ensures same { (self.new.office ≡ self.old.office) × (self.new.sockets ≡ self.old.sockets) }
-        ensures place { (place.new.at ≡ place.old.at) × (session_at place.new ≡ session_at place.old) }
+        ensures place { (at_of place.new ≡ at_of place.old) × (session_at place.new ≡ session_at place.old) }
     {
         let now = self.moment();
         if place.at() == 0 {
             self.callers.begin_turn(now);
         }
-        let is_admitted = self.callers.admit(place.served, now);
+        let is_admitted = self.callers.admit(place.served(), now);
         if is_admitted {
-            place.served = self.callers.number();
+            place.serve(self.callers.number());
         } else {
             self.note(place);
         }
@@ -269,7 +265,7 @@ impl<K: Keeper, S: Sockets> Running<'_, K, S> {
     fn note_place(&mut self, place: &mut Place)
         ensures along { (self.new.office.ghost_name ≡ self.old.office.ghost_name) × GoesAlong Nothing self.old.office.now self.new.office.now }
         ensures sockets { self.new.sockets ≡ self.old.sockets }
-        ensures place { (place.new.at ≡ place.old.at) × (session_at place.new ≡ session_at place.old) }
+        ensures place { (at_of place.new ≡ at_of place.old) × (session_at place.new ≡ session_at place.old) }
     {
         self.note(place);
         if let Some(news) = place.news() {
@@ -315,8 +311,8 @@ impl<K: Keeper, S: Sockets> Running<'_, K, S> {
     fn make_room(&mut self, place: &mut Place)
         ensures office { self.new.office ≡ self.old.office }
         ensures name { self.new.sockets.ghost_name ≡ self.old.sockets.ghost_name }
-        ensures at { place.new.at ≡ place.old.at }
-        ensures acts { Acting (source.Caller place.old.at) (λ acts. S.acts self.old.sockets.now acts self.new.sockets.now) (session_at place.old) (session_at place.new) }
+        ensures at { at_of place.new ≡ at_of place.old }
+        ensures acts { Acting (source.Caller (at_of place.old)) (λ acts. S.acts self.old.sockets.now acts self.new.sockets.now) (session_at place.old) (session_at place.new) }
     {
         if self.wanted == Some(place.at()) {
             place.clear(self.sockets);
@@ -417,16 +413,14 @@ impl<K: Keeper, S: Sockets> World for Running<'_, K, S> {
 impl<K: Keeper, S: Sockets> Called<Running<'_, K, S>> for Line {
     // The office and the sockets are the same ones, and what is done with them is of this line alone, and what its connection allows.
     ghost steps = { λ line old _ line' new. (new.office.ghost_name ≡ old.office.ghost_name) × (new.sockets.ghost_name ≡ old.sockets.ghost_name)
-        × (line'.place ≡ line.place) × (terms_of line' ≡ terms_of line)
-        × Lined (terms_of line) (source.Line line.place) old.office.now new.office.now (λ acts. S.acts old.sockets.now acts new.sockets.now) (state_at line) (state_at line') };
+        × (place_of line' ≡ place_of line) × (terms_of line' ≡ terms_of line)
+        × Lined (terms_of line) (source.Line (place_of line)) old.office.now new.office.now (λ acts. S.acts old.sockets.now acts new.sockets.now) (state_at line) (state_at line') };
 
     fn call(&mut self, world: &mut Running<'_, K, S>) -> bool {
         if !world.admit_line(self) {
             return world.lines.is_owed();
         }
         world.look_up(self);
-        let voids = world.voids;
-        self.lookout.note_voids(voids);
         let orders = world.orders.get(self.place()).copied().unwrap_or(0);
         let turned = self.turn(
             world.office,
@@ -444,8 +438,8 @@ impl<K: Keeper, S: Sockets> Called<Running<'_, K, S>> for Line {
 impl<K: Keeper, S: Sockets> Called<Running<'_, K, S>> for Place {
     // The same of this place and its caller's session.
     ghost steps = { λ place old _ place' new. (new.office.ghost_name ≡ old.office.ghost_name) × (new.sockets.ghost_name ≡ old.sockets.ghost_name)
-        × (place'.at ≡ place.at)
-        × Exchanges (source.Caller place.at) old.office.now new.office.now (λ acts. S.acts old.sockets.now acts new.sockets.now) (session_at place) (session_at place') };
+        × (at_of place' ≡ at_of place)
+        × Exchanges (source.Caller (at_of place)) old.office.now new.office.now (λ acts. S.acts old.sockets.now acts new.sockets.now) (session_at place) (session_at place') };
 
     fn call(&mut self, world: &mut Running<'_, K, S>) -> bool {
         if !world.admit(self) {

@@ -4,8 +4,8 @@ use Rattle.std.proofs.lemmas.List.{length_push, take_all}
 use Rattle.std.proofs.lemmas.Option.{slice_get-get_or}
 use Rattle.point_list.specs.Sites.{outstanding_of}
 use Rattle.point_list.specs.declared.site.Line.{Line as SiteLine}
-use Rattle.office_run.specs.declared.line.Line.{Line}
-use Rattle.office_run.specs.Lines.{AreDown, terms_in, all_terms}
+use Rattle.run_lines.specs.declared.line.Line.{Line}
+use Rattle.office_run.specs.Beginnings.{AreDown, all_terms, terms_in}
 use Rattle.office_run.proofs.Beginning.{one_more_down, one_more_terms}
 use Rattle.office_run.proofs.running.lines_of.Goals as goal
 

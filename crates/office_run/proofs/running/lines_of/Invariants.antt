@@ -1,6 +1,6 @@
 use Rattle.std.proofs.Common.{◌≡◌, length}
 use Rattle.std.specs.Prelude.{map, take}
-use Rattle.office_run.specs.Lines.{AreDown, terms_in, all_terms}
+use Rattle.office_run.specs.Beginnings.{AreDown, all_terms, terms_in}
 use Rattle.office_run.proofs.running.lines_of.Given as goal
 
 abbrev pub invariant-loop-place : goal.invariant-loop-place

@@ -1,8 +1,8 @@
 use Rattle.std.proofs.Common.{List, ◌+◌, ℕ, length, ◌∙◌, ap, sym, subst, arith}
 use Rattle.std.proofs.lemmas.List.{length_push}
-use Rattle.office_run.specs.declared.place.Place.{Place}
-use Rattle.office_run.specs.Callers.{AreEmpty}
-use Rattle.office_run.proofs.Callers.{one_more_empty}
+use Rattle.run_callers.specs.declared.place.Place.{Place}
+use Rattle.office_run.specs.Beginnings.{AreEmpty}
+use Rattle.office_run.proofs.Beginning.{one_more_empty}
 use Rattle.office_run.proofs.running.places.Goals as goal
 
 pub loop-at-init : goal.loop-at-init

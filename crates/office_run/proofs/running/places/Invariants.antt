@@ -1,5 +1,5 @@
 use Rattle.std.proofs.Common.{◌≡◌, length}
-use Rattle.office_run.specs.Callers.{AreEmpty}
+use Rattle.office_run.specs.Beginnings.{AreEmpty}
 use Rattle.office_run.proofs.running.places.Given as goal
 
 abbrev pub invariant-loop-at : goal.invariant-loop-at

@@ -1,10 +1,11 @@
 use Rattle.std.proofs.Common.{List, ◌∙◌, ap, refl, subst}
-use Rattle.office_run.specs.Deeds.{GoesBy}
+use Rattle.run_deeds.specs.Deeds.{GoesBy}
 use Rattle.office_core.specs.Offices.{site_of}
-use Rattle.office_run.specs.Lines.{site_terms}
-use Rattle.office_run.specs.Sessions.{AreServed, Free}
-use Rattle.office_run.specs.Wires.{AreWired, Down, Terms}
-use Rattle.office_run.proofs.Deeds.{goes_still}
+use Rattle.office_run.specs.Beginnings.{site_terms}
+use Rattle.office_run.specs.Parts.{AreServed, AreWired}
+use Rattle.run_callers.specs.Sessions.{Free}
+use Rattle.run_lines.specs.Wires.{Down, Terms}
+use Rattle.run_deeds.proofs.Deeds.{goes_still}
 use Rattle.office_run.proofs.running.run.Goals as goal
 
 pub returns-in_err-times-clause-deeds : goal.returns-in_err-times-clause-deeds

@@ -1,14 +1,13 @@
 use Rattle.std.proofs.Common.{List, ap, sym, subst}
-use Rattle.office_run.specs.Callers.{AreEmpty, session_at}
-use Rattle.office_run.specs.Deeds.{GoesBy}
-use Rattle.office_run.specs.Lines.{AreDown, terms_of, all_terms, state_at}
-use Rattle.office_run.specs.Sessions.{AreServed}
-use Rattle.office_run.specs.Wires.{AreWired}
-use Rattle.office_run.specs.declared.line.Line.{Line}
-use Rattle.office_run.specs.declared.place.Place.{Place}
+use Rattle.run_callers.specs.Callers.{at_of, session_at}
+use Rattle.run_deeds.specs.Deeds.{GoesBy}
+use Rattle.run_lines.specs.Lines.{place_of, state_at, terms_of}
+use Rattle.office_run.specs.Beginnings.{AreDown, AreEmpty, all_terms}
+use Rattle.office_run.specs.Parts.{AreServed, AreWired}
+use Rattle.run_lines.specs.declared.line.Line.{Line}
+use Rattle.run_callers.specs.declared.place.Place.{Place}
 use Rattle.office_run.specs.declared.running.Running.{Running}
-use Rattle.office_run.proofs.Beginning.{from_nothing, numbered_down}
-use Rattle.office_run.proofs.Callers.{numbered_empty}
+use Rattle.office_run.proofs.Beginning.{from_nothing, numbered_down, numbered_empty}
 use Rattle.office_run.proofs.Staying.{turns_fail, turns_go}
 use Rattle.office_run.proofs.running.stay.Goals as goal
 
@@ -20,7 +19,7 @@ returns g c =
     let down : AreDown 0 lines = subst (λ (some : List Line). AreDown 0 some) (sym c.deref_mut.ensures.value) c.requires.lines in
     let empty : AreEmpty 0 places = subst (λ (some : List Place). AreEmpty 0 some) (sym c.deref_mut-2.ensures.value) c.requires.places in
     let went = turns_go {W = Running g.row.K.Denot g.row.S.Denot g.K.Neighbours} (λ world. world.office.now) (λ world. world.sockets.now) (λ world. world.office.ghost_name) (λ world. world.sockets.ghost_name)
-    g.S.Sockets.acts g.S.Sockets.rests g.S.Sockets.joins (λ (line : Line). line.place) terms_of state_at (λ (place : Place). place.at) session_at _ _ _
+    g.S.Sockets.acts g.S.Sockets.rests g.S.Sockets.joins place_of terms_of state_at at_of session_at _ _ _
     (λ line one more line' two step. step) (λ place one more place' two step. step)
     (λ one more result two waited. (ap (λ office. office.ghost_name) waited.0, waited.1, ap (λ office. office.now) waited.0, waited.2))
     ran.0 lines places _ _ _ _ ran.1.0 (numbered_down 0 lines down, numbered_empty 0 places empty) in (
@@ -40,7 +39,7 @@ returns-in_err-run g c =
     let down : AreDown 0 lines = subst (λ (some : List Line). AreDown 0 some) (sym c.deref_mut.ensures.value) c.requires.lines in
     let empty : AreEmpty 0 places = subst (λ (some : List Place). AreEmpty 0 some) (sym c.deref_mut-2.ensures.value) c.requires.places in
     let went = turns_fail {W = Running g.row.K.Denot g.row.S.Denot g.K.Neighbours} (λ world. world.office.now) (λ world. world.sockets.now) (λ world. world.office.ghost_name) (λ world. world.sockets.ghost_name)
-    g.S.Sockets.acts g.S.Sockets.rests g.S.Sockets.joins (λ (line : Line). line.place) terms_of state_at (λ (place : Place). place.at) session_at _ _ _
+    g.S.Sockets.acts g.S.Sockets.rests g.S.Sockets.joins place_of terms_of state_at at_of session_at _ _ _
     (λ line one more line' two step. step) (λ place one more place' two step. step)
     (λ one more result two waited. (ap (λ office. office.ghost_name) waited.0, waited.1, ap (λ office. office.now) waited.0, waited.2))
     ran.0 lines _ _ places _ _ _ _ _ _ ran.1.3 ran.1.4 (numbered_down 0 lines down, numbered_empty 0 places empty) in (

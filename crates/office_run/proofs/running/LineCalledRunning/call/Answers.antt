@@ -1,16 +1,16 @@
 use Rattle.std.proofs.Common.{◌≡◌, [], ◌∙◌, ap, refl, sym, subst}
 use Rattle.run_beat.specs.declared.sockets.Source.TheVariants as source
-use Rattle.office_run.specs.Lines.{terms_of, state_at}
-use Rattle.office_run.specs.Wires.{LineMoves, Lined, State}
-use Rattle.office_run.proofs.Lines.{keeps_state, lined_at, one_of, one_then, same_then, terms_same}
-use Rattle.office_run.proofs.Passing.{part_asked, part_still, part_then, then_office}
+use Rattle.run_lines.specs.Lines.{place_of, state_at, terms_of}
+use Rattle.run_lines.specs.Wires.{LineMoves, Lined, State}
+use Rattle.run_lines.proofs.Lines.{keeps_state, lined_at, one_of, one_then, same_then, terms_same}
+use Rattle.run_deeds.proofs.Passing.{part_asked, part_still, part_then, then_office}
 use Rattle.office_run.proofs.running.LineCalledRunning.call.Goals as goal
 
 pub returns : goal.returns
 returns g c =
     let line = c.args.self.now in
     let name = terms_of line in
-    let here = source.Line line.place in
+    let here = source.Line (place_of line) in
     let office = c.args.world.now.office.now in
     let old = c.args.world.now.sockets.now in
     let looked = c.look_up.new.self.sockets.now in

@@ -1,13 +1,13 @@
 use Rattle.std.proofs.Common.{◌≡◌, [], ℕ, ◌∙◌, ap, refl, sym, subst}
 use Rattle.run_beat.specs.declared.sockets.Source.TheVariants as source
-use Rattle.office_run.specs.Callers.{session_at}
-use Rattle.office_run.specs.Sessions.{Acting, Exchanges, Moves, Session}
-use Rattle.office_run.proofs.Passing.{part_acting, part_asked, part_then, then_office}
+use Rattle.run_callers.specs.Callers.{at_of, session_at}
+use Rattle.run_callers.specs.Sessions.{Acting, Exchanges, Moves, Session}
+use Rattle.run_deeds.proofs.Passing.{part_acting, part_asked, part_then, then_office}
 use Rattle.office_run.proofs.running.PlaceCalledRunning.call.Goals as goal
 
 pub returns : goal.returns
 returns g c =
-    let at = c.args.self.now.at in
+    let at = at_of c.args.self.now in
     let here = source.Caller at in
     let office = c.args.world.now.office.now in
     let old = c.args.world.now.sockets.now in

@@ -1,7 +1,0 @@
-use Rattle.office_http.specs.Heard.{meaning_of}
-use Rattle.office_run.proofs.Callers.{asks_no_page}
-use Rattle.office_run.proofs.Sessions.{comes_of}
-use Rattle.office_run.proofs.caller.done.Goals as goal
-
-pub returns : goal.returns
-returns g c = comes_of c.args.office.now c.respond.new.office (meaning_of c.args.heard.now) c.respond.result (asks_no_page c.args.heard.now c.requires) c.respond.ensures.accounts.2 c.respond.ensures.goes

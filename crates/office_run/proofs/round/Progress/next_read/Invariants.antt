@@ -1,5 +1,0 @@
-use Rattle.office_core.specs.Proceeding.{GoesAlong, Nothing}
-use Rattle.office_run.proofs.round.Progress.next_read.Given as goal
-
-abbrev pub invariant-loop-device : goal.invariant-loop-device
-invariant-loop-device g l = GoesAlong Nothing l.fn.office l.office

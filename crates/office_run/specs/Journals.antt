@@ -1,6 +1,0 @@
--- What waits to be told.
-use Rattle.std.specs.Prelude.{ℕ, List}
-use Rattle.office_run.specs.declared.journal.Journal.{Journal}
-
-abbrev pub untold : Journal → List ℕ
-untold journal = journal.out

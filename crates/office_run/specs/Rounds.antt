@@ -1,9 +1,0 @@
--- Queries of rounds.
-use Rattle.std.specs.Prelude.{Option, Some, None}
-use Rattle.mb_mbap.specs.declared.frame.Frame.{Frame}
-use Rattle.office_run.specs.declared.round.Asked.{Asked}
-
--- the frame of a query, if one is made
-abbrev pub query_of : Option Asked → Option Frame
-query_of None = None
-query_of (Some asked) = Some asked.query

@@ -1,0 +1,3 @@
+mod Callers
+mod Pages
+mod Sessions

@@ -1,0 +1,7 @@
+use Rattle.std.proofs.Common.{rules}
+use Rattle.std.proofs.lemmas.Fn.{filter_same}
+use Rattle.run_lines.specs.Windows.{is_under_another}
+use Rattle.run_lines.proofs.window.drop_under.Goals as goal
+
+pub returns-clause-rest : goal.returns-clause-rest
+returns-clause-rest c = filter_same _ (is_under_another c.args.transaction) _ (λ x b f' k. search rules) _ _ c.retain.ensures.filtered

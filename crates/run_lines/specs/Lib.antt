@@ -1,0 +1,13 @@
+pub mod Devices
+pub mod Dues
+pub mod Journals
+pub mod Lines
+pub mod Links
+pub mod Losses
+pub mod Noises
+pub mod Outlooks
+pub mod Rounds
+pub mod Shares
+pub mod Times
+pub mod Windows
+pub mod Wires

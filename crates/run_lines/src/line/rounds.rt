@@ -1,0 +1,265 @@
+//! The rounds of a line: what becomes of one that is under way, and which one is begun.
+ghost use Rattle.std.specs.Prelude.{◌≡◌, [], IfSome};
+ghost use Rattle.office_core.specs.Proceeding.{GoesAlong, Nothing};
+ghost use Rattle.run_lines.specs.Wires.{Settles, rested};
+ghost use Rattle.run_beat.specs.Beats.{Wants};
+
+use crate::event::Event;
+use crate::journal::Journal;
+use crate::line::{Line, one_more};
+use crate::link::Connection;
+use crate::loss::{Loss, Stop};
+use crate::round::Kind;
+use crate::times::Times;
+use office_core::Office;
+use poll_book::Keeper;
+use run_beat::{Delay, Moment, Stage};
+
+/// What becomes of a round that is under way.
+#[derive(Clone, Copy, Debug)]
+enum Becomes {
+    /// It is done.
+    Done,
+    /// Its slot is over, and it isn't done.
+    Cut(Kind, u32),
+    /// Nothing was answered in time.
+    Silent,
+    /// An answer is waited for.
+    Waiting,
+}
+
+impl Line {
+    ghost use Rattle.run_lines.specs.Lines.{Advances, IsSame, Keeps, wire_at};
+
+    /// Counts a round that is done, unless it was of orders alone.
+    fn count_round(&mut self, now: Moment)
+        ensures { Keeps self.old self.new }
+    {
+        let Connection::Up(link) = &self.connection else {
+            return;
+        };
+        if let Some(round) = link.round()
+            && round.kind() == Kind::Whole
+        {
+            let millis = round.began().until(now);
+            self.tally.last_round = Some(millis);
+            one_more(&mut self.tally.rounds);
+        }
+    }
+
+    /// Counts and tells that a round of a slot was cut, unless it was of orders alone.
+    fn tell_cut(&mut self, journal: &mut Journal, kind: Kind, slot: u32)
+        ensures { Keeps self.old self.new }
+    {
+        if kind == Kind::Whole {
+            one_more(&mut self.tally.cut);
+            let line = self.stations.line();
+            journal.tell(&Event::Cut { line, slot });
+        }
+    }
+
+    /// Ends the round that is under way.
+    pub(super) fn end_round(&mut self)
+        ensures same { IsSame self.old self.new }
+        ensures rested { wire_at self.new ≡ rested (wire_at self.old) }
+    {
+        if let Connection::Up(link) = &mut self.connection {
+            link.end_round();
+        }
+        self.beat.rest();
+        if self.is_unbegun {
+            self.beat.again();
+        }
+    }
+
+    /// What becomes of the round that is under way. Until its slot is over a device that was passed over may answer.
+    /// Where nothing was answered then, or for three time-outs, the line is silent.
+    fn becomes(&self, times: Times) -> Option<Becomes> {
+        let Connection::Up(link) = &self.connection else {
+            return None;
+        };
+        let round = link.round()?;
+        let slot = round.slot();
+        let two = round.began().after(self.timeout).after(self.timeout);
+        let has_answer = link.has_answer(slot);
+        let is_over = times.slot().is_some_and(|later| slot < later);
+        let is_done = if has_answer {
+            is_over || !round.has_left(&self.stations)
+        } else {
+            !round.has_asked()
+        };
+        if link.is_settled() && is_done {
+            return Some(Becomes::Done);
+        }
+        if has_answer && is_over {
+            return Some(Becomes::Cut(round.kind(), slot));
+        }
+        if is_over || (!has_answer && two.after(self.timeout) <= times.now) {
+            return Some(Becomes::Silent);
+        }
+        Some(Becomes::Waiting)
+    }
+
+    /// From when on an answer is waited for in the round that is under way: where none came yet, for three time-outs
+    /// from its beginning at most.
+    fn waits_from(&self, now: Moment) -> Moment {
+        let Connection::Up(link) = &self.connection else {
+            return now;
+        };
+        let from = link.waits_from().unwrap_or(now);
+        match link.round() {
+            Some(round) if !link.has_answer(round.slot()) => {
+                from.min(round.began().after(self.timeout).after(self.timeout))
+            }
+            _ => from,
+        }
+    }
+
+    /// Ends the round that is under way where it is done, or its slot is over.
+    pub(super) fn settle(&mut self, journal: &mut Journal, times: Times) -> Result<(), Stop>
+        ensures same { IsSame self.old self.new }
+        ensures settles { Settles (wire_at self.old) (wire_at self.new) }
+    {
+        let now = times.now;
+        match self.becomes(times) {
+            Some(Becomes::Done) => {
+                self.refusals = Delay::none();
+                self.count_round(now);
+                self.end_round();
+                self.stations.tell_silent(journal);
+            }
+            Some(Becomes::Cut(kind, slot)) => {
+                self.tell_cut(journal, kind, slot);
+                self.end_round();
+                self.stations.tell_silent(journal);
+            }
+            Some(Becomes::Silent) => {
+                one_more(&mut self.tally.cut);
+                return Err(Stop::Lost(Loss::Silent));
+            }
+            Some(Becomes::Waiting) => {
+                let from = self.waits_from(now);
+                self.beat.wait_on(from);
+            }
+            None => {}
+        }
+        Ok(())
+    }
+
+    /// Begins a round of a slot.
+    fn begin_round<K: Keeper>(
+        &mut self,
+        office: &mut Office<K>,
+        slot: u32,
+        kind: Kind,
+        now: Moment,
+        orders: u64,
+    ) -> Result<(), Stop>
+        requires { Wants self.old.beat slot }
+        ensures { Advances result self.old self.new office.old office.new (λ acts. acts ≡ []) }
+    {
+        self.stations
+            .plan(self.alloc, office.site(), office.points(), self.place)?;
+        let Connection::Up(link) = &mut self.connection else {
+            return Err(Stop::Lost(Loss::Ended));
+        };
+        let devices = self.stations.as_slice().len();
+        link.start(office, devices, slot, kind, now)?;
+        self.beat.start(slot, now);
+        self.retry = None;
+        self.orders = Some(orders);
+        self.woken = orders;
+        Ok(())
+    }
+
+    /// Looks whether its counters are counted in slots to come, where a slot is to be begun, and that isn't known.
+    fn look<K: Keeper>(&mut self, office: &mut Office<K>, slot: u32) -> Result<(), Stop>
+        ensures along { GoesAlong Nothing office.old office.new }
+        ensures keeps { Keeps self.old self.new }
+    {
+        if !self.lookout.is_unknown() || !self.beat.wants(slot) {
+            return Ok(());
+        }
+        self.stations
+            .plan(self.alloc, office.site(), office.points(), self.place)?;
+        self.lookout.look(office, &self.stations, slot)?;
+        Ok(())
+    }
+
+    /// The same, and stops where one is counted in a slot that is far.
+    pub(super) fn look_ahead<K: Keeper>(
+        &mut self,
+        office: &mut Office<K>,
+        times: &Times,
+    ) -> Result<(), Stop>
+        ensures along { GoesAlong Nothing office.old office.new }
+        ensures keeps { Keeps self.old self.new }
+    {
+        let Some(slot) = times.slot() else {
+            return Ok(());
+        };
+        self.look(office, slot)?;
+        match self.lookout.ahead_of(slot) {
+            Some(ahead) if times.is_far(ahead.slot) => Err(Stop::Ahead(ahead)),
+            _ => Ok(()),
+        }
+    }
+
+    /// The round is begun again, where that is due.
+    fn retry_if_due(&mut self, now: Moment)
+        ensures { Keeps self.old self.new }
+    {
+        let is_due = self.retry.is_some_and(|moment| moment <= now);
+        if is_due {
+            self.retry = None;
+            self.orders = None;
+            self.beat.again();
+        }
+    }
+
+    /// The round that is to be begun: the slot's, if it isn't begun, and no counter of the line is counted in a later
+    /// one. Where orders came since, or while no slot may be begun, since the clock jumped ahead or stands behind one
+    /// that was begun, it is one of orders alone.
+    fn choose(&mut self, times: &Times, orders: u64) -> Option<(u32, Kind)>
+        ensures keeps { Keeps self.old self.new }
+        ensures wanted { IfSome result (λ chosen. Wants self.new.beat chosen.0) }
+    {
+        self.retry_if_due(times.now);
+        let Stage::Resting { polled } = self.beat.stage() else {
+            return None;
+        };
+        if let Some(slot) = times.slot()
+            && self.beat.wants(slot)
+            && self.lookout.admits(slot)
+        {
+            self.is_unbegun = false;
+            return Some((slot, Kind::Whole));
+        }
+        if self.orders == Some(orders) {
+            return None;
+        }
+        self.beat.again();
+        let last = self.beat.from();
+        if !self.beat.wants(last) {
+            return None;
+        }
+        self.is_unbegun = polled.is_none();
+        Some((last, Kind::OrdersAlone))
+    }
+
+    /// Begins a round, where one is to be begun; tells whether it did.
+    pub(super) fn start<K: Keeper>(
+        &mut self,
+        office: &mut Office<K>,
+        times: Times,
+        orders: u64,
+    ) -> Result<bool, Stop>
+        ensures { Advances result self.old self.new office.old office.new (λ acts. acts ≡ []) }
+    {
+        let Some((slot, kind)) = self.choose(&times, orders) else {
+            return Ok(false);
+        };
+        self.begin_round(office, slot, kind, times.now, orders)?;
+        Ok(true)
+    }
+}

@@ -1,0 +1,309 @@
+//! A round of a line: of each of its devices the orders that waited as it began, and then its reads.
+ghost use Rattle.std.specs.Prelude.{◌≡◌, ℕ, IfOk, MatchResult, Some};
+ghost use Rattle.office_core.specs.Proceeding.{GoesAlong, Nothing};
+ghost use Rattle.office_net.specs.Querying.{Makes, Misses};
+ghost use Rattle.run_lines.specs.Rounds.{query_of};
+ghost use Rattle.run_lines.specs.Wires.{Queries};
+
+use crate::share::Share;
+use crate::station::{Station, Stations};
+use crate::window::Window;
+use mb_mbap::Frame;
+use office_core::{Arrival, Office, OfficeError};
+use office_net::{ask_among, last_order, send_among};
+use poll_book::Keeper;
+use poll_match::Conn;
+use run_beat::Moment;
+use std::alloc::Global;
+
+/// What a round does for a slot.
+#[derive(Clone, Copy, Debug, PartialEq, Eq)]
+pub(crate) enum Kind {
+    /// It sends orders, and asks what lacks a reading.
+    Whole,
+    /// It sends orders.
+    OrdersAlone,
+}
+
+impl Kind {
+    /// The reads of a device that have a turn.
+    fn reads_of(self, station: &Station) -> usize {
+        match self {
+            Kind::Whole => station.reads.len(),
+            Kind::OrdersAlone => 0,
+        }
+    }
+}
+
+/// A round under way.
+#[derive(Drop)]
+pub(crate) struct Round {
+    slot: u32,
+    kind: Kind,
+    began: Moment,
+    progress: Progress,
+    // Whether it asked something.
+    has_asked: bool,
+    // Whether nothing was left to be asked when that was looked for last.
+    is_idle: bool,
+}
+
+/// How far each device of the line is.
+#[derive(Drop)]
+struct Progress {
+    shares: Vec<Share>,
+}
+
+/// A query that a round makes, and for what.
+#[derive(Drop)]
+pub(crate) struct Asked {
+    pub query: Frame,
+    /// The place of its device among those of the line.
+    pub device: usize,
+    /// Whether it is for an order.
+    pub is_order: bool,
+}
+
+impl Progress {
+    /// The next order of a device, if one is to be sent.
+    fn order_of<K: Keeper>(
+        &mut self,
+        office: &mut Office<K>,
+        conn: Conn,
+        at: usize,
+        station: &Station,
+    ) -> Result<Option<Frame>, OfficeError>
+        ensures { (slot : ℕ) → MatchResult result (Makes (Queries conn (Some slot)) office.old office.new) (λ _. Misses (Queries conn (Some slot)) office.old office.new) }
+    {
+        let Some(share) = self.shares.get_mut(at) else {
+            return Ok(None);
+        };
+        let Some(last) = share.order() else {
+            return Ok(None);
+        };
+        let query = send_among(office, conn, station.name.as_str(), last)?;
+        match query {
+            Some(_) => share.send(),
+            None => share.finish_orders(),
+        }
+        Ok(query)
+    }
+
+    /// The next read of a device that lacks a reading, if it is to be asked. One that was silent is asked one at a
+    /// time.
+    fn read_of<K: Keeper>(
+        &mut self,
+        office: &mut Office<K>,
+        conn: Conn,
+        slot: u32,
+        at: usize,
+        station: &Station,
+        window: &Window,
+    ) -> Result<Option<Frame>, OfficeError>
+        ensures { MatchResult result (Makes (Queries conn (Some slot)) office.old office.new) (λ _. Misses (Queries conn (Some slot)) office.old office.new) }
+    {
+        if station.is_silent && window.has(at) {
+            return Ok(None);
+        }
+        let Some(share) = self.shares.get_mut(at) else {
+            return Ok(None);
+        };
+        let Some(first) = share.read() else {
+            return Ok(None);
+        };
+        for place in first..station.reads.len() {
+            share.ask(place + 1);
+            let read = &station.reads[place];
+            let query = ask_among(office, conn, slot, station.name.as_str(), read)?;
+            if query.is_some() {
+                return Ok(query);
+            }
+        }
+        Ok(None)
+    }
+
+    /// The next order that is to be sent, in the order of the devices.
+    fn next_order<K: Keeper>(
+        &mut self,
+        office: &mut Office<K>,
+        conn: Conn,
+        stations: &[Station],
+    ) -> Result<Option<Asked>, OfficeError>
+        ensures { (slot : ℕ) → MatchResult result (λ asked. Makes (Queries conn (Some slot)) office.old office.new (query_of asked)) (λ _. Misses (Queries conn (Some slot)) office.old office.new) }
+    {
+        for (device, station) in stations.iter().enumerate() {
+            if let Some(query) = self.order_of(office, conn, device, station)? {
+                return Ok(Some(Asked {
+                    query,
+                    device,
+                    is_order: true,
+                }));
+            }
+        }
+        Ok(None)
+    }
+
+    /// The next read that is to be asked, in the order of the devices.
+    fn next_read<K: Keeper>(
+        &mut self,
+        office: &mut Office<K>,
+        conn: Conn,
+        slot: u32,
+        stations: &[Station],
+        window: &Window,
+    ) -> Result<Option<Asked>, OfficeError>
+        ensures { MatchResult result (λ asked. Makes (Queries conn (Some slot)) office.old office.new (query_of asked)) (λ _. Misses (Queries conn (Some slot)) office.old office.new) }
+    {
+        for (device, station) in stations.iter().enumerate() {
+            if let Some(query) = self.read_of(office, conn, slot, device, station, window)? {
+                return Ok(Some(Asked {
+                    query,
+                    device,
+                    is_order: false,
+                }));
+            }
+        }
+        Ok(None)
+    }
+
+    /// What is asked next: orders first.
+    fn next_asked<K: Keeper>(
+        &mut self,
+        office: &mut Office<K>,
+        conn: Conn,
+        slot: u32,
+        kind: Kind,
+        stations: &[Station],
+        window: &Window,
+    ) -> Result<Option<Asked>, OfficeError>
+        ensures { MatchResult result (λ asked. Makes (Queries conn (Some slot)) office.old office.new (query_of asked)) (λ _. Misses (Queries conn (Some slot)) office.old office.new) }
+    {
+        let order = self.next_order(office, conn, stations)?;
+        if order.is_some() || kind == Kind::OrdersAlone {
+            return Ok(order);
+        }
+        self.next_read(office, conn, slot, stations, window)
+    }
+
+    /// Orders came, of which the last one has this number: they are sent to the devices that are done.
+    fn wake(&mut self, last: u32, kind: Kind, stations: &[Station]) {
+        for (place, station) in stations.iter().enumerate() {
+            if let Some(share) = self.shares.get_mut(place) {
+                share.wake(last, kind.reads_of(station));
+            }
+        }
+    }
+}
+
+impl Round {
+    /// A round of a slot over a line of so many devices begins.
+    pub fn begin<K: Keeper>(
+        alloc: Global,
+        office: &mut Office<K>,
+        devices: usize,
+        slot: u32,
+        kind: Kind,
+        now: Moment,
+    ) -> Result<Round, OfficeError>
+        ensures along { GoesAlong Nothing office.old office.new }
+        ensures slot { IfOk result (λ round. round.slot ≡ slot) }
+    {
+        let last = last_order(office)?;
+        Ok(Round {
+            slot,
+            kind,
+            began: now,
+            progress: Progress {
+                shares: vec![in alloc; Share::new(last); devices]?,
+            },
+            has_asked: false,
+            is_idle: false,
+        })
+    }
+
+    pub fn slot(&self) -> u32 {
+        self.slot
+    }
+
+    pub fn kind(&self) -> Kind {
+        self.kind
+    }
+
+    pub fn began(&self) -> Moment {
+        self.began
+    }
+
+    /// Whether nothing is left to be asked, as it was looked for last.
+    pub fn is_idle(&self) -> bool {
+        self.is_idle
+    }
+
+    /// Whether it asked something.
+    pub fn has_asked(&self) -> bool {
+        self.has_asked
+    }
+
+    /// What is asked next, beside what waits.
+    pub fn next<K: Keeper>(
+        &mut self,
+        office: &mut Office<K>,
+        conn: Conn,
+        stations: &Stations,
+        window: &Window,
+    ) -> Result<Option<Asked>, OfficeError>
+        ensures made { MatchResult result (λ asked. Makes (Queries conn (Some self.old.slot)) office.old office.new (query_of asked)) (λ _. Misses (Queries conn (Some self.old.slot)) office.old office.new) }
+        ensures slot { self.new.slot ≡ self.old.slot }
+    {
+        let (slot, kind) = (self.slot, self.kind);
+        let stations = stations.as_slice();
+        let asked = self
+            .progress
+            .next_asked(office, conn, slot, kind, stations, window)?;
+        self.is_idle = asked.is_none();
+        self.has_asked |= asked.is_some();
+        Ok(asked)
+    }
+
+    /// Whether a device was passed over before all that it is asked had its turn.
+    pub fn has_left(&self, stations: &Stations) -> bool {
+        self.progress.shares.iter().zip(stations.as_slice()).any(|(share, station)| share.is_left(
+            self.kind.reads_of(station),
+        ))
+    }
+
+    /// A device answered, to what was sent for an order or to something else; none where the store refused the answer.
+    pub fn hear(&mut self, device: usize, is_order: bool, arrival: Option<Arrival>)
+        ensures { self.new.slot ≡ self.old.slot }
+    {
+        if let Some(share) = self.progress.shares.get_mut(device) {
+            share.resume();
+            if is_order {
+                share.settle(arrival);
+            }
+        }
+    }
+
+    /// A device didn't answer in time.
+    pub fn pass(&mut self, device: usize)
+        ensures { self.new.slot ≡ self.old.slot }
+    {
+        if let Some(share) = self.progress.shares.get_mut(device) {
+            share.pass();
+        }
+    }
+
+    /// Orders came: they are sent to the devices that are done.
+    pub fn wake<K: Keeper>(
+        &mut self,
+        office: &mut Office<K>,
+        stations: &Stations,
+    ) -> Result<(), OfficeError>
+        ensures along { GoesAlong Nothing office.old office.new }
+        ensures slot { self.new.slot ≡ self.old.slot }
+    {
+        let last = last_order(office)?;
+        let kind = self.kind;
+        self.progress.wake(last, kind, stations.as_slice());
+        Ok(())
+    }
+}

@@ -1,0 +1,165 @@
+//! The devices of a line, and what each of them is asked.
+ghost use Rattle.std.specs.Prelude.{◌≡◌};
+ghost use Rattle.std.specs.List.{list_any, position};
+ghost use Rattle.run_lines.specs.Devices.{devices_in, is_named, is_under};
+
+use crate::event::Event;
+use crate::journal::Journal;
+use office_net::reads_of;
+use point_list::{Device, Site, Text};
+use poll_book::PointRow;
+use read_planner::Read;
+use std::alloc::{AllocError, Global};
+
+/// A device of a line.
+#[derive(Drop)]
+pub(crate) struct Station {
+    pub name: Text,
+    pub unit_id: u8,
+    /// What it is asked in each slot.
+    pub reads: Vec<Read>,
+    /// Whether it didn't answer in time, and hasn't answered since.
+    pub is_silent: bool,
+    // Whether that was told.
+    is_told: bool,
+}
+
+/// The devices of a line, in the site's order.
+#[derive(Drop)]
+pub(crate) struct Stations {
+    line: Text,
+    all: Vec<Station>,
+    // So many points were known as its reads were planned; none were yet.
+    known: Option<usize>,
+}
+
+/// A device, of which is known so much of the one that was planned before in its place.
+fn station_of(
+    alloc: Global,
+    device: &Device,
+    known: &[PointRow],
+    former: Option<&Station>,
+) -> Result<Station, AllocError> {
+    let (is_silent, is_told) = match former {
+        Some(former) => (former.is_silent, former.is_told),
+        None => (false, false),
+    };
+    Ok(Station {
+        name: device.name.clone()?,
+        unit_id: device.unit,
+        reads: reads_of(alloc, known, device)?,
+        is_silent,
+        is_told,
+    })
+}
+
+impl Stations {
+    /// Those of a line of this name, of which nothing is planned yet.
+    pub fn new(alloc: Global, line: Text) -> Stations
+        ensures { result.line ≡ line }
+    {
+        Stations {
+            line,
+            all: Vec::new(alloc),
+            known: None,
+        }
+    }
+
+    /// Plans the reads of a line's devices, unless no point came since that was done last.
+    pub fn plan(
+        &mut self,
+        alloc: Global,
+        site: &Site,
+        known: &[PointRow],
+        line: usize,
+    ) -> Result<(), AllocError>
+        ensures { self.new.line ≡ self.old.line }
+    {
+        if self.known == Some(known.len()) {
+            return Ok(());
+        }
+        let mut all = Vec::new(alloc);
+        for device in site.devices.as_slice() {
+            if usize::from(device.line) == line {
+                let former = self.all.get(all.len());
+                all.push(station_of(alloc, device, known, former)?)?;
+            }
+        }
+        self.all = all;
+        self.known = Some(known.len());
+        Ok(())
+    }
+
+    pub fn as_slice(&self) -> &[Station]
+        ensures { result.now ≡ devices_in self.now }
+    {
+        &self.all
+    }
+
+    /// The place of the device with a unit identifier.
+    pub fn place_of(&self, unit_id: u8) -> Option<usize>
+        ensures { result ≡ position (is_under unit_id) (devices_in self.now) }
+    {
+        self.all
+            .iter()
+            .position(|station| station.unit_id == unit_id)
+    }
+
+    /// Whether one of this name is among them.
+    pub fn have(&self, device: &str) -> bool
+        ensures { result ≡ list_any (is_named device.now) (devices_in self.now) }
+    {
+        self.all
+            .iter()
+            .any(|station| station.name.as_str() == device)
+    }
+
+    /// The line's name.
+    pub fn line(&self) -> &str
+        ensures { result.now ≡ self.now.line }
+    {
+        self.line.as_str()
+    }
+
+    /// A device didn't answer in time.
+    pub fn fall_silent(&mut self, at: usize)
+        ensures { self.new.line ≡ self.old.line }
+    {
+        if let Some(station) = self.all.get_mut(at) {
+            station.is_silent = true;
+        }
+    }
+
+    /// A device answers. Where it was told that it is silent, this is told too.
+    pub fn answer(&mut self, at: usize, journal: &mut Journal)
+        ensures { self.new.line ≡ self.old.line }
+    {
+        let Some(station) = self.all.get_mut(at) else {
+            return;
+        };
+        station.is_silent = false;
+        if station.is_told {
+            station.is_told = false;
+            journal.tell(&Event::Back {
+                line: self.line.as_str(),
+                device: station.name.as_str(),
+            });
+        }
+    }
+
+    /// Tells which devices are silent, where that is new.
+    pub fn tell_silent(&mut self, journal: &mut Journal)
+        ensures { self.new.line ≡ self.old.line }
+    {
+        let line = self.line.as_str();
+        for station in &mut self.all {
+            if station.is_silent && !station.is_told {
+                station.is_told = true;
+                journal.tell(&Event::Silent {
+                    line,
+                    device: station.name.as_str(),
+                });
+            }
+        }
+    }
+}
