@@ -108,12 +108,21 @@ impl<'a, R: Clock + Net, E: Write + Drop> System<'a, R, E> {
         Ok(())
     }
 
+    /// A line answers where it is.
+    fn stay(&mut self, line: usize)
+        ensures { self.new.ports ≡ self.old.ports }
+    {
+        if let Some(address) = self.addresses.get_mut(line) {
+            address.stay();
+        }
+    }
+
     /// Begins to connect to a line.
     fn begin(&mut self, line: usize) -> io::Result<()>
         ensures ok { OnOk result (places_of self.new ≡ with_socket (Source.Line line) true (places_of self.old)) }
         ensures err { OnErr result (places_of self.new ≡ places_of self.old) }
     {
-        let Some(address) = self.addresses.get(line).and_then(Address::found) else {
+        let Some(address) = self.addresses.get_mut(line).and_then(Address::next) else {
             return Err(io::Error::from(ErrorKind::NotFound));
         };
         let stream = TcpStream::connect(self.rt, address)?;
@@ -206,7 +215,11 @@ impl<R: Clock + Net, E: Write + Drop> Sockets for System<'_, R, E> {
     }
 
     fn read(&mut self, source: Source, piece: &mut [u8]) -> Came {
-        self.ports.read(source, piece)
+        let came = self.ports.read(source, piece);
+        if let (Source::Line(line), Came::Bytes(_)) = (source, came) {
+            self.stay(line);
+        }
+        came
     }
 
     fn write(&mut self, source: Source, bytes: &[u8]) -> Sent {
