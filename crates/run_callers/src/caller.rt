@@ -128,11 +128,14 @@ pub fn orders_of<K: Keeper>(office: &mut Office<K>) -> Result<u32, StoreFault>
     }
 }
 
-/// Whether there are other orders than up to this number; also where the store doesn't tell it.
-fn has_more<K: Keeper>(office: &mut Office<K>, before: u32) -> bool
+/// Whether there are other orders than up to this number; where the store doesn't tell it, whether one was answered.
+fn has_more<K: Keeper>(office: &mut Office<K>, before: u32, is_told: bool) -> bool
     ensures { GoesAlong Nothing office.old office.new }
 {
-    orders_of(office) != Ok(before)
+    match orders_of(office) {
+        Ok(number) => number != before,
+        Err(_) => is_told,
+    }
 }
 
 /// Does what was asked for, which is no page, and gives the bytes of the answer.
@@ -225,7 +228,8 @@ impl Caller {
         mem::replace(&mut self.news, NO_NEWS)
     }
 
-    /// Does what an order for a point asks for. Where it was accepted, it is noted for which line.
+    /// Does what an order for a point asks for. Where it was accepted, it is noted for which line, also where memory is
+    /// refused for the answer.
     fn order<K: Keeper>(
         &mut self,
         office: &mut Office<K>,
@@ -238,7 +242,8 @@ impl Caller {
     {
         let before = orders_of(office)?;
         let told = done(self.alloc, office, heard);
-        if told.is_ok() && has_more(office, before) {
+        let is_told = told.is_ok();
+        if has_more(office, before, is_told) {
             self.news.ordered = line_of(office, point);
         }
         told
