@@ -76,11 +76,4 @@ impl Pass {
         }
         true
     }
-
-    /// Whether one is owed.
-    pub fn is_owed(self) -> bool
-        ensures { result ≡ self.is_owed }
-    {
-        self.is_owed
-    }
 }

@@ -393,7 +393,8 @@ impl<K: Keeper, S: Sockets> World for Running<'_, K, S> {
     fn wait(&mut self, is_more: bool) -> Result<(), SocketFault> {
         self.choose();
         let has_told = self.journal.write(self.sockets);
-        let most = if is_more || has_told || self.wanted.is_some() || self.to_look_up.is_some() {
+        let is_more = is_more || has_told || self.fault.is_some();
+        let most = if is_more || self.wanted.is_some() || self.to_look_up.is_some() {
             0
         } else {
             self.patience()
@@ -418,7 +419,8 @@ impl<K: Keeper, S: Sockets> Called<Running<'_, K, S>> for Line {
 
     fn call(&mut self, world: &mut Running<'_, K, S>) -> bool {
         if !world.admit_line(self) {
-            return world.lines.is_owed();
+            // What it had to do behind its turn in this pass is still to be done, and what is owed, too.
+            return true;
         }
         world.look_up(self);
         let orders = world.orders.get(self.place()).copied().unwrap_or(0);
@@ -443,7 +445,7 @@ impl<K: Keeper, S: Sockets> Called<Running<'_, K, S>> for Place {
 
     fn call(&mut self, world: &mut Running<'_, K, S>) -> bool {
         if !world.admit(self) {
-            return world.callers.is_owed();
+            return true;
         }
         world.make_room(self);
         let is_more = self.turn(world.office, world.sockets, world.board, world.times.now);
@@ -548,8 +550,8 @@ fn turns<K: Keeper, S: Sockets>(
 
 /// Keeps an office up until the run is to end: each line of its site polls each slot, over a connection that stays
 /// and is made again where it was lost; an order that comes is sent at once; and callers are answered. A device
-/// is given so many milliseconds for each answer. A fault is memory's as it begins, the system's, or the store's where
-/// it is broken.
+/// is given so many milliseconds for each answer. A fault is memory's as it begins, the system's, the store's where it
+/// is broken, or a counter's that is counted in a slot a day ahead.
 pub fn run<K: Keeper, S: Sockets>(
     alloc: Global,
     office: &mut Office<K>,
