@@ -15,12 +15,12 @@ pub struct Seen {
 pub struct Tally {
     /// Rounds that ended whole.
     pub rounds: u64,
-    /// Rounds that the end of their slot, or of their line, cut.
+    /// Rounds that the end of their slot, or of their line's connection, cut.
     pub cut: u64,
     pub queries: u64,
     pub readings: u64,
     pub exceptions: u64,
-    /// Frames that answered nothing.
+    /// Frames that answered nothing, or what was answered.
     pub refused: u64,
     /// How many milliseconds the last whole round took.
     pub last_round: Option<u64>,

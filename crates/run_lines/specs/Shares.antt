@@ -63,10 +63,10 @@ passed share = record share { orders = when_sent Ended share.orders; is_passed =
 abbrev pub resumed : Share → Share
 resumed share = record share { is_passed = false }
 
--- orders that came later are sent where none waited any more, and all reads had their turn
+-- orders that came since are sent where none waited any more, and all reads had their turn
 abbrev pub woken_at : ℕ → Share → Orders → Bool → Share
 woken_at last share Done true = record share { orders = Next; last = last }
 woken_at last share orders all = share
 
 abbrev pub woken : ℕ → ℕ → Share → Share
-woken last reads share = woken_at last share share.orders (share.reads == reads)
+woken last reads share = woken_at last share share.orders (share.reads == reads && nat_lt share.last last)

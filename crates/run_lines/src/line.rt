@@ -47,8 +47,14 @@ pub struct Line {
     woken: u64,
     // Whether the slot counts as not begun behind the round that is under way.
     is_unbegun: bool,
+    // The clock's slot as the round that is under way began, which ends with that one.
+    begun_in: u32,
+    // Whether a round began in this turn.
+    has_begun: bool,
     // The slot is begun again then, since the store refused something of it.
     retry: Option<Moment>,
+    // Whether none is begun before that: the store refused as no round was under way.
+    is_paused: bool,
     refusals: Delay,
     noise: Noise,
     // Whether it couldn't be reached since it was looked up where it is, and when that was.
@@ -97,7 +103,10 @@ impl Line {
             orders: None,
             woken: 0,
             is_unbegun: false,
+            begun_in: 0,
+            has_begun: false,
             retry: None,
+            is_paused: false,
             refusals: Delay::none(),
             noise: Noise::none(),
             is_unreached: false,
@@ -221,6 +230,15 @@ impl Line {
         }
     }
 
+    /// Tells that it is down, where it can't be reached and that is new.
+    fn tell_unreached(&mut self, journal: &mut Journal)
+        ensures { Keeps self.old self.new }
+    {
+        if self.is_unreached && matches!(self.connection, Connection::Down) {
+            self.tell_down(journal, Loss::Unreached);
+        }
+    }
+
     /// Closes its connection, if there is one. It is left alone for a while.
     fn lose<S: Sockets>(&mut self, sockets: &mut S, journal: &mut Journal, now: Moment, why: Loss)
         ensures same { IsSame self.old self.new }
@@ -228,6 +246,7 @@ impl Line {
         ensures acts { S.acts sockets.old (Closes (source_of self.old) ∷ []) sockets.new }
     {
         sockets.close(self.source());
+        self.count_cut();
         self.connection = Connection::Down;
         self.stuck = None;
         self.retry = None;
@@ -457,7 +476,7 @@ impl Line {
         self.woken = orders;
         match &mut self.connection {
             Connection::Up(link) => {
-                link.wake(office, &self.stations)?;
+                link.wake(office)?;
                 Ok(())
             }
             _ => Err(Stop::Lost(Loss::Ended)),
@@ -614,12 +633,14 @@ impl Line {
         }
     }
 
-    /// The store refused: the round that is under way ends, and the slot is begun again a while later.
+    /// The store refused: the round that is under way ends, and the slot is begun again a while later. Where none was,
+    /// none is begun before.
     fn refuse(&mut self, now: Moment)
         ensures same { IsSame self.old self.new }
         ensures rested { wire_at self.new ≡ rested (wire_at self.old) }
     {
         self.is_unbegun = false;
+        self.is_paused = self.round().is_none();
         self.end_round();
         self.refusals = self.refusals.longer();
         self.retry = Some(now.after(self.refusals.millis()));
@@ -635,11 +656,12 @@ impl Line {
         }
     }
 
-    /// Counts what was asked, and tells what is new of its counters.
+    /// Counts what was asked, and tells what is new of it and of its counters.
     fn note<K: Keeper>(&mut self, office: &Office<K>, journal: &mut Journal, times: &Times)
         ensures { Keeps self.old self.new }
     {
         self.count_queries();
+        self.tell_unreached(journal);
         self.tell_ahead(office, journal, times);
     }
 
@@ -658,6 +680,7 @@ impl Line {
         let now = times.now;
         let acted = self.act(office, sockets, journal, times, orders);
         self.note(office, journal, &times);
+        let has_begun = mem::replace(&mut self.has_begun, false);
         let mut turned = Turned {
             is_more: false,
             refused: None,
@@ -665,7 +688,8 @@ impl Line {
             ahead: None,
         };
         match acted {
-            Ok(is_more) => turned.is_more = is_more,
+            // What is to be asked in a round that just began may be nothing: then it is done at once.
+            Ok(is_more) => turned.is_more = is_more || has_begun,
             Err(stop) => match stop {
                 Stop::Lost(why) => {
                     self.lose(sockets, journal, now, why);

@@ -347,16 +347,12 @@ impl Link {
     }
 
     /// Orders came.
-    pub fn wake<K: Keeper>(
-        &mut self,
-        office: &mut Office<K>,
-        stations: &Stations,
-    ) -> Result<(), OfficeError>
+    pub fn wake<K: Keeper>(&mut self, office: &mut Office<K>) -> Result<(), OfficeError>
         ensures along { GoesAlong Nothing office.old office.new }
         ensures wire { wire_of self.new ≡ wire_of self.old }
     {
         match &mut self.round {
-            Some(round) => round.wake(office, stations),
+            Some(round) => round.wake(office),
             None => Ok(()),
         }
     }

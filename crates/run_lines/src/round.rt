@@ -41,6 +41,8 @@ pub(crate) struct Round {
     slot: u32,
     kind: Kind,
     began: Moment,
+    // Orders up to this number are sent: those that came since it began once the reads of their device had their turn.
+    last: u32,
     progress: Progress,
     // Whether it asked something.
     has_asked: bool,
@@ -185,13 +187,35 @@ impl Progress {
         self.next_read(office, conn, slot, stations, window)
     }
 
-    /// Orders came, of which the last one has this number: they are sent to the devices that are done.
+    /// Orders up to a number are to be sent: also those that came since, to the devices that are done.
     fn wake(&mut self, last: u32, kind: Kind, stations: &[Station]) {
         for (place, station) in stations.iter().enumerate() {
             if let Some(share) = self.shares.get_mut(place) {
                 share.wake(last, kind.reads_of(station));
             }
         }
+    }
+
+    /// What is asked next, where orders up to a number are to be sent: those of a device that is done by that, too.
+    fn next<K: Keeper>(
+        &mut self,
+        office: &mut Office<K>,
+        conn: Conn,
+        slot: u32,
+        kind: Kind,
+        last: u32,
+        stations: &[Station],
+        window: &Window,
+    ) -> Result<Option<Asked>, OfficeError>
+        ensures { MatchResult result (λ asked. Makes (Queries conn (Some slot)) office.old office.new (query_of asked)) (λ _. Misses (Queries conn (Some slot)) office.old office.new) }
+    {
+        self.wake(last, kind, stations);
+        let asked = self.next_asked(office, conn, slot, kind, stations, window)?;
+        if asked.is_some() {
+            return Ok(asked);
+        }
+        self.wake(last, kind, stations);
+        self.next_order(office, conn, stations)
     }
 }
 
@@ -213,6 +237,7 @@ impl Round {
             slot,
             kind,
             began: now,
+            last,
             progress: Progress {
                 shares: vec![in alloc; Share::new(last); devices]?,
             },
@@ -254,11 +279,11 @@ impl Round {
         ensures made { MatchResult result (λ asked. Makes (Queries conn (Some self.old.slot)) office.old office.new (query_of asked)) (λ _. Misses (Queries conn (Some self.old.slot)) office.old office.new) }
         ensures slot { self.new.slot ≡ self.old.slot }
     {
-        let (slot, kind) = (self.slot, self.kind);
+        let (slot, kind, last) = (self.slot, self.kind, self.last);
         let stations = stations.as_slice();
         let asked = self
             .progress
-            .next_asked(office, conn, slot, kind, stations, window)?;
+            .next(office, conn, slot, kind, last, stations, window)?;
         self.is_idle = asked.is_none();
         self.has_asked |= asked.is_some();
         Ok(asked)
@@ -292,18 +317,12 @@ impl Round {
         }
     }
 
-    /// Orders came: they are sent to the devices that are done.
-    pub fn wake<K: Keeper>(
-        &mut self,
-        office: &mut Office<K>,
-        stations: &Stations,
-    ) -> Result<(), OfficeError>
+    /// Orders came: they are sent once the reads of their device had their turn.
+    pub fn wake<K: Keeper>(&mut self, office: &mut Office<K>) -> Result<(), OfficeError>
         ensures along { GoesAlong Nothing office.old office.new }
         ensures slot { self.new.slot ≡ self.old.slot }
     {
-        let last = last_order(office)?;
-        let kind = self.kind;
-        self.progress.wake(last, kind, stations.as_slice());
+        self.last = last_order(office)?;
         Ok(())
     }
 }

@@ -122,11 +122,11 @@ impl Share {
         self.is_passed = false;
     }
 
-    /// Orders up to a number wait, too: they are sent where all of its reads, so many, had their turn.
+    /// Orders up to a later number wait, too: they are sent once all of its reads, so many, had their turn.
     pub fn wake(&mut self, last: u32, reads: usize)
         ensures { self.new ≡ shares.woken last reads self.old }
     {
-        if self.orders == Orders::Done && self.reads == reads {
+        if self.orders == Orders::Done && self.reads == reads && self.last < last {
             self.orders = Orders::Next;
             self.last = last;
         }

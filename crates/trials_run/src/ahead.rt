@@ -1,8 +1,8 @@
 //! A store in which a counter is counted in a slot to come.
 use crate::guest::Speech;
-use crate::orders::{ASKED, ORDER, OrderDone};
+use crate::orders::{ASKED, ORDER, OrderDone, ROOF_LATE};
 use crate::scenes::{
-    Left, Look, assert_readings, assert_told, assert_total, look_behind_new, world,
+    Left, Look, assert_readings, assert_told, assert_total, look_behind_new, world, world_of,
 };
 use office_core::OfficeError;
 use office_plays::steps::Happens::{self, Arrive, Ask, Open};
@@ -97,6 +97,18 @@ fn ordered(trial: &Trial<'_>) -> Result<(), OfficeError> {
 #[test]
 fn an_order_is_sent_while_a_line_waits(rt: HostRuntime) -> Result<(), Fail> {
     Ok(twice!(rt, ordered)?)
+}
+
+/// The same where the device takes a second for its answer.
+fn ordered_late(trial: &Trial<'_>) -> Result<(), OfficeError> {
+    let speeches = [Speech::at_once(5_000, ORDER), Speech::at_once(6_001, ASKED)];
+    let world = world_of(trial.alloc(), 7_000, &ROOF_LATE, &speeches)?;
+    look_behind_new(trial, SOON, world, &OrderDone)
+}
+
+#[test]
+fn an_order_is_waited_for_while_a_line_waits(rt: HostRuntime) -> Result<(), Fail> {
+    Ok(twice!(rt, ordered_late)?)
 }
 
 /// The run has ended for it.

@@ -185,6 +185,22 @@ fn an_answer_may_take_many_writes(rt: HostRuntime) -> Result<(), Fail> {
     Ok(twice!(rt, narrow)?)
 }
 
+/// What it says takes longer to be read than all may take in a turn, so that the other places are owed one.
+fn paced(trial: &Trial<'_>) -> Result<(), OfficeError> {
+    let speeches = [Speech::at_once(4_000, WHOLE)];
+    let world = world(trial.alloc(), 12_000, &[], &speeches)?.with_pace(30);
+    let each = Each {
+        heard: ANSWER,
+        gone: 4_030,
+    };
+    look_behind_new(trial, &[], world, &each)
+}
+
+#[test]
+fn an_answer_waits_for_no_more_than_the_others_turn(rt: HostRuntime) -> Result<(), Fail> {
+    Ok(twice!(rt, paced)?)
+}
+
 /// A head whose lines end by LF alone (RFC 9112, section 2.2).
 const SHORT_ENDS: &str = "PUT /callers/ann/orders/k1 HTTP/1.1\nContent-Length: 26\n\n";
 

@@ -1,4 +1,6 @@
 //! Gateways: a line with several devices, of which one doesn't answer, or answers late.
+use crate::guest::Speech;
+use crate::orders::ORDER;
 use crate::scenes::{
     Behind, Left, Look, assert_readings, assert_told, look_behind, office_over, world_of,
 };
@@ -24,10 +26,19 @@ const IMAGE: &str =
     "[[unit]]\nid = 1\nholding_start = 41\nholding = [0]\n[[unit]]\nid = 2\nholding_start = 41\nholding = [0]\n";
 
 /// The seconds of both devices; of the near one twenty times, so that it has twenty reads more than the far one.
-const POINTS: &[Happens] = &[Load(
-    "l1",
-    "near,near,holding,41,uint16,,,gauge,\nfar,far,holding,41,uint16,,,gauge,\na0,near,holding,100,uint16,,,gauge,\na1,near,holding,102,uint16,,,gauge,\na2,near,holding,104,uint16,,,gauge,\na3,near,holding,106,uint16,,,gauge,\na4,near,holding,108,uint16,,,gauge,\na5,near,holding,110,uint16,,,gauge,\na6,near,holding,112,uint16,,,gauge,\na7,near,holding,114,uint16,,,gauge,\na8,near,holding,116,uint16,,,gauge,\na9,near,holding,118,uint16,,,gauge,\nb0,near,holding,120,uint16,,,gauge,\nb1,near,holding,122,uint16,,,gauge,\nb2,near,holding,124,uint16,,,gauge,\nb3,near,holding,126,uint16,,,gauge,\nb4,near,holding,128,uint16,,,gauge,\nb5,near,holding,130,uint16,,,gauge,\nb6,near,holding,132,uint16,,,gauge,\nb7,near,holding,134,uint16,,,gauge,\nb8,near,holding,136,uint16,,,gauge,\nb9,near,holding,138,uint16,,,gauge,\n",
-)];
+const LIST: &str =
+    "near,near,holding,41,uint16,,,gauge,\nfar,far,holding,41,uint16,,,gauge,\na0,near,holding,100,uint16,,,gauge,\na1,near,holding,102,uint16,,,gauge,\na2,near,holding,104,uint16,,,gauge,\na3,near,holding,106,uint16,,,gauge,\na4,near,holding,108,uint16,,,gauge,\na5,near,holding,110,uint16,,,gauge,\na6,near,holding,112,uint16,,,gauge,\na7,near,holding,114,uint16,,,gauge,\na8,near,holding,116,uint16,,,gauge,\na9,near,holding,118,uint16,,,gauge,\nb0,near,holding,120,uint16,,,gauge,\nb1,near,holding,122,uint16,,,gauge,\nb2,near,holding,124,uint16,,,gauge,\nb3,near,holding,126,uint16,,,gauge,\nb4,near,holding,128,uint16,,,gauge,\nb5,near,holding,130,uint16,,,gauge,\nb6,near,holding,132,uint16,,,gauge,\nb7,near,holding,134,uint16,,,gauge,\nb8,near,holding,136,uint16,,,gauge,\nb9,near,holding,138,uint16,,,gauge,\n";
+
+const POINTS: &[Happens] = &[Load("l1", LIST)];
+
+/// The same devices, of which the far one has a register to set.
+const IMAGE_WITH_LIMIT: &str =
+    "[[unit]]\nid = 1\nholding_start = 41\nholding = [0]\n[[unit]]\nid = 2\nholding_start = 40\nholding = [0, 0]\n";
+
+const POINTS_WITH_LIMIT: &[Happens] = &[
+    Load("l1", LIST),
+    Load("l2", "lim,far,holding,40,uint16,,,setting,\n"),
+];
 
 /// A run for so many milliseconds, what is wrong with the near device, and what comes of it.
 struct Run {
@@ -64,20 +75,36 @@ impl Look<MemKeeper> for Run {
     }
 }
 
-/// A world of the gateway that ends after so many milliseconds.
-fn gateway(alloc: Global, ends: u64, spells: &'static [Spell]) -> Result<World, OfficeError> {
+/// A world of the gateway, and of callers, that ends after so many milliseconds.
+fn gateway(
+    alloc: Global,
+    image: &'static str,
+    run: &Run,
+    speeches: &[Speech],
+) -> Result<World, OfficeError> {
     let lines = [Behind {
-        image: IMAGE,
-        spells,
+        image,
+        spells: run.spells,
     }];
-    world_of(alloc, ends, &lines, &[])
+    world_of(alloc, run.ends, &lines, speeches)
+}
+
+/// Expects what comes of a run over a gateway of a site and its points.
+fn assert_in(
+    trial: &Trial<'_>,
+    site: &str,
+    points: &[Happens],
+    world: World,
+    run: &Run,
+) -> Result<(), OfficeError> {
+    let alloc = trial.alloc();
+    let office = office_over(alloc, MemKeeper::new(alloc), site, points)?;
+    look_behind(trial, office, world, run)
 }
 
 fn assert_run(trial: &Trial<'_>, site: &str, run: &Run) -> Result<(), OfficeError> {
-    let alloc = trial.alloc();
-    let office = office_over(alloc, MemKeeper::new(alloc), site, POINTS)?;
-    let world = gateway(alloc, run.ends, run.spells)?;
-    look_behind(trial, office, world, run)
+    let world = gateway(trial.alloc(), IMAGE, run, &[])?;
+    assert_in(trial, site, POINTS, world, run)
 }
 
 /// The near device answers nothing.
@@ -218,4 +245,52 @@ fn behind(trial: &Trial<'_>) -> Result<(), OfficeError> {
 #[test]
 fn an_answer_to_the_slot_before_is_recorded_in_it(rt: HostRuntime) -> Result<(), Fail> {
     Ok(twice!(rt, behind)?)
+}
+
+const ANOTHER: &str =
+    "PUT /callers/ann/orders/k2 HTTP/1.1\r\nContent-Length: 26\r\n\r\n{\"point\":\"lim\",\"value\":81}";
+
+/// The near device answers nothing, so that the round lasts as long as the slot; the far one takes a second.
+const ORDERED: Run = Run {
+    ends: 7_000,
+    spells: &[
+        Spell {
+            trouble: Trouble::Silent,
+            unit: Some(1),
+            from: 0,
+            to: u64::MAX,
+        },
+        Spell {
+            trouble: Trouble::Late(1_000),
+            unit: Some(2),
+            from: 0,
+            to: u64::MAX,
+        },
+    ],
+    told: SAID_SILENT,
+    asked: &[
+        (0, 1, 16),
+        (2000, 2, 1),
+        (3000, 1, 1),
+        (3000, 2, 1),
+        (4500, 2, 1),
+        (5500, 2, 1),
+    ],
+    near: &[],
+    far: &[(100, 2), (101, 3)],
+};
+
+/// Two orders come in the midst of a round, the second before the first is answered.
+fn ordered(trial: &Trial<'_>) -> Result<(), OfficeError> {
+    let speeches = [
+        Speech::at_once(4_500, ORDER),
+        Speech::at_once(4_600, ANOTHER),
+    ];
+    let world = gateway(trial.alloc(), IMAGE_WITH_LIMIT, &ORDERED, &speeches)?;
+    assert_in(trial, SITE, POINTS_WITH_LIMIT, world, &ORDERED)
+}
+
+#[test]
+fn an_order_is_sent_once_the_one_before_is_answered(rt: HostRuntime) -> Result<(), Fail> {
+    Ok(twice!(rt, ordered)?)
 }

@@ -108,6 +108,30 @@ fn a_refused_connection_is_tried_again(rt: HostRuntime) -> Result<(), Fail> {
     Ok(twice!(rt, refusing)?)
 }
 
+/// No connection can be begun to it for eight seconds.
+const NOWHERE: Run = Run {
+    ends: 18_000,
+    cellar: &[Spell {
+        trouble: Trouble::Nowhere,
+        unit: None,
+        from: 0,
+        to: 8_000,
+    }],
+    begun: &[15_000],
+    told: "1970-01-01T00:08:22Z office: line cellar is down: it can't be reached\n1970-01-01T00:08:22Z office: line roof is up\n1970-01-01T00:08:22Z office: it took 30 ms to look up where line cellar is\n1970-01-01T00:08:37Z office: line cellar is up\n",
+    roof: &[(100, 0), (101, 3), (102, 8), (103, 13)],
+    readings: &[(103, 15)],
+};
+
+fn nowhere(trial: &Trial<'_>) -> Result<(), OfficeError> {
+    assert_run(trial, &NOWHERE)
+}
+
+#[test]
+fn a_line_to_which_no_connection_can_be_begun_is_told(rt: HostRuntime) -> Result<(), Fail> {
+    Ok(twice!(rt, nowhere)?)
+}
+
 /// It is elsewhere now, and is looked up once. Its name is asked for no more often than once a minute.
 const MOVED: Run = Run {
     ends: 8_000,

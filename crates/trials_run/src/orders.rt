@@ -177,7 +177,7 @@ fn a_request_that_is_repeated_wakes_no_line(rt: HostRuntime) -> Result<(), Fail>
 }
 
 /// The roof answers a second later.
-const ROOF_LATE: [Behind; 2] = [
+pub(crate) const ROOF_LATE: [Behind; 2] = [
     Behind {
         image: IMAGE,
         spells: &[Spell {

@@ -1,6 +1,7 @@
 //! Pages over HTTP, which are shown part by part.
 use crate::guest::Speech;
 use crate::scenes::{Left, Look, look_behind_new, world};
+use crate::wire::{Spell, Trouble};
 use office_core::OfficeError;
 use office_plays::steps::Happens::{self, Load};
 use office_plays::steps::push;
@@ -237,4 +238,58 @@ fn told_in_parts(trial: &Trial<'_>) -> Result<(), OfficeError> {
 #[test]
 fn pages_are_shown_part_by_part(rt: HostRuntime) -> Result<(), Fail> {
     Ok(twice!(rt, told_in_parts)?)
+}
+
+/// The cellar's round of slot 101 is cut as its connection ends, and begun again. Then the connection ends once more, and
+/// nothing lacks in a round behind that.
+const LOST_TWICE: &[Spell] = &[
+    Spell {
+        trouble: Trouble::Late(2_000),
+        unit: None,
+        from: 3_000,
+        to: 4_000,
+    },
+    Spell {
+        trouble: Trouble::Away,
+        unit: None,
+        from: 4_000,
+        to: 4_500,
+    },
+    Spell {
+        trouble: Trouble::Away,
+        unit: None,
+        from: 6_000,
+        to: 6_500,
+    },
+];
+
+const COUNTS: &[&str] = &[
+    "kimjolde_line_rounds_total{line=\"cellar\"} 3\n",
+    "kimjolde_line_rounds_cut_total{line=\"cellar\"} 1\n",
+    "kimjolde_line_last_round_seconds{line=\"cellar\"} 0.000\n",
+    "# EOF\n",
+];
+
+/// These counts were told.
+struct Counted;
+
+impl Look<MemKeeper> for Counted {
+    fn look(&self, trial: &Trial<'_>, left: &mut Left<MemKeeper>) -> Result<(), OfficeError> {
+        for guest in &left.world.guests.all {
+            let heard = str::from_utf8(guest.heard.as_slice()).unwrap_or("no text");
+            trial.told(&"behind the counts", &behind(heard, COUNTS), &Some(""));
+        }
+        Ok(())
+    }
+}
+
+fn lost_twice(trial: &Trial<'_>) -> Result<(), OfficeError> {
+    let speeches = [Speech::at_once(7_500, "GET /metrics HTTP/1.1\r\n\r\n")];
+    let world = world(trial.alloc(), 12_000, LOST_TWICE, &speeches)?;
+    look_behind_new(trial, &[], world, &Counted)
+}
+
+#[test]
+fn each_round_is_counted_once_as_it_ended(rt: HostRuntime) -> Result<(), Fail> {
+    Ok(twice!(rt, lost_twice)?)
 }

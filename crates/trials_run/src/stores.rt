@@ -46,6 +46,48 @@ fn a_slot_is_begun_again_where_the_store_was_full(rt: HostRuntime) -> Result<(),
     Ok(twice!(rt, full)?)
 }
 
+/// The same, and an order comes that is kept before the slot is begun again.
+fn full_until_an_order(trial: &Trial<'_>) -> Result<(), OfficeError> {
+    let alloc = trial.alloc();
+    let keeper = Refusing::changes(alloc, 5, 9, StoreFault::Full);
+    let world = world(alloc, 18_000, &[], &[Speech::at_once(5_000, ORDER)])?;
+    let mut left = keep_up_in(alloc, keeper, &[], world)?;
+    assert_told(
+        trial,
+        &left.world,
+        "1970-01-01T00:08:22Z office: line roof is up\n1970-01-01T00:08:22Z office: line cellar is up\n1970-01-01T00:08:25Z office: the store refuses: full\n1970-01-01T00:08:27Z office: the store takes what comes again\n",
+    );
+    assert_readings(
+        trial,
+        &mut left.office,
+        "e",
+        &[(100, 0), (101, 6), (102, 8), (103, 13)],
+    )
+}
+
+#[test]
+fn an_order_leaves_a_slot_that_is_begun_again(rt: HostRuntime) -> Result<(), Fail> {
+    Ok(twice!(rt, full_until_an_order)?)
+}
+
+/// From a call on each is refused: each line asks a second later, then two, and so on.
+fn refusing_all(trial: &Trial<'_>) -> Result<(), OfficeError> {
+    let keeper = Refusing::from(trial.alloc(), 41, StoreFault::Other);
+    let office = ran_over(
+        trial,
+        keeper,
+        Ok(()),
+        "1970-01-01T00:08:22Z office: line roof is up\n1970-01-01T00:08:22Z office: line cellar is up\n1970-01-01T00:08:30Z office: the store refuses: other\n",
+    )?;
+    trial.told(&"few calls", &(office.into_keeper().calls < 60), &true);
+    Ok(())
+}
+
+#[test]
+fn a_store_that_refuses_all_is_asked_now_and_then(rt: HostRuntime) -> Result<(), Fail> {
+    Ok(twice!(rt, refusing_all)?)
+}
+
 /// One call is told that a file failed.
 fn passing(trial: &Trial<'_>) -> Result<(), OfficeError> {
     let keeper = Refusing::new(trial.alloc(), 41, StoreFault::Disk);

@@ -25,6 +25,8 @@ pub(crate) enum Trouble {
     Away,
     /// The same, until it is looked up where it is.
     Moved,
+    /// None can be begun.
+    Nowhere,
     /// The line sends what nobody asked for, as fast as it is read.
     Flooding,
     /// The line takes no bytes.
@@ -166,6 +168,11 @@ impl Wire {
             }
         }
         first
+    }
+
+    /// Whether no connection can be begun.
+    pub fn is_nowhere(&self, now: u64) -> bool {
+        self.has(Trouble::Nowhere, now)
     }
 
     /// A connection is begun.

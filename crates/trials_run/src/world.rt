@@ -35,6 +35,8 @@ pub(crate) struct World {
     has_news: bool,
     // A write to a caller takes so many bytes at most.
     most: usize,
+    // What is read of a caller takes so many milliseconds.
+    pace: u64,
     // Which lines and which callers' places have a socket.
     lines: Vec<bool>,
     callers: Vec<bool>,
@@ -82,6 +84,7 @@ impl World {
             is_over: false,
             has_news: false,
             most: usize::MAX,
+            pace: 0,
             lines: vec![in alloc; false; wires.len()]?,
             callers: vec![in alloc; false; MOST_CALLERS]?,
             wires,
@@ -94,6 +97,11 @@ impl World {
     /// The same world, where a write to a caller takes so many bytes at most.
     pub fn with_most(self, most: usize) -> World {
         World { most, ..self }
+    }
+
+    /// The same world, where what is read of a caller takes so many milliseconds.
+    pub fn with_pace(self, pace: u64) -> World {
+        World { pace, ..self }
     }
 
     /// The same world, where the clock is set.
@@ -164,7 +172,7 @@ impl Sockets for World {
         let Some(wire) = self.wires.get_mut(line) else {
             return Err(SocketFault::Connect);
         };
-        if wire.begin(self.now).is_err() {
+        if wire.is_nowhere(self.now) || wire.begin(self.now).is_err() {
             return Err(SocketFault::Connect);
         }
         put(&mut self.lines, line, true);
@@ -214,7 +222,13 @@ impl Sockets for World {
                 None => Came::Failed,
             },
             Source::Caller(caller) if has(&self.callers, caller) => match self.guests.at(caller) {
-                Some(guest) => guest.read(piece, self.now),
+                Some(guest) => {
+                    let came = guest.read(piece, self.now);
+                    if let Came::Bytes(_) = came {
+                        self.now = self.now.saturating_add(self.pace);
+                    }
+                    came
+                }
                 None => Came::Failed,
             },
             _ => Came::Failed,

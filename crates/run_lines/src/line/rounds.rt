@@ -9,7 +9,7 @@ use crate::journal::Journal;
 use crate::line::{Line, one_more};
 use crate::link::Connection;
 use crate::loss::{Loss, Stop};
-use crate::round::Kind;
+use crate::round::{Kind, Round};
 use crate::times::Times;
 use office_core::Office;
 use poll_book::Keeper;
@@ -28,8 +28,36 @@ enum Becomes {
     Waiting,
 }
 
+/// When the slot is begun again that the store refused, as a round begins: where that isn't of orders alone, it is by that.
+fn retry_beside(retry: Option<Moment>, kind: Kind) -> Option<Moment> {
+    match kind {
+        Kind::Whole => None,
+        Kind::OrdersAlone => retry,
+    }
+}
+
 impl Line {
     ghost use Rattle.run_lines.specs.Lines.{Advances, IsSame, Keeps, wire_at};
+
+    /// The round that is under way.
+    pub(super) fn round(&self) -> Option<&Round> {
+        match &self.connection {
+            Connection::Up(link) => link.round(),
+            _ => None,
+        }
+    }
+
+    /// Counts a round that its line cuts, if one is under way, and isn't of orders alone.
+    pub(super) fn count_cut(&mut self)
+        ensures { Keeps self.old self.new }
+    {
+        let is_whole = self
+            .round()
+            .is_some_and(|round| round.kind() == Kind::Whole);
+        if is_whole {
+            one_more(&mut self.tally.cut);
+        }
+    }
 
     /// Counts a round that is done, unless it was of orders alone.
     fn count_round(&mut self, now: Moment)
@@ -82,7 +110,8 @@ impl Line {
         let slot = round.slot();
         let two = round.began().after(self.timeout).after(self.timeout);
         let has_answer = link.has_answer(slot);
-        let is_over = times.slot().is_some_and(|later| slot < later);
+        let begun_in = self.begun_in;
+        let is_over = times.slot().is_some_and(|later| begun_in < later);
         let is_done = if has_answer {
             is_over || !round.has_left(&self.stations)
         } else {
@@ -133,10 +162,7 @@ impl Line {
                 self.end_round();
                 self.stations.tell_silent(journal);
             }
-            Some(Becomes::Silent) => {
-                one_more(&mut self.tally.cut);
-                return Err(Stop::Lost(Loss::Silent));
-            }
+            Some(Becomes::Silent) => return Err(Stop::Lost(Loss::Silent)),
             Some(Becomes::Waiting) => {
                 let from = self.waits_from(now);
                 self.beat.wait_on(from);
@@ -152,12 +178,13 @@ impl Line {
         office: &mut Office<K>,
         slot: u32,
         kind: Kind,
-        now: Moment,
+        times: &Times,
         orders: u64,
     ) -> Result<(), Stop>
         requires { Wants self.old.beat slot }
         ensures { Advances result self.old self.new office.old office.new (λ acts. acts ≡ []) }
     {
+        let now = times.now;
         self.stations
             .plan(self.alloc, office.site(), office.points(), self.place)?;
         let Connection::Up(link) = &mut self.connection else {
@@ -166,18 +193,30 @@ impl Line {
         let devices = self.stations.as_slice().len();
         link.start(office, devices, slot, kind, now)?;
         self.beat.start(slot, now);
-        self.retry = None;
+        self.begun_in = times.slot().unwrap_or(slot).max(slot);
+        self.has_begun = true;
+        self.retry = retry_beside(self.retry, kind);
         self.orders = Some(orders);
         self.woken = orders;
         Ok(())
     }
 
+    /// Whether no round is begun, since the store refused a while ago.
+    fn pauses(&self, now: Moment) -> bool {
+        self.is_paused && self.retry.is_some_and(|moment| now < moment)
+    }
+
     /// Looks whether its counters are counted in slots to come, where a slot is to be begun, and that isn't known.
-    fn look<K: Keeper>(&mut self, office: &mut Office<K>, slot: u32) -> Result<(), Stop>
+    fn look<K: Keeper>(
+        &mut self,
+        office: &mut Office<K>,
+        slot: u32,
+        now: Moment,
+    ) -> Result<(), Stop>
         ensures along { GoesAlong Nothing office.old office.new }
         ensures keeps { Keeps self.old self.new }
     {
-        if !self.lookout.is_unknown() || !self.beat.wants(slot) {
+        if self.pauses(now) || !self.lookout.is_unknown() || !self.beat.wants(slot) {
             return Ok(());
         }
         self.stations
@@ -198,19 +237,20 @@ impl Line {
         let Some(slot) = times.slot() else {
             return Ok(());
         };
-        self.look(office, slot)?;
+        self.look(office, slot, times.now)?;
         match self.lookout.ahead_of(slot) {
             Some(ahead) if times.is_far(ahead.slot) => Err(Stop::Ahead(ahead)),
             _ => Ok(()),
         }
     }
 
-    /// The round is begun again, where that is due.
+    /// The round is begun again, where that is due, and none is under way.
     fn retry_if_due(&mut self, now: Moment)
         ensures { Keeps self.old self.new }
     {
+        let is_resting = matches!(self.beat.stage(), Stage::Resting { .. });
         let is_due = self.retry.is_some_and(|moment| moment <= now);
-        if is_due {
+        if is_due && is_resting {
             self.retry = None;
             self.orders = None;
             self.beat.again();
@@ -224,6 +264,9 @@ impl Line {
         ensures keeps { Keeps self.old self.new }
         ensures wanted { IfSome result (λ chosen. Wants self.new.beat chosen.0) }
     {
+        if self.pauses(times.now) {
+            return None;
+        }
         self.retry_if_due(times.now);
         let Stage::Resting { polled } = self.beat.stage() else {
             return None;
@@ -259,7 +302,7 @@ impl Line {
         let Some((slot, kind)) = self.choose(&times, orders) else {
             return Ok(false);
         };
-        self.begin_round(office, slot, kind, times.now, orders)?;
+        self.begin_round(office, slot, kind, &times, orders)?;
         Ok(true)
     }
 }
