@@ -163,7 +163,7 @@ pub(crate) fn with_clock<'a>(alloc: Global, command: Command<'a>) -> Result<Comm
         "every",
         "SECONDS",
         "60",
-        "The length of a slot, 1 to 86400 seconds; slot 0 began with 1970",
+        "The length of a slot, longer than the timeout, 86400 seconds at most; slot 0 began with 1970",
     )
 }
 
@@ -191,18 +191,16 @@ pub(crate) fn with_door<'a>(alloc: Global, command: Command<'a>) -> Result<Comma
     )
 }
 
-pub(crate) fn with_store<'a>(alloc: Global, command: Command<'a>) -> Result<Command<'a>, AllocError>
+pub(crate) fn with_store<'a>(
+    alloc: Global,
+    command: Command<'a>,
+    help: &'a str,
+) -> Result<Command<'a>, AllocError>
     requires { (out-Command command).has_globals ≡ false }
     ensures line { IfOk result (λ c. line_of c ≡ with_value (line_of command.entry) (option (codes "store"))) }
     ensures plain { IfOk result (λ c. (out-Command c).has_globals ≡ false) }
 {
-    with_option(
-        alloc,
-        command,
-        "store",
-        "FILE",
-        "The file of the office, made if it isn't there, as roof.db",
-    )
+    with_option(alloc, command, "store", "FILE", help)
 }
 
 /// A command with what each one in an office has: its store, its site and a timeout.
@@ -215,7 +213,11 @@ pub(crate) fn with_office<'a>(
     ensures line { IfOk result (λ c. line_of c ≡ with_values (line_of command.entry) (store ∷ site ∷ timeout ∷ [])) }
     ensures plain { IfOk result (λ c. (out-Command c).has_globals ≡ false) }
 {
-    let command = with_store(alloc, command)?;
+    let command = with_store(
+        alloc,
+        command,
+        "The file of the office, made if it isn't there, as roof.db",
+    )?;
     let command = with_site(alloc, command)?;
     let command = with_timeout(alloc, command, timeout_help)?;
     Ok(command)

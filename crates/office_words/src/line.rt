@@ -318,7 +318,7 @@ fn migrate<'a>(alloc: Global) -> Result<Command<'a>, AllocError>
         "Moves a store of version 1 to version 2, whole or not at all",
         "Moves a store of version 1 to version 2, whole or not at all.\n\nExample: office migrate --store roof.db",
     );
-    let command = with_store(alloc, command)?;
+    let command = with_store(alloc, command, "The file of the office, as roof.db")?;
     let command = with_timeout(alloc, command, STORE_ALONE)?;
     Ok(command)
 }
