@@ -44,7 +44,7 @@ pub(crate) fn text_of(bytes: &[u8]) -> &str {
 pub(crate) fn office(world: &mut World<'_>, line: &str) -> Result<String, Trouble> {
     let alloc = world.rt.alloc();
     world.output = Vec::new(alloc);
-    let status = run(world, words_of(alloc, line)?)?;
+    let status = run(world, words_of(alloc, line)?);
     let mut text = String::from_str(alloc, text_of(&world.output))?;
     if status != 0 {
         writeln!(text, "status {status}")?;
@@ -143,26 +143,35 @@ fn input_of(world: &World<'_>, name: &str) -> Result<Bytes, Trouble> {
     }
 }
 
-/// What the program prints for words, behind which ` < ` and the file of its standard input may stand, and then
-/// ` > /dev/full`, to which nothing can be written.
-fn redirected(world: &mut World<'_>, line: &str) -> Result<String, Trouble> {
-    let (line, is_full) = match line.strip_suffix(" > /dev/full") {
+/// A line without an end, and whether it has that.
+fn without<'l>(line: &'l str, end: &str) -> (&'l str, bool) {
+    match line.strip_suffix(end) {
         Some(line) => (line, true),
         None => (line, false),
-    };
+    }
+}
+
+/// What the program prints for words, behind which ` < ` and the file of its standard input may stand, and then
+/// ` > /dev/full` and ` 2> /dev/full`, to which nothing can be written.
+fn redirected(world: &mut World<'_>, line: &str) -> Result<String, Trouble> {
+    let (line, errors_are_full) = without(line, " 2> /dev/full");
+    let (line, output_is_full) = without(line, " > /dev/full");
     let (line, input) = match line.split_once(" < ") {
         Some((line, name)) => (line, input_of(world, name)?),
         None => (line, world.no_input()),
     };
     world.input = input;
-    world.output_is_full = is_full;
+    world.output_is_full = output_is_full;
+    world.errors_are_full = errors_are_full;
     let told = office(world, line);
     world.output_is_full = false;
+    world.errors_are_full = false;
     told
 }
 
 /// What a command prints: `cd` to a folder below, `office` with words, with a file as standard input behind ` < ` or a
-/// full standard output, or going on behind the others with ` &` at its end, and `curl` of the server that goes on.
+/// full standard output or standard error, or going on behind the others with ` &` at its end, and `curl` of the server
+/// that goes on.
 pub(crate) fn typed(world: &mut World<'_>, command: &str) -> Result<String, Trouble> {
     let alloc = world.rt.alloc();
     if let Some(path) = command.strip_prefix("cd ") {

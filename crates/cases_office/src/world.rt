@@ -94,6 +94,10 @@ pub(crate) struct World<'a> {
     pub(crate) output: Vec<u8>,
     /// Whether standard output is full.
     pub(crate) output_is_full: bool,
+    /// Whether standard error is.
+    pub(crate) errors_are_full: bool,
+    /// How often it was told that memory or a store refused.
+    pub(crate) refusals: u32,
 }
 
 /// The folder of a page.
@@ -139,6 +143,8 @@ impl<'a> World<'a> {
             request: Vec::new(alloc),
             output: Vec::new(alloc),
             output_is_full: false,
+            errors_are_full: false,
+            refusals: 0,
         })
     }
 
@@ -164,6 +170,11 @@ impl<'a> World<'a> {
             }
             Err(error) => Err(Failure::new(Fault::File, Why::System(error)).of(alloc, path)),
         }
+    }
+
+    /// It was told that memory or a store refused.
+    pub(crate) fn count_refusal(&mut self) {
+        self.refusals = self.refusals.saturating_add(1);
     }
 
     /// Whether a server of the page has this store open.
@@ -345,6 +356,9 @@ impl<'a> Host for World<'a> {
     }
 
     fn complain(&mut self, failure: &Failure) -> io::Result<()> {
+        if self.errors_are_full {
+            return Err(io::Error::from(ErrorKind::StorageFull));
+        }
         let text = format!(in self.rt.alloc(); "office: {failure}\n")?;
         Ok(self.output.extend_from_slice(text.as_bytes())?)
     }

@@ -4,7 +4,7 @@ ghost use Rattle.point_list.specs.Sites.{IsSound};
 use crate::stores::{migrate_on, work_on};
 use office_commands::{
     Failure, Fault, Host, Migration, Stay, Stores, Task, Timed, Why, addresses_of, connect,
-    door_of, serve, stay_up,
+    door_of, serve, stay_up, take_next,
 };
 use office_core::Office;
 use point_list::Site;
@@ -24,16 +24,19 @@ fn seconds(count: u16) -> Duration {
     Duration::from_secs(u64::from(count))
 }
 
+/// Says where it listens. Where that can't be written, callers are answered all the same.
+fn announce(rt: &HostRuntime, address: SocketAddr) {
+    let _ = eprintln!(rt; "office: listening on {address}");
+}
+
 /// Listens on this host, and says so.
 fn listen(rt: &HostRuntime, port: u16) -> Result<TcpListener, Failure> {
     let (listener, address) = match bound(rt, port) {
         Ok(bound) => bound,
         Err(error) => return Err(on_port(rt, error, port)),
     };
-    match eprintln!(rt; "office: listening on {address}") {
-        Ok(()) => Ok(listener),
-        Err(_) => Err(Failure::from(Fault::File)),
-    }
+    announce(rt, address);
+    Ok(listener)
 }
 
 fn bound(rt: &HostRuntime, port: u16) -> io::Result<(TcpListener, SocketAddr)> {
@@ -52,29 +55,23 @@ fn system_of<'a, K: Keeper>(
     let addresses = addresses_of(rt.alloc(), office.site())?;
     let system = match System::new(rt, rt.alloc(), door, addresses, rt.stderr()) {
         Ok(system) => system,
-        Err(error) => return Err(line_failure(error).of(rt.alloc(), stay.bind)),
+        Err(error) => return Err(Failure::of_line(error).of(rt.alloc(), stay.bind)),
     };
     let address = match system.address() {
         Ok(address) => address,
-        Err(error) => return Err(line_failure(error)),
+        Err(error) => return Err(Failure::of_line(error)),
     };
-    match eprintln!(rt; "office: listening on {address}") {
-        Ok(()) => Ok(system),
-        Err(_) => Err(Failure::from(Fault::File)),
-    }
+    announce(rt, address);
+    Ok(system)
 }
 
 /// A port of this host failed.
 fn on_port(rt: &HostRuntime, error: io::Error, port: u16) -> Failure {
-    let failure = line_failure(error);
+    let failure = Failure::of_line(error);
     match format!(in rt.alloc(); "127.0.0.1:{port}") {
         Ok(address) => failure.of(rt.alloc(), address.as_str()),
         Err(_) => failure,
     }
-}
-
-fn line_failure(error: io::Error) -> Failure {
-    Failure::new(Fault::Line, Why::System(error))
 }
 
 /// Both ends of a stream to devices, which waits so many seconds for each answer.
@@ -89,12 +86,11 @@ fn device_ends(
     Ok((reader, writer))
 }
 
-/// Both ends of the first connection to a listener, which waits as long as it likes.
-fn caller_ends<'a>(
-    rt: &'a HostRuntime,
-    listener: &TcpListener,
-) -> io::Result<(Timed<'a, HostRuntime>, Timed<'a, HostRuntime>)> {
-    let (stream, _) = listener.accept()?;
+/// Both ends of a stream that waits as long as its peer likes.
+fn endless_ends(
+    rt: &HostRuntime,
+    stream: TcpStream,
+) -> io::Result<(Timed<'_, HostRuntime>, Timed<'_, HostRuntime>)> {
     let same = stream.try_clone()?;
     Ok((Timed::endless(rt, stream), Timed::endless(rt, same)))
 }
@@ -145,15 +141,15 @@ impl<'a> Host for Machine<'a> {
         };
         match device_ends(self.0, stream, timeout) {
             Ok(ends) => Ok(ends),
-            Err(error) => Err(line_failure(error).of(self.alloc(), address)),
+            Err(error) => Err(Failure::of_line(error).of(self.alloc(), address)),
         }
     }
 
     fn accept(&mut self, port: u16) -> Result<(Self::Reader, Self::Writer), Failure> {
         let listener = listen(self.0, port)?;
-        match caller_ends(self.0, &listener) {
+        match endless_ends(self.0, take_next(&listener)?) {
             Ok(ends) => Ok(ends),
-            Err(error) => Err(line_failure(error)),
+            Err(error) => Err(Failure::of_line(error)),
         }
     }
 

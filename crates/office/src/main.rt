@@ -5,9 +5,9 @@ mod machine;
 mod stores;
 
 use crate::machine::Machine;
-use office_commands::{Failure, Fault, Host, run};
+use office_commands::{Failure, Fault, end_with, run};
+use std::env;
 use std::process::ExitCode;
-use std::{env, io};
 
 /// The words after the program's name; none where memory was refused.
 fn words_of(rt: &HostRuntime) -> Option<Vec<String>> {
@@ -15,13 +15,11 @@ fn words_of(rt: &HostRuntime) -> Option<Vec<String>> {
     words.skip(1).collect(rt.alloc()).ok()
 }
 
-fn main(rt: HostRuntime) -> io::Result<ExitCode> {
+fn main(rt: HostRuntime) -> ExitCode {
     let mut machine = Machine(&rt);
-    match words_of(&rt) {
-        Some(words) => Ok(ExitCode::from(run(&mut machine, words)?)),
-        None => {
-            machine.complain(&Failure::from(Fault::Memory))?;
-            Ok(ExitCode::from(Fault::Memory.status()))
-        }
-    }
+    let status = match words_of(&rt) {
+        Some(words) => run(&mut machine, words),
+        None => end_with(&mut machine, &Failure::from(Fault::Memory)),
+    };
+    ExitCode::from(status)
 }

@@ -13,7 +13,8 @@ use office_script::ReplayFault;
 use point_list::{ListError, SiteError, SiteFault};
 use std::alloc::{AllocError, Global};
 use std::error::Error;
-use std::{fmt, io};
+use std::fmt;
+use std::io::{self, ErrorKind};
 use sunspec::SunError;
 
 /// Why a command failed, beside its fault.
@@ -86,6 +87,14 @@ impl Failure {
             fault,
             subject: None,
             why,
+        }
+    }
+
+    /// A connection, or a listener, failed by an error of the system. Where that is memory's, so is the fault.
+    pub fn of_line(error: io::Error) -> Failure {
+        match error.kind() {
+            ErrorKind::OutOfMemory => Failure::from(Fault::Memory),
+            _ => Failure::new(Fault::Line, Why::System(error)),
         }
     }
 
@@ -273,7 +282,7 @@ impl From<SunError> for Failure {
             SunError::TooManyModels => Why::Words("more than 256 models"),
             SunError::SourceFault => {
                 Why::Words(
-                    "the connection failed or ended, its answers took too long, or one said no reply",
+                    "the connection failed or ended, its answers took too long, one was an exception other than 2, or what came was no reply",
                 )
             }
             SunError::Memory | SunError::OutOfRange | SunError::BadScale => Why::Unsaid,

@@ -34,16 +34,16 @@ pub fn connect<N: Net<Stream = TcpStream>>(
 ) -> Result<TcpStream, Failure> {
     let found = match address.to_socket_addrs(net) {
         Ok(found) => found,
-        Err(error) => return Err(Failure::new(Fault::Line, Why::System(error))),
+        Err(error) => return Err(Failure::of_line(error)),
     };
-    let mut why = Why::Words("no host of this name");
+    let mut failure = Failure::new(Fault::Line, Why::Words("no host of this name"));
     for one in found {
         match connect_to(net, &one, timeout) {
             Ok(stream) => return Ok(stream),
-            Err(error) => why = Why::System(error),
+            Err(error) => failure = Failure::of_line(error),
         }
     }
-    Err(Failure::new(Fault::Line, why))
+    Err(failure)
 }
 
 fn round_text(alloc: Global, round: &Round) -> Result<String, AllocError> {

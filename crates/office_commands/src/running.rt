@@ -14,7 +14,6 @@ use office_words::{Errand, Job, WordFault, help_of, read_words};
 use point_list::Site;
 use poll_book::StoreFault;
 use std::alloc::Global;
-use std::io;
 
 /// The status of a program that did what it was asked for.
 const DONE: u8 = 0;
@@ -219,14 +218,18 @@ fn obey<H: Stores>(host: &mut H, words: Vec<String>) -> Result<u8, Failure> {
     }
 }
 
+/// Tells on standard error what ended a command, and gives the program's status, which alone tells it where that can't
+/// be written.
+pub fn end_with<H: Host>(host: &mut H, failure: &Failure) -> u8 {
+    let _ = host.complain(failure);
+    failure.fault.status()
+}
+
 /// Does what the words after the program's name ask for, tells a fault on standard error, and gives the program's
 /// status: 0 where it is done, and what `Fault::status` says of a fault, 2 for a script's line of another form.
-pub fn run<H: Stores>(host: &mut H, words: Vec<String>) -> io::Result<u8> {
+pub fn run<H: Stores>(host: &mut H, words: Vec<String>) -> u8 {
     match obey(host, words) {
-        Ok(status) => Ok(status),
-        Err(failure) => {
-            host.complain(&failure)?;
-            Ok(failure.fault.status())
-        }
+        Ok(status) => status,
+        Err(failure) => end_with(host, &failure),
     }
 }

@@ -1,12 +1,12 @@
 //! Answering over HTTP, one connection after the other.
 use crate::timed::Timed;
-use crate::{Failure, Fault, Why};
+use crate::{Failure, Fault};
 use mb_mbap::Counted;
 use office_core::Office;
 use office_net::serve_one;
 use poll_book::Keeper;
 use std::alloc::Global;
-use std::io::{self, Read};
+use std::io::{self, ErrorKind, Read};
 use std::net::{Shutdown, TcpListener, TcpStream};
 use std::rt::Clock;
 use std::time::Duration;
@@ -52,6 +52,18 @@ fn answer<R: Clock + AllocGlobal, K: Keeper>(
     }
 }
 
+/// Takes the next connection of a listener. One that went away before it was taken is passed over.
+pub fn take_next(listener: &TcpListener) -> Result<TcpStream, Failure> {
+    for _ in 0..u32::MAX {
+        match listener.accept() {
+            Ok((stream, _)) => return Ok(stream),
+            Err(error) if error.kind() == ErrorKind::ConnectionAborted => {}
+            Err(error) => return Err(Failure::of_line(error)),
+        }
+    }
+    Err(Failure::from(Fault::Line))
+}
+
 /// Answers so many connections, one after the other; without a count it goes on. Each read and write
 /// waits for `timeout` at most, and an exchange takes 30 seconds in all. A connection that fails ends
 /// alone; `Line` comes where none can be taken any more.
@@ -64,10 +76,7 @@ pub fn serve<R: Clock + AllocGlobal, K: Keeper>(
 ) -> Result<(), Failure> {
     let count = count.map_or(u64::MAX, u64::from);
     for _ in 0..count {
-        let stream = match listener.accept() {
-            Ok((stream, _)) => stream,
-            Err(error) => return Err(Failure::new(Fault::Line, Why::System(error))),
-        };
+        let stream = take_next(listener)?;
         // Of a connection that fails nobody is there to be told.
         let _ = answer(rt, office, &stream, timeout);
     }

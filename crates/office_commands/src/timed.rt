@@ -1,4 +1,6 @@
 //! A connection that ends in time, however slowly its peer goes.
+ghost use Rattle.std.specs.Io.{ReadsAtMost};
+
 use std::io::{self, ErrorKind, Read, Write};
 use std::net::TcpStream;
 use std::rt::Clock;
@@ -6,6 +8,9 @@ use std::time::{Duration, Instant};
 
 /// A poll round, or a search for models, takes so many times as long as one answer is waited for at most.
 const ROUND: u64 = 12;
+
+/// So often is a read begun at most that is interrupted again and again.
+const READS: u8 = 64;
 
 /// How long the reads and writes of a stream take at most: all together, and each.
 #[derive(Clone, Copy, Drop)]
@@ -75,13 +80,27 @@ impl<'a, C: Clock> Timed<'a, C> {
             _ => Err(io::Error::from(ErrorKind::TimedOut)),
         }
     }
-}
 
-impl<C: Clock> Read for Timed<'_, C> {
-    fn read(&mut self, buf: &mut [u8]) -> io::Result<usize> {
+    fn read_once(&mut self, buf: &mut [u8]) -> io::Result<usize>
+        ensures { ReadsAtMost result buf.new }
+    {
         let left = self.left()?;
         self.stream.set_read_timeout(left)?;
         self.stream.read(buf)
+    }
+}
+
+impl<C: Clock> Read for Timed<'_, C> {
+    /// A read that waits for a while is interrupted where the process is stopped and goes on: it is begun again, with
+    /// what is left of its time.
+    fn read(&mut self, buf: &mut [u8]) -> io::Result<usize> {
+        for _ in 1..READS {
+            match self.read_once(buf) {
+                Err(error) if error.kind() == ErrorKind::Interrupted => {}
+                done => return done,
+            }
+        }
+        self.read_once(buf)
     }
 }
 
