@@ -41,7 +41,11 @@ pub(crate) fn is_refused(told: &str) -> bool {
 fn told_by(world: &mut World<'_>, command: &str) -> Result<String, Trouble> {
     match typed(world, command) {
         Ok(told) if !is_refused(told.as_str()) => Ok(told),
-        Ok(_) | Err(Trouble::Memory) => typed(world, command),
+        Ok(_) => {
+            world.count_refusal();
+            typed(world, command)
+        }
+        Err(Trouble::Memory) => typed(world, command),
         Err(trouble) => Err(trouble),
     }
 }

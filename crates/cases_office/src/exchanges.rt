@@ -70,13 +70,18 @@ fn was_made(told: &str, wanted: &str) -> bool {
     told.is_some() && told == wanted.strip_prefix("HTTP/1.1 201 Created\r\n")
 }
 
+/// What a request is answered where memory or the store refuses.
+const REFUSAL: &str =
+    "HTTP/1.1 503 Service Unavailable\r\nContent-Type: application/json\r\nContent-Length: 17\r\nConnection: close\r\n\r\n{\"error\":\"store\"}";
+
 /// What a request is told, told once more where the store or memory refused. It can be that only its answer was
 /// refused.
 fn told(world: &mut World<'_>, request: &[u8], wanted: &str) -> Result<String, Trouble> {
     let told = answer_to(world, request)?;
-    if !told.as_str().starts_with("HTTP/1.1 503") && !is_refused(told.as_str()) {
+    if told.as_str() != REFUSAL && !is_refused(told.as_str()) {
         return Ok(told);
     }
+    world.count_refusal();
     let again = answer_to(world, request)?;
     if was_made(again.as_str(), wanted) {
         return Ok(String::from_str(world.rt.alloc(), wanted)?);

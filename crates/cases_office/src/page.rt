@@ -81,23 +81,35 @@ fn play_block<R: Print>(
     }
 }
 
-/// Plays a page in a new world, and gives the number of calls of its stores.
+/// What a play of a page came to: how many calls of its stores were made, and how often it was told that one was
+/// refused.
+#[derive(Clone, Copy)]
+struct Played {
+    calls: u32,
+    refusals: u32,
+}
+
+/// Plays a page in a new world.
 fn play_once<'x, R: Print>(
     rt: &'x HostRuntime,
     tally: &mut Tally<'_, R>,
     name: &str,
     page: &'x [Block<'x>],
     play: Play,
-) -> Result<u32, Trouble> {
+) -> Result<Played, Trouble> {
     let devices = RefCell::new(Devices::new(rt.alloc()));
     let mut world = World::new(rt, name, page, &devices, play)?;
     for block in page {
         play_block(&mut world, tally, block)?;
     }
-    Ok(world.calls)
+    Ok(Played {
+        calls: world.calls,
+        refusals: world.refusals,
+    })
 }
 
-/// Plays a page once for each call of its stores, which is refused, and counts the calls as one case.
+/// Plays a page once for each call of its stores, which is refused, and counts the calls, and those of which that was
+/// told just once, as one case.
 fn play_refused<'x, R: Print>(
     rt: &'x HostRuntime,
     tally: &mut Tally<'_, R>,
@@ -106,14 +118,16 @@ fn play_refused<'x, R: Print>(
     block: &Block<'_>,
     calls: u32,
 ) -> Result<(), Trouble> {
+    let mut told_once = 0u32;
     for refused in 0..calls {
         let play = Play {
             refused,
             ..Play::FIRST
         };
-        let _ = play_once(rt, tally, name, page, play)?;
+        let played = play_once(rt, tally, name, page, play)?;
+        told_once = told_once.saturating_add(u32::from(played.refusals == 1));
     }
-    let told = format!(in rt.alloc(); "{calls} calls\n")?;
+    let told = format!(in rt.alloc(); "{calls} calls, {told_once} told once\n")?;
     tally.told(block.line, told.as_str(), block.text)
 }
 
@@ -126,14 +140,14 @@ impl Player for Pages<'_> {
         name: &str,
         page: &[Block<'_>],
     ) -> Result<(), Trouble> {
-        let calls = play_once(self.rt, tally, name, &*page, Play::FIRST)?;
+        let first = play_once(self.rt, tally, name, &*page, Play::FIRST)?;
         for cut in [Cut::Halves, Cut::Bytes] {
             let play = Play { cut, ..Play::FIRST };
             let _ = play_once(self.rt, tally, name, &*page, play)?;
         }
         for block in page {
             if block.words == "refusals" {
-                play_refused(self.rt, tally, name, &*page, block, calls)?;
+                play_refused(self.rt, tally, name, &*page, block, first.calls)?;
             }
         }
         Ok(())
