@@ -1,5 +1,5 @@
 -- What calls of a line do, call behind call.
-use Rattle.std.proofs.Common.{◌≡◌, ◌≤◌, ◌++◌, ℕ, List, [], ◌∷◌, Some, Result, Ok, Err, refl, sym, ◌∙◌, ap, subst}
+use Rattle.std.proofs.Common.{◌≡◌, ◌≤◌, ◌⊎◌, inl, inr, ◌++◌, ℕ, List, [], ◌∷◌, Option, Some, Result, Ok, Err, refl, sym, ◌∙◌, ap, subst}
 use Rattle.std.specs.Prelude.{IsErr, IsErrAnd}
 use Rattle.poll_book.specs.declared.keeper.Neighbours.{Ghosts}
 use Rattle.run_beat.specs.declared.sockets.Source.{Source}
@@ -18,7 +18,7 @@ use Rattle.run_lines.specs.declared.link.Link.{Link}
 use Rattle.run_lines.specs.declared.loss.Stop.{Stop}
 use Rattle.run_lines.specs.Lines.{Advances, Handles, IsOne, IsSame, Keeps, Tends, source_of, state_at, terms_of, wire_at, wire_in}
 use Rattle.run_lines.specs.Links.{standing_of, wire_of}
-use Rattle.run_lines.specs.Wires.{Begun, Down, GivesUp, IsShown, LineMoves, Lined, Settles, State, Terms, Up, Wire, WireMoves, Wired, WiredBy, fresh, without}
+use Rattle.run_lines.specs.Wires.{BeginsAt, Begun, Down, GivesUp, IsShown, LineMoves, Lined, Settles, State, Terms, Up, Wire, WireMoves, Wired, WiredBy, fresh, without}
 use Rattle.run_deeds.specs.Deeds.{AllOf, Is, Passes}
 use Rattle.run_deeds.proofs.Deeds.{goes_wider}
 use Rattle.run_deeds.proofs.Passing.{acting_once, part_acting, part_asked, part_then}
@@ -47,6 +47,35 @@ keeps_state old new same wire =
 
 pub keeps_then : (one two three : Line) → Keeps one two → Keeps two three → Keeps one three
 keeps_then one two three first second = (same_then one two three first.0 second.0, second.1 ∙ first.1)
+
+-- ---- which slot was begun
+
+pub begins_none : (slot : Option ℕ) (old new : Line) → from_of new.beat ≡ from_of old.beat → BeginsAt slot (state_at old) (state_at new)
+begins_none slot old new same = inl same
+
+-- behind calls that begin none, and before them
+pub begins_behind : (slot : Option ℕ) (one two three : Line) → from_of two.beat ≡ from_of one.beat → BeginsAt slot (state_at two) (state_at three) → BeginsAt slot (state_at one) (state_at three)
+begins_behind slot one two three same begins = elim begins as (λ _. BeginsAt slot (state_at one) (state_at three)) [
+  | inl still ↦ inl (still ∙ same)
+  | inr is ↦ inr is
+]
+
+pub begins_before : (slot : Option ℕ) (one two three : Line) → BeginsAt slot (state_at one) (state_at two) → from_of three.beat ≡ from_of two.beat → BeginsAt slot (state_at one) (state_at three)
+begins_before slot one two three begins same = elim begins as (λ _. BeginsAt slot (state_at one) (state_at three)) [
+  | inl still ↦ inl (same ∙ still)
+  | inr is ↦ inr (is ∙ ap Some (sym same))
+]
+
+-- the one that was chosen, which is the last one or the one that may be begun
+pub begins_chosen : (slot : Option ℕ) (one two three : Line) (chosen : ℕ) → from_of two.beat ≡ from_of one.beat → (chosen ≡ from_of one.beat) ⊎ (slot ≡ Some chosen)
+    → (from_of three.beat ≡ from_of two.beat) ⊎ (from_of three.beat ≡ chosen) → BeginsAt slot (state_at one) (state_at three)
+begins_chosen slot one two three chosen same of began = elim began as (λ _. BeginsAt slot (state_at one) (state_at three)) [
+  | inl still ↦ inl (still ∙ same)
+  | inr is ↦ elim of as (λ _. BeginsAt slot (state_at one) (state_at three)) [
+    | inl last ↦ inl (is ∙ last)
+    | inr may ↦ inr (may ∙ ap Some (sym is))
+  ]
+]
 
 -- what was done with its socket, as of the connection that stands and as the call says whose it is
 pub by_link : (line : Line) (from : Source) (acted : List Act → Type 0) (link : Link) (wire : Wire) → line.connection ≡ connection.Up link → from ≡ source_of line

@@ -129,6 +129,10 @@ pub record State : Type 0 where
   pub from : ℕ
   pub wire : Wire
 
+-- where a later slot is the last that was begun, it is this one
+abbrev pub BeginsAt : Option ℕ → State → State → Type 0
+BeginsAt slot before after = (after.from ≡ before.from) ⊎ (slot ≡ Some after.from)
+
 -- What a deed makes of a line: a round is begun over a connection that stands, and none for a slot before one that was begun
 abbrev pub LineMoves : Terms → History → State → Deed → State → Type 0
 LineMoves terms now state (Starts source slot) state' =

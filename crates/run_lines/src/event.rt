@@ -4,6 +4,30 @@ use point_list::Name;
 use poll_book::StoreFault;
 use std::fmt;
 
+/// What a round came to: how long it took, and since the one before ended, how many queries were made, readings
+/// recorded, exceptions answered, and how many frames answered nothing, or what was answered.
+#[derive(Clone, Copy, Debug)]
+pub struct RoundNumbers {
+    pub millis: u64,
+    pub asked: u64,
+    pub recorded: u64,
+    pub excepted: u64,
+    pub refused: u64,
+}
+
+/// What is told of a device.
+#[derive(Clone, Copy, Debug)]
+pub enum Device {
+    /// It didn't answer in time.
+    Silent,
+    /// It answers again.
+    Back,
+    /// It did what was sent for an order.
+    Obeyed,
+    /// It refused what was sent for an order, in time, by an exception of this code.
+    Refused(u8),
+}
+
 /// What happened that an operator wants to know.
 #[derive(Clone, Copy, Debug)]
 pub enum Event<'a> {
@@ -16,15 +40,17 @@ pub enum Event<'a> {
         line: &'a str,
         why: Loss,
     },
-    /// A device of a line didn't answer in time.
-    Silent {
+    /// Something of a device of a line.
+    Device {
         line: &'a str,
-        device: &'a str,
+        name: &'a str,
+        what: Device,
     },
-    /// It answers again.
-    Back {
+    /// A line's round of a slot, in which something was asked, ended and wasn't cut.
+    Polled {
         line: &'a str,
-        device: &'a str,
+        slot: u32,
+        numbers: RoundNumbers,
     },
     /// A line's round of a slot didn't end within it.
     Cut {
@@ -80,18 +106,46 @@ impl Told {
     }
 }
 
+impl fmt::Display for Device {
+    fn fmt<W: fmt::Write>(&self, f: &mut fmt::Formatter<W>) -> fmt::Result {
+        match self {
+            Device::Silent => f.write_str("is silent"),
+            Device::Back => f.write_str("answers again"),
+            Device::Obeyed => f.write_str("did what was ordered"),
+            Device::Refused(code) => write!(f, "refused what was ordered, by exception {code}"),
+        }
+    }
+}
+
+impl fmt::Display for RoundNumbers {
+    fn fmt<W: fmt::Write>(&self, f: &mut fmt::Formatter<W>) -> fmt::Result {
+        let RoundNumbers {
+            millis,
+            asked,
+            recorded,
+            excepted,
+            refused,
+        } = self;
+        write!(
+            f,
+            "asked {asked} recorded {recorded} excepted {excepted} refused {refused} in {millis} ms"
+        )
+    }
+}
+
 impl fmt::Display for Event<'_> {
     fn fmt<W: fmt::Write>(&self, f: &mut fmt::Formatter<W>) -> fmt::Result {
         match self {
             Event::Up { line } => write!(f, "line {line} is up"),
             Event::Down { line, why } => write!(f, "line {line} is down: {why}"),
-            Event::Silent { line, device } => {
-                write!(f, "device {device} of line {line} is silent")
+            Event::Device { line, name, what } => {
+                write!(f, "device {name} of line {line} {what}")
             }
-            Event::Back { line, device } => write!(
-                f,
-                "device {device} of line {line} answers again"
-            ),
+            Event::Polled {
+                line,
+                slot,
+                numbers,
+            } => write!(f, "line {line} polled slot {slot}: {numbers}"),
             Event::Cut { line, slot } => write!(
                 f,
                 "the round of line {line} in slot {slot} was cut"

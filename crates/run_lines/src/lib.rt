@@ -19,7 +19,7 @@ mod turned;
 mod window;
 
 pub use ahead::Ahead;
-pub use event::Event;
+pub use event::{Device, Event, RoundNumbers};
 pub use journal::Journal;
 pub use line::Line;
 pub use loss::Loss;

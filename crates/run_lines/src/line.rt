@@ -1,7 +1,8 @@
 //! A line of the site: its connection, its rounds, and when something of it is due.
 ghost use Rattle.std.specs.Prelude.{◌≡◌, ◌≤◌, ◌∷◌, [], None};
 ghost use Rattle.office_core.specs.Proceeding.{GoesAlong, Nothing};
-ghost use Rattle.run_lines.specs.Wires.{Begun, Down, GivesUp, Lined, WiredBy, rested};
+ghost use Rattle.run_lines.specs.Times.{slot_in};
+ghost use Rattle.run_lines.specs.Wires.{BeginsAt, Begun, Down, GivesUp, Lined, WiredBy, rested};
 ghost use Rattle.run_beat.specs.Acts.{Closes};
 
 mod rounds;
@@ -65,8 +66,9 @@ pub struct Line {
     told: Told,
     // Whether the store kept something in this turn.
     has_kept: bool,
-    // What its rounds came to.
+    // What its rounds came to, and what they had come to as the last one ended.
     tally: Tally,
+    since: Tally,
     // Its counters, as far as they are counted in slots to come.
     lookout: Lookout,
     // The pass in which it did something last.
@@ -115,6 +117,7 @@ impl Line {
             told: Told::Nothing,
             has_kept: false,
             tally: Tally::default(),
+            since: Tally::default(),
             lookout: Lookout::new(),
             served: 0,
         }
@@ -513,7 +516,8 @@ impl Line {
         times: Times,
         orders: u64,
     ) -> Result<(), Stop>
-        ensures { Advances result self.old self.new office.old office.new (λ acts. acts ≡ []) }
+        ensures goes { Advances result self.old self.new office.old office.new (λ acts. acts ≡ []) }
+        ensures by_clock { BeginsAt (slot_in times) (state_at self.old) (state_at self.new) }
     {
         let now = times.now;
         let has_begun = self.start(office, times, orders)?;
@@ -576,7 +580,8 @@ impl Line {
         times: Times,
         orders: u64,
     ) -> Result<(), Stop>
-        ensures { Advances result self.old self.new office.old office.new (λ acts. acts ≡ []) }
+        ensures goes { Advances result self.old self.new office.old office.new (λ acts. acts ≡ []) }
+        ensures by_clock { BeginsAt (slot_in times) (state_at self.old) (state_at self.new) }
     {
         self.go_on_round(office, journal, &times, orders)?;
         self.look_ahead(office, &times)?;
@@ -601,7 +606,8 @@ impl Line {
         times: Times,
         orders: u64,
     ) -> Result<bool, Stop>
-        ensures { Advances result self.old self.new office.old office.new (λ acts. S.acts sockets.old acts sockets.new) }
+        ensures goes { Advances result self.old self.new office.old office.new (λ acts. S.acts sockets.old acts sockets.new) }
+        ensures by_clock { BeginsAt (slot_in times) (state_at self.old) (state_at self.new) }
     {
         let now = times.now;
         self.note_slot(&times);
@@ -620,7 +626,8 @@ impl Line {
         times: Times,
         orders: u64,
     ) -> Result<bool, Stop>
-        ensures { Advances result self.old self.new office.old office.new (λ acts. S.acts sockets.old acts sockets.new) }
+        ensures goes { Advances result self.old self.new office.old office.new (λ acts. S.acts sockets.old acts sockets.new) }
+        ensures by_clock { BeginsAt (slot_in times) (state_at self.old) (state_at self.new) }
     {
         let now = times.now;
         match self.connection {
@@ -675,6 +682,7 @@ impl Line {
         orders: u64,
     ) -> Turned
         ensures one { IsOne self.old self.new }
+        ensures by_clock { BeginsAt (slot_in times) (state_at self.old) (state_at self.new) }
         ensures lined { Lined (terms_of self.old) (source_of self.old) office.old office.new (λ acts. S.acts sockets.old acts sockets.new) (state_at self.old) (state_at self.new) }
     {
         let now = times.now;
@@ -689,7 +697,7 @@ impl Line {
         };
         match acted {
             // What is to be asked in a round that just began may be nothing: then it is done at once.
-            Ok(is_more) => turned.is_more = is_more || has_begun,
+            Ok(is_more) => turned.is_more = is_more | has_begun,
             Err(stop) => match stop {
                 Stop::Lost(why) => {
                     self.lose(sockets, journal, now, why);

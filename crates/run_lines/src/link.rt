@@ -227,9 +227,12 @@ impl Link {
         let Some(at) = stations.place_of(frame.unit_id) else {
             return;
         };
+        let is_order = query.is_some_and(|query| query.is_order);
         stations.answer(at, journal);
+        if let Some(arrival) = arrival {
+            stations.tell_ordered(at, is_order, arrival, journal);
+        }
         if let Some(round) = &mut self.round {
-            let is_order = query.is_some_and(|query| query.is_order);
             round.hear(at, is_order, arrival);
         }
     }

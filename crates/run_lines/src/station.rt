@@ -3,8 +3,9 @@ ghost use Rattle.std.specs.Prelude.{◌≡◌};
 ghost use Rattle.std.specs.List.{list_any, position};
 ghost use Rattle.run_lines.specs.Devices.{devices_in, is_named, is_under};
 
-use crate::event::Event;
+use crate::event::{Device as Told, Event};
 use crate::journal::Journal;
+use office_core::Arrival;
 use office_net::reads_of;
 use point_list::{Device, Site, Text};
 use poll_book::PointRow;
@@ -31,6 +32,13 @@ pub(crate) struct Stations {
     all: Vec<Station>,
     // So many points were known as its reads were planned; none were yet.
     known: Option<usize>,
+}
+
+impl Station {
+    fn tell(&self, line: &str, what: Told, journal: &mut Journal) {
+        let name = self.name.as_str();
+        journal.tell(&Event::Device { line, name, what });
+    }
 }
 
 /// A device, of which is known so much of the one that was planned before in its place.
@@ -140,10 +148,20 @@ impl Stations {
         station.is_silent = false;
         if station.is_told {
             station.is_told = false;
-            journal.tell(&Event::Back {
-                line: self.line.as_str(),
-                device: station.name.as_str(),
-            });
+            station.tell(self.line.as_str(), Told::Back, journal);
+        }
+    }
+
+    /// Tells what a device made of what was sent for an order, unless the order waits as before: whether the query was
+    /// for one isn't known any more where it was given up.
+    pub fn tell_ordered(&self, at: usize, is_order: bool, arrival: Arrival, journal: &mut Journal) {
+        let told = match arrival {
+            Arrival::Settled => Told::Obeyed,
+            Arrival::Excepted(code) if is_order && !matches!(code, 5 | 6) => Told::Refused(code),
+            Arrival::Recorded(_) | Arrival::Excepted(_) => return,
+        };
+        if let Some(station) = self.all.get(at) {
+            station.tell(self.line.as_str(), told, journal);
         }
     }
 
@@ -155,10 +173,7 @@ impl Stations {
         for station in &mut self.all {
             if station.is_silent && !station.is_told {
                 station.is_told = true;
-                journal.tell(&Event::Silent {
-                    line,
-                    device: station.name.as_str(),
-                });
+                station.tell(line, Told::Silent, journal);
             }
         }
     }

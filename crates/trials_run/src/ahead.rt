@@ -40,7 +40,7 @@ struct Run {
 impl Look<MemKeeper> for Run {
     fn look(&self, trial: &Trial<'_>, left: &mut Left<MemKeeper>) -> Result<(), OfficeError> {
         trial.told(&"ended", &left.ended, &Ok(()));
-        assert_told(trial, &left.world, self.told);
+        assert_told(trial, &left.world, self.told)?;
         assert_readings(trial, &mut left.office, "e", self.readings)?;
         assert_total(trial, &mut left.office, self.total)
     }

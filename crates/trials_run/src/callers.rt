@@ -221,6 +221,26 @@ fn short_ends(trial: &Trial<'_>) -> Result<(), OfficeError> {
     look_at_guests(trial, &[speech], usize::MAX, &each)
 }
 
+/// A body that doesn't come is waited for until the caller has been there for thirty seconds.
+fn bodiless(trial: &Trial<'_>) -> Result<(), OfficeError> {
+    let world = world(
+        trial.alloc(),
+        32_000,
+        &[],
+        &[Speech::at_once(1_000, NO_BODY)],
+    )?;
+    let each = Each {
+        heard: "",
+        gone: 31_000,
+    };
+    look_behind_new(trial, &[], world, &each)
+}
+
+#[test]
+fn an_exchange_takes_thirty_seconds_at_most(rt: HostRuntime) -> Result<(), Fail> {
+    Ok(twice!(rt, bodiless)?)
+}
+
 #[test]
 fn a_head_may_end_by_line_feeds_alone(rt: HostRuntime) -> Result<(), Fail> {
     Ok(twice!(rt, short_ends)?)

@@ -26,7 +26,7 @@ fn assert_cellar(trial: &Trial<'_>, world: &World, run: &Run) {
 
 impl Look<MemKeeper> for Run {
     fn look(&self, trial: &Trial<'_>, left: &mut Left<MemKeeper>) -> Result<(), OfficeError> {
-        assert_told(trial, &left.world, self.told);
+        assert_told(trial, &left.world, self.told)?;
         assert_cellar(trial, &left.world, self);
         assert_readings(
             trial,

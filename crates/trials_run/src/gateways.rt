@@ -2,7 +2,7 @@
 use crate::guest::Speech;
 use crate::orders::ORDER;
 use crate::scenes::{
-    Behind, Left, Look, assert_readings, assert_told, look_behind, office_over, world_of,
+    AllTold, Behind, Left, Look, assert_readings, assert_told, look_behind, office_over, world_of,
 };
 use crate::wire::{Spell, Trouble};
 use crate::world::World;
@@ -65,7 +65,7 @@ fn counted(alloc: Global, asked: &[(u64, u8)]) -> Result<Vec<(u64, u8, usize)>, 
 
 impl Look<MemKeeper> for Run {
     fn look(&self, trial: &Trial<'_>, left: &mut Left<MemKeeper>) -> Result<(), OfficeError> {
-        assert_told(trial, &left.world, self.told);
+        assert_told(trial, &left.world, self.told)?;
         for wire in &left.world.wires {
             let asked = counted(trial.alloc(), &wire.asked)?;
             trial.told(&"asked", &asked.as_slice(), &self.asked);
@@ -143,6 +143,23 @@ fn dead(trial: &Trial<'_>) -> Result<(), OfficeError> {
 #[test]
 fn a_dead_device_costs_those_behind_its_gateway_one_time_out(rt: HostRuntime) -> Result<(), Fail> {
     Ok(twice!(rt, dead)?)
+}
+
+/// A round whose device is dead is told at its slot's end, with what the others gave.
+const DEAD_TOLD: AllTold = AllTold(
+    "1970-01-01T00:08:22Z office: line roof is up\n1970-01-01T00:08:25Z office: line roof polled slot 100: asked 17 recorded 1 excepted 0 refused 0 in 3000 ms\n1970-01-01T00:08:25Z office: device near of line roof is silent\n1970-01-01T00:08:30Z office: line roof polled slot 101: asked 2 recorded 1 excepted 0 refused 0 in 5000 ms\n",
+);
+
+fn dead_told(trial: &Trial<'_>) -> Result<(), OfficeError> {
+    let alloc = trial.alloc();
+    let office = office_over(alloc, MemKeeper::new(alloc), SITE, POINTS)?;
+    let world = gateway(alloc, IMAGE, &DEAD, &[])?;
+    look_behind(trial, office, world, &DEAD_TOLD)
+}
+
+#[test]
+fn a_round_of_a_dead_device_is_told_at_its_slots_end(rt: HostRuntime) -> Result<(), Fail> {
+    Ok(twice!(rt, dead_told)?)
 }
 
 /// The same, of whose queries two may wait.
@@ -267,7 +284,7 @@ const ORDERED: Run = Run {
             to: u64::MAX,
         },
     ],
-    told: SAID_SILENT,
+    told: "1970-01-01T00:08:22Z office: line roof is up\n1970-01-01T00:08:25Z office: device near of line roof is silent\n1970-01-01T00:08:27Z office: device far of line roof did what was ordered\n1970-01-01T00:08:28Z office: device far of line roof did what was ordered\n",
     asked: &[
         (0, 1, 16),
         (2000, 2, 1),

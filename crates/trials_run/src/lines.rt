@@ -1,6 +1,7 @@
 //! Lines that are polled slot by slot, and one whose device is silent or away.
 use crate::scenes::{
-    Behind, IMAGE, Left, Look, assert_readings, assert_told, look_behind_new, world, world_of,
+    AllTold, Behind, IMAGE, Left, Look, assert_readings, assert_told, look_behind_new, world,
+    world_of,
 };
 use crate::wire::{Spell, Trouble, Wire};
 use office_core::OfficeError;
@@ -23,7 +24,7 @@ impl Look<MemKeeper> for Run {
     fn look(&self, trial: &Trial<'_>, left: &mut Left<MemKeeper>) -> Result<(), OfficeError> {
         let begun = left.world.wires.get(1).map(|wire| wire.begun.as_slice());
         trial.told(&"begun", &begun, &Some(self.begun));
-        assert_told(trial, &left.world, self.told);
+        assert_told(trial, &left.world, self.told)?;
         assert_readings(trial, &mut left.office, "e", self.roof)?;
         assert_readings(trial, &mut left.office, "f", self.readings)
     }
@@ -51,6 +52,38 @@ fn well(trial: &Trial<'_>) -> Result<(), OfficeError> {
 #[test]
 fn each_point_has_a_reading_in_each_slot(rt: HostRuntime) -> Result<(), Fail> {
     Ok(twice!(rt, well)?)
+}
+
+/// What is told in two slots of which nothing is wrong.
+const TWO_SLOTS: AllTold = AllTold(
+    "1970-01-01T00:08:22Z office: line roof is up\n1970-01-01T00:08:22Z office: line cellar is up\n1970-01-01T00:08:22Z office: line roof polled slot 100: asked 1 recorded 2 excepted 0 refused 0 in 0 ms\n1970-01-01T00:08:22Z office: line cellar polled slot 100: asked 1 recorded 1 excepted 0 refused 0 in 0 ms\n1970-01-01T00:08:25Z office: line cellar polled slot 101: asked 1 recorded 1 excepted 0 refused 0 in 0 ms\n1970-01-01T00:08:26Z office: line roof polled slot 101: asked 1 recorded 2 excepted 0 refused 0 in 1000 ms\n",
+);
+
+/// The roof takes a second from slot 101 on.
+const ROOF_IS_SLOW: [Behind; 2] = [
+    Behind {
+        image: IMAGE,
+        spells: &[Spell {
+            trouble: Trouble::Late(1_000),
+            unit: None,
+            from: 3_000,
+            to: u64::MAX,
+        }],
+    },
+    Behind {
+        image: IMAGE,
+        spells: &[],
+    },
+];
+
+fn told_well(trial: &Trial<'_>) -> Result<(), OfficeError> {
+    let world = world_of(trial.alloc(), 7_500, &ROOF_IS_SLOW, &[])?;
+    look_behind_new(trial, &[], world, &TWO_SLOTS)
+}
+
+#[test]
+fn each_round_is_told_with_its_numbers(rt: HostRuntime) -> Result<(), Fail> {
+    Ok(twice!(rt, told_well)?)
 }
 
 /// What is silent has three time-outs, or until its slot ends, and is then left alone for 1, 2, 4 and 8 seconds.

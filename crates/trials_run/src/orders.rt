@@ -1,6 +1,8 @@
 //! Orders: one in the middle of a slot, several that wait, and requests that are no new ones.
 use crate::guest::Speech;
-use crate::scenes::{Behind, IMAGE, Left, Look, keep_up_in, look_behind_new, world, world_of};
+use crate::scenes::{
+    AllTold, Behind, IMAGE, Left, Look, keep_up_in, look_behind_new, world, world_of,
+};
 use crate::wire::{Spell, Trouble, Wire};
 use crate::world::World;
 use office_core::OfficeError;
@@ -84,6 +86,29 @@ fn ordered(trial: &Trial<'_>) -> Result<(), OfficeError> {
 #[test]
 fn an_order_is_sent_at_once(rt: HostRuntime) -> Result<(), Fail> {
     Ok(twice!(rt, ordered)?)
+}
+
+/// Devices without a register that can be set.
+const UNSETTABLE: Behind = Behind {
+    image: "[[unit]]\nid = 17\nholding_start = 41\nholding = [0]\n",
+    spells: &[],
+};
+
+/// The query of the roof, which is for the register that is set too, and what was ordered are refused.
+const REFUSED: AllTold = AllTold(
+    "1970-01-01T00:08:22Z office: line roof is up\n1970-01-01T00:08:22Z office: line cellar is up\n1970-01-01T00:08:22Z office: line roof polled slot 100: asked 1 recorded 0 excepted 1 refused 0 in 0 ms\n1970-01-01T00:08:22Z office: line cellar polled slot 100: asked 1 recorded 1 excepted 0 refused 0 in 0 ms\n1970-01-01T00:08:25Z office: line roof polled slot 101: asked 1 recorded 0 excepted 1 refused 0 in 0 ms\n1970-01-01T00:08:25Z office: line cellar polled slot 101: asked 1 recorded 1 excepted 0 refused 0 in 0 ms\n1970-01-01T00:08:27Z office: device m1 of line roof refused what was ordered, by exception 2\n",
+);
+
+/// The device answers by exception 2 (illegal data address).
+fn refused(trial: &Trial<'_>) -> Result<(), OfficeError> {
+    let speeches = [Speech::at_once(5_000, ORDER)];
+    let world = world_of(trial.alloc(), ENDS, &[UNSETTABLE; 2], &speeches)?;
+    look_behind_new(trial, &[], world, &REFUSED)
+}
+
+#[test]
+fn a_refused_order_is_told(rt: HostRuntime) -> Result<(), Fail> {
+    Ok(twice!(rt, refused)?)
 }
 
 /// Orders that wait, of which the last one is for 80.

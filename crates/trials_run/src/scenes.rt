@@ -10,7 +10,7 @@ use office_plays::steps::{push, rows, take_happening, total};
 use office_run::RunFault;
 use poll_book::{Keeper, MemKeeper};
 use run_beat::Slots;
-use std::alloc::Global;
+use std::alloc::{AllocError, Global};
 use telling::Trial;
 
 /// The clock shows so many milliseconds as a run begins: three seconds of slot 100 are left.
@@ -223,8 +223,43 @@ pub(crate) fn assert_total<K: Keeper>(
     Ok(())
 }
 
-/// Expects what was told on standard error.
-pub(crate) fn assert_told(trial: &Trial<'_>, world: &World, expected: &str) {
-    let told = str::from_utf8(&world.told).unwrap_or("no text");
-    trial.told(&"told", &told, &expected);
+/// What was told on standard error.
+fn told_in(world: &World) -> &str {
+    str::from_utf8(&world.told).unwrap_or("no text")
+}
+
+/// The same without the lines of whole rounds, of which there is one a line and slot.
+fn told_beside_rounds(alloc: Global, world: &World) -> Result<String, AllocError> {
+    let mut told = String::new(alloc);
+    for line in told_in(world).split_inclusive('\n') {
+        if !line.contains(" polled slot ") {
+            told.push_str(line)?;
+        }
+    }
+    Ok(told)
+}
+
+/// Expects what was told on standard error besides whole rounds.
+pub(crate) fn assert_told(
+    trial: &Trial<'_>,
+    world: &World,
+    expected: &str,
+) -> Result<(), AllocError> {
+    let told = told_beside_rounds(trial.alloc(), world)?;
+    trial.told(&"told", &told.as_str(), &expected);
+    Ok(())
+}
+
+fn assert_all_told(trial: &Trial<'_>, world: &World, expected: &str) {
+    trial.told(&"told", &told_in(world), &expected);
+}
+
+/// All that was told on standard error.
+pub(crate) struct AllTold(pub &'static str);
+
+impl<K: Keeper> Look<K> for AllTold {
+    fn look(&self, trial: &Trial<'_>, left: &mut Left<K>) -> Result<(), OfficeError> {
+        assert_all_told(trial, &left.world, self.0);
+        Ok(())
+    }
 }

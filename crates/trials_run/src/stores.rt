@@ -20,7 +20,7 @@ fn ran_over(
     let world = world(alloc, 18_000, &[], &[])?;
     let left = keep_up_in(alloc, keeper, &[], world)?;
     trial.told(&"ended", &left.ended, &expected);
-    assert_told(trial, &left.world, told);
+    assert_told(trial, &left.world, told)?;
     Ok(left.office)
 }
 
@@ -55,8 +55,8 @@ fn full_until_an_order(trial: &Trial<'_>) -> Result<(), OfficeError> {
     assert_told(
         trial,
         &left.world,
-        "1970-01-01T00:08:22Z office: line roof is up\n1970-01-01T00:08:22Z office: line cellar is up\n1970-01-01T00:08:25Z office: the store refuses: full\n1970-01-01T00:08:27Z office: the store takes what comes again\n",
-    );
+        "1970-01-01T00:08:22Z office: line roof is up\n1970-01-01T00:08:22Z office: line cellar is up\n1970-01-01T00:08:25Z office: the store refuses: full\n1970-01-01T00:08:27Z office: the store takes what comes again\n1970-01-01T00:08:27Z office: device m1 of line roof did what was ordered\n",
+    )?;
     assert_readings(
         trial,
         &mut left.office,
@@ -167,8 +167,8 @@ fn unordered(trial: &Trial<'_>) -> Result<(), OfficeError> {
     assert_told(
         trial,
         &left.world,
-        "1970-01-01T00:08:22Z office: line roof is up\n1970-01-01T00:08:22Z office: line cellar is up\n1970-01-01T00:08:23Z office: the store refuses: full\n1970-01-01T00:08:24Z office: the store takes what comes again\n",
-    );
+        "1970-01-01T00:08:22Z office: line roof is up\n1970-01-01T00:08:22Z office: line cellar is up\n1970-01-01T00:08:23Z office: the store refuses: full\n1970-01-01T00:08:24Z office: the store takes what comes again\n1970-01-01T00:08:24Z office: device m1 of line roof did what was ordered\n",
+    )?;
     Ok(())
 }
 
@@ -195,7 +195,7 @@ fn unshown(trial: &Trial<'_>) -> Result<(), OfficeError> {
         trial,
         &left.world,
         "1970-01-01T00:08:22Z office: line roof is up\n1970-01-01T00:08:22Z office: line cellar is up\n1970-01-01T00:08:26Z office: the store refuses: other\n1970-01-01T00:08:30Z office: the store takes what comes again\n",
-    );
+    )?;
     Ok(())
 }
 

@@ -1,10 +1,11 @@
 //! The rounds of a line: what becomes of one that is under way, and which one is begun.
-ghost use Rattle.std.specs.Prelude.{◌≡◌, [], IfSome};
+ghost use Rattle.std.specs.Prelude.{◌≡◌, ◌⊎◌, [], IfSome, Some};
 ghost use Rattle.office_core.specs.Proceeding.{GoesAlong, Nothing};
-ghost use Rattle.run_lines.specs.Wires.{Settles, rested};
-ghost use Rattle.run_beat.specs.Beats.{Wants};
+ghost use Rattle.run_lines.specs.Times.{slot_in};
+ghost use Rattle.run_lines.specs.Wires.{BeginsAt, Settles, rested};
+ghost use Rattle.run_beat.specs.Beats.{Wants, from_of};
 
-use crate::event::Event;
+use crate::event::{Event, RoundNumbers};
 use crate::journal::Journal;
 use crate::line::{Line, one_more};
 use crate::link::Connection;
@@ -37,13 +38,22 @@ fn retry_beside(retry: Option<Moment>, kind: Kind) -> Option<Moment> {
 }
 
 impl Line {
-    ghost use Rattle.run_lines.specs.Lines.{Advances, IsSame, Keeps, wire_at};
+    ghost use Rattle.run_lines.specs.Lines.{Advances, IsSame, Keeps, state_at, wire_at};
 
     /// The round that is under way.
     pub(super) fn round(&self) -> Option<&Round> {
         match &self.connection {
             Connection::Up(link) => link.round(),
             _ => None,
+        }
+    }
+
+    /// What comes from now on is told of the next round, if one is under way.
+    fn end_numbers(&mut self)
+        ensures { Keeps self.old self.new }
+    {
+        if self.round().is_some() {
+            self.since = self.tally;
         }
     }
 
@@ -57,10 +67,30 @@ impl Line {
         if is_whole {
             one_more(&mut self.tally.cut);
         }
+        self.end_numbers();
     }
 
-    /// Counts a round that is done, unless it was of orders alone.
-    fn count_round(&mut self, now: Moment)
+    /// Tells that the round of a slot is done, which took so many milliseconds, if it asked something.
+    fn tell_polled(&self, journal: &mut Journal, slot: u32, millis: u64) {
+        let numbers = RoundNumbers {
+            millis,
+            asked: self.tally.queries.saturating_sub(self.since.queries),
+            recorded: self.tally.readings.saturating_sub(self.since.readings),
+            excepted: self.tally.exceptions.saturating_sub(self.since.exceptions),
+            refused: self.tally.refused.saturating_sub(self.since.refused),
+        };
+        if numbers.asked > 0 {
+            let line = self.stations.line();
+            journal.tell(&Event::Polled {
+                line,
+                slot,
+                numbers,
+            });
+        }
+    }
+
+    /// Counts and tells a round that is done, unless it was of orders alone.
+    fn count_round(&mut self, journal: &mut Journal, now: Moment)
         ensures { Keeps self.old self.new }
     {
         let Connection::Up(link) = &self.connection else {
@@ -69,9 +99,11 @@ impl Line {
         if let Some(round) = link.round()
             && round.kind() == Kind::Whole
         {
+            let slot = round.slot();
             let millis = round.began().until(now);
             self.tally.last_round = Some(millis);
             one_more(&mut self.tally.rounds);
+            self.tell_polled(journal, slot, millis);
         }
     }
 
@@ -91,6 +123,7 @@ impl Line {
         ensures same { IsSame self.old self.new }
         ensures rested { wire_at self.new ≡ rested (wire_at self.old) }
     {
+        self.end_numbers();
         if let Connection::Up(link) = &mut self.connection {
             link.end_round();
         }
@@ -150,10 +183,11 @@ impl Line {
         ensures settles { Settles (wire_at self.old) (wire_at self.new) }
     {
         let now = times.now;
+        self.count_queries();
         match self.becomes(times) {
             Some(Becomes::Done) => {
                 self.refusals = Delay::none();
-                self.count_round(now);
+                self.count_round(journal, now);
                 self.end_round();
                 self.stations.tell_silent(journal);
             }
@@ -182,7 +216,8 @@ impl Line {
         orders: u64,
     ) -> Result<(), Stop>
         requires { Wants self.old.beat slot }
-        ensures { Advances result self.old self.new office.old office.new (λ acts. acts ≡ []) }
+        ensures goes { Advances result self.old self.new office.old office.new (λ acts. acts ≡ []) }
+        ensures begins { (from_of self.new.beat ≡ from_of self.old.beat) ⊎ (from_of self.new.beat ≡ slot) }
     {
         let now = times.now;
         self.stations
@@ -263,6 +298,7 @@ impl Line {
     fn choose(&mut self, times: &Times, orders: u64) -> Option<(u32, Kind)>
         ensures keeps { Keeps self.old self.new }
         ensures wanted { IfSome result (λ chosen. Wants self.new.beat chosen.0) }
+        ensures by_clock { IfSome result (λ chosen. (chosen.0 ≡ from_of self.old.beat) ⊎ (slot_in times.entry.now ≡ Some chosen.0)) }
     {
         if self.pauses(times.now) {
             return None;
@@ -297,7 +333,8 @@ impl Line {
         times: Times,
         orders: u64,
     ) -> Result<bool, Stop>
-        ensures { Advances result self.old self.new office.old office.new (λ acts. acts ≡ []) }
+        ensures goes { Advances result self.old self.new office.old office.new (λ acts. acts ≡ []) }
+        ensures by_clock { BeginsAt (slot_in times) (state_at self.old) (state_at self.new) }
     {
         let Some((slot, kind)) = self.choose(&times, orders) else {
             return Ok(false);
