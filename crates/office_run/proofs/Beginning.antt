@@ -1,5 +1,5 @@
 -- A run begins with lines of which no connection stands, and with places where nobody is.
-use Rattle.std.proofs.Common.{◌≡◌, ◌+◌, ◌<◌, ◌∙◌, ℕ, zero, suc, List, [], ◌∷◌, ◌++◌, length, refl, sym, ap, subst, arith}
+use Rattle.std.proofs.Common.{◌≡◌, ◌+◌, ◌<◌, ◌≤◌, ◌∙◌, None, ℕ, zero, suc, List, [], ◌∷◌, ◌++◌, length, refl, sym, ap, subst, arith}
 use Rattle.std.specs.Prelude.{get_or, map, take}
 use Rattle.std.proofs.Math.Seq.{take-suc}
 use Rattle.std.proofs.lemmas.List.{map-append}
@@ -11,7 +11,7 @@ use Rattle.office_core.specs.declared.office.Office.{Office}
 use Rattle.run_lines.specs.declared.line.Line.{Line}
 use Rattle.run_callers.specs.declared.place.Place.{Place}
 use Rattle.run_callers.specs.Callers.{at_of, session_at}
-use Rattle.run_deeds.specs.Deeds.{GoesBy, Passes}
+use Rattle.run_deeds.specs.Deeds.{AllOf, GoesBy, IsNot, Passes}
 use Rattle.run_lines.specs.Lines.{place_of, state_at, terms_of}
 use Rattle.run_callers.specs.Sessions.{Free, Session, Through}
 use Rattle.run_lines.specs.Wires.{Down, LineMoves, State, Terms}
@@ -63,18 +63,25 @@ free_empty first [] caller empty = refl
 free_empty first (place ∷ places) zero empty = empty.1
 free_empty first (place ∷ places) (suc caller) empty = free_empty (suc first) places caller empty.2
 
+none_behind : (places : List Place) (caller : ℕ) → length places ≤ caller → nth places caller ≡ None
+none_behind [] caller few = refl
+none_behind (place ∷ places) zero few = absurd (omega (arith, few))
+none_behind (place ∷ places) (suc caller) few = none_behind places caller (omega (arith, few))
+
 -- ---- a run
 
 -- each line went on from there, and whoever was taken was served
-pub from_nothing : {K : Type 0} {g : Ghosts K} (old new : Office K g) (acted : List Act → Type 0) (lines lines' : List Line) (places places' : List Place) → AreDown 0 lines → AreEmpty 0 places
+pub from_nothing : {K : Type 0} {g : Ghosts K} (old new : Office K g) (acted : List Act → Type 0) (lines lines' : List Line) (places places' : List Place) → AreDown 0 lines → AreEmpty 0 places → length places ≤ 64
     → GoesBy old new acted (λ now deeds.
     ((line : ℕ) → Passes (LineMoves (known terms_of (record { name = []; most = 0 }) (nth lines line))) (source.Line line) now (known state_at (record { from = 0; wire = Down }) (nth lines line)) deeds (known state_at (record { from = 0; wire = Down }) (nth lines' line)))
-    × ((caller : ℕ) → Through (source.Caller caller) now (known session_at Free (nth places caller)) deeds (known session_at Free (nth places' caller))))
+    × ((caller : ℕ) → Through (source.Caller caller) now (known session_at Free (nth places caller)) deeds (known session_at Free (nth places' caller)))
+    × ((caller : ℕ) → nth places caller ≡ None → AllOf (IsNot (source.Caller caller)) deeds))
     → GoesBy old new acted (λ now deeds. AreWired (all_terms lines) now deeds × AreServed now deeds)
-from_nothing old new acted lines lines' places places' down empty =
+from_nothing old new acted lines lines' places places' down empty few =
     goes_wider old new acted acted
     (λ now deeds. ((line : ℕ) → Passes (LineMoves (known terms_of (record { name = []; most = 0 }) (nth lines line))) (source.Line line) now (known state_at (record { from = 0; wire = Down }) (nth lines line)) deeds (known state_at (record { from = 0; wire = Down }) (nth lines' line)))
-    × ((caller : ℕ) → Through (source.Caller caller) now (known session_at Free (nth places caller)) deeds (known session_at Free (nth places' caller))))
+    × ((caller : ℕ) → Through (source.Caller caller) now (known session_at Free (nth places caller)) deeds (known session_at Free (nth places' caller)))
+    × ((caller : ℕ) → nth places caller ≡ None → AllOf (IsNot (source.Caller caller)) deeds))
     (λ now deeds. AreWired (all_terms lines) now deeds × AreServed now deeds) (λ acts done. done)
     (λ now deeds passed. (
       λ line. (
@@ -82,8 +89,11 @@ from_nothing old new acted lines lines' places places' down empty =
         subst (λ (terms : Terms). Passes (LineMoves terms) (source.Line line) now (record { from = 0; wire = Down }) deeds (known state_at (record { from = 0; wire = Down }) (nth lines' line))) (named lines line)
             (subst (λ (state : State). Passes (LineMoves (known terms_of (record { name = []; most = 0 }) (nth lines line))) (source.Line line) now state deeds (known state_at (record { from = 0; wire = Down }) (nth lines' line))) (down_down 0 lines line down) (passed.0 line)),
       ),
-      λ caller. (
-        known session_at Free (nth places' caller),
-        subst (λ (session : Session). Through (source.Caller caller) now session deeds (known session_at Free (nth places' caller))) (free_empty 0 places caller empty) (passed.1 caller),
+      (
+        λ caller. (
+          known session_at Free (nth places' caller),
+          subst (λ (session : Session). Through (source.Caller caller) now session deeds (known session_at Free (nth places' caller))) (free_empty 0 places caller empty) (passed.1 caller),
+        ),
+        λ caller far. passed.2 caller (none_behind places caller (omega (arith, few, far))),
       ),
     ))

@@ -10,10 +10,10 @@ use Rattle.run_beat.proofs.Along.{by_turn, by_turns}
 use Rattle.office_core.specs.declared.office.Office.{Office}
 use Rattle.office_core.specs.History.{History}
 use Rattle.office_core.specs.Proceeding.{stepped}
-use Rattle.run_deeds.specs.Deeds.{AllOf, Deed, GoesBy, Is, Passes, steps_of}
+use Rattle.run_deeds.specs.Deeds.{AllOf, Deed, GoesBy, Is, IsNot, Passes, steps_of}
 use Rattle.run_callers.specs.Sessions.{Exchanges, Free, Moves, Session, Through}
 use Rattle.run_lines.specs.Wires.{Down, LineMoves, Lined, State, Terms}
-use Rattle.run_deeds.proofs.Deeds.{goes_still, goes_then, goes_wider}
+use Rattle.run_deeds.proofs.Deeds.{all_then, all_wider, goes_still, goes_then, goes_wider}
 use Rattle.run_deeds.proofs.Passing.{passes_others, passes_then}
 
 -- what is in the place of a number
@@ -63,6 +63,13 @@ known_same of none [] place place' back (suc at) same = refl
 known_same of none (other ∷ front) place place' back zero same = refl
 known_same of none (other ∷ front) place place' back (suc at) same = known_same of none front place place' back at same
 
+-- a place that there isn't stays away
+still_none : {C : Type 0} (front : List C) (place place' : C) (back : List C) (at : ℕ) → nth (front ++ place ∷ back) at ≡ None → nth (front ++ place' ∷ back) at ≡ None
+still_none [] place place' back zero none = absurd (cc)
+still_none [] place place' back (suc at) none = none
+still_none (other ∷ front) place place' back zero none = absurd (cc)
+still_none (other ∷ front) place place' back (suc at) none = still_none front place place' back at none
+
 another : (place caller : ℕ) → Caller place ≡ Caller caller → place ≡ 0 + caller
 another place caller same = let alike : place ≡ caller = cc in omega (arith, alike)
 
@@ -86,30 +93,31 @@ module _ {K S M N L C W : Type 0} {g : Ghosts K} (office_of : W → Office K g) 
   abbrev pub session_in : List C → ℕ → Session
   session_in cs caller = known session_of Free (nth cs caller)
 
-  -- the lines' connections and the callers' sessions
+  -- the lines' connections and the callers' sessions, and no deeds at places that there aren't
   abbrev pub Passed : List L → List C → List L → List C → History → List Deed → Type 0
   Passed ls cs ls' cs' now deeds =
       ((line : ℕ) → Passes (LineMoves (terms_by ls line)) (Line line) now (state_in ls line) deeds (state_in ls' line))
       × ((caller : ℕ) → Through (Caller caller) now (session_in cs caller) deeds (session_in cs' caller))
+      × ((caller : ℕ) → nth cs caller ≡ None → AllOf (IsNot (Caller caller)) deeds)
 
   abbrev pub Goes : List L → List C → W → List L → List C → W → Type 0
   Goes ls cs one ls' cs' two = Numbered line_at 0 ls × Numbered at_of 0 cs
-      → (Numbered line_at 0 ls' × Numbered at_of 0 cs' × ((line : ℕ) → terms_by ls' line ≡ terms_by ls line))
+      → (Numbered line_at 0 ls' × Numbered at_of 0 cs' × ((line : ℕ) → terms_by ls' line ≡ terms_by ls line) × ((caller : ℕ) → nth cs caller ≡ None → nth cs' caller ≡ None))
       × (office_name two ≡ office_name one) × (sockets_name two ≡ sockets_name one) × GoesBy (office_of one) (office_of two) (Acted one two) (Passed ls cs ls' cs')
 
   still : (ls : List L) (cs : List C) (world : W) → Goes ls cs world ls cs world
   still ls cs world numbered = (
-    (numbered.0, numbered.1, λ line. refl),
+    (numbered.0, numbered.1, λ line. refl, λ caller none. none),
     refl,
     refl,
-    goes_still (office_of world) (Acted world world) (Passed ls cs ls cs) (rests (sockets_of world)) (λ now. (λ line. refl, λ caller. refl)),
+    goes_still (office_of world) (Acted world world) (Passed ls cs ls cs) (rests (sockets_of world)) (λ now. (λ line. refl, λ caller. refl, λ caller none. tt)),
   )
 
   chains : (ls ls' ls'' : List L) (cs cs' cs'' : List C) (one two three : W) → Goes ls cs one ls' cs' two → Goes ls' cs' two ls'' cs'' three → Goes ls cs one ls'' cs'' three
   chains ls ls' ls'' cs cs' cs'' one two three first second numbered =
       let earlier = first numbered in
       let later = second (earlier.0.0, earlier.0.1) in (
-        (later.0.0, later.0.1, λ line. later.0.2 line ∙ earlier.0.2 line),
+        (later.0.0, later.0.1, λ line. later.0.2 line ∙ earlier.0.2 line, λ caller none. later.0.3 caller (earlier.0.3 caller none)),
         later.1 ∙ earlier.1,
         later.2 ∙ earlier.2,
         goes_then (office_of one) (office_of two) (office_of three) (Acted one two) (Acted two three) (Acted one three) (Passed ls cs ls' cs') (Passed ls' cs' ls'' cs'') (Passed ls cs ls'' cs'')
@@ -119,6 +127,7 @@ module _ {K S M N L C W : Type 0} {g : Ghosts K} (office_of : W → Office K g) 
                   passes_then (LineMoves (terms_by ls line)) (Line line) now more some (state_in ls line) (state_in ls' line) (state_in ls'' line)
                   (subst (λ (terms : Terms). Passes (LineMoves terms) (Line line) (stepped now (steps_of some)) (state_in ls' line) more (state_in ls'' line)) (earlier.0.2 line) (after.0 line)) (before.0 line),
               λ caller. passes_then Moves (Caller caller) now more some (session_in cs caller) (session_in cs' caller) (session_in cs'' caller) (after.1 caller) (before.1 caller),
+              λ caller none. all_then (IsNot (Caller caller)) more some (after.2 caller (earlier.0.3 caller none)) (before.2 caller none),
             ))
             earlier.3 later.3,
       )
@@ -137,7 +146,7 @@ module _ {K S M N L C W : Type 0} {g : Ghosts K} (office_of : W → Office K g) 
         let went = line_went line one more line' two step in
         let before = front ++ line ∷ back in
         let after = front ++ line' ∷ back in (
-          (renumbered line_at 0 front line line' back went.2 numbered.0, numbered.1, λ at. known_same terms_of (record { name = []; most = 0 }) front line line' back at went.3),
+          (renumbered line_at 0 front line line' back went.2 numbered.0, numbered.1, λ at. known_same terms_of (record { name = []; most = 0 }) front line line' back at went.3, λ caller none. none),
           went.0,
           went.1,
           goes_wider (office_of one) (office_of two) (Acted one two) (Acted one two)
@@ -156,6 +165,7 @@ module _ {K S M N L C W : Type 0} {g : Ghosts K} (office_of : W → Office K g) 
                           (state_in before at) deeds kept.0)
                     ],
                 λ caller. passes_others Moves (Caller caller) (Is (Line (line_at line))) (λ some is same. absurd (cc (is, same))) now (session_in cs caller) deeds kept.0,
+                λ caller none. all_wider (Is (Line (line_at line))) (IsNot (Caller caller)) (λ some is same. absurd (cc (is, same))) deeds kept.0,
               ))
               went.4,
         )
@@ -166,7 +176,7 @@ module _ {K S M N L C W : Type 0} {g : Ghosts K} (office_of : W → Office K g) 
         let went = caller_went place one more place' two step in
         let before = front ++ place ∷ back in
         let after = front ++ place' ∷ back in (
-          (numbered.0, renumbered at_of 0 front place place' back went.2 numbered.1, λ line. refl),
+          (numbered.0, renumbered at_of 0 front place place' back went.2 numbered.1, λ line. refl, λ caller none. still_none front place place' back caller none),
           went.0,
           went.1,
           goes_wider (office_of one) (office_of two) (Acted one two) (Acted one two)
@@ -184,6 +194,11 @@ module _ {K S M N L C W : Type 0} {g : Ghosts K} (office_of : W → Office K g) 
                       (passes_others Moves (Caller caller) (Is (Caller (at_of place))) (λ some is same. there.1 (another (at_of place) caller (sym is ∙ same))) now
                       (session_in before caller) deeds kept.0)
                 ],
+                λ caller none. elim (found at_of 0 front place place' back caller numbered.1) as (λ _. AllOf (IsNot (Caller caller)) deeds) [
+                  | inl here ↦ absurd (cc (none, here.0))
+                  | inr there ↦
+                      all_wider (Is (Caller (at_of place))) (IsNot (Caller caller)) (λ some is same. there.1 (another (at_of place) caller (sym is ∙ same))) deeds kept.0
+                ],
               ))
               went.3,
         )
@@ -191,11 +206,11 @@ module _ {K S M N L C W : Type 0} {g : Ghosts K} (office_of : W → Office K g) 
     by_wait : (ls : List L) (cs : List C) (one : W) (more : Bool) (result : Result (Unit {0}) SocketFault) (two : W) → waits one more result two → Goes ls cs one ls cs two
     by_wait ls cs one more result two waited numbered =
         let went = wait_went one more result two waited in (
-          (numbered.0, numbered.1, λ line. refl),
+          (numbered.0, numbered.1, λ line. refl, λ caller none. none),
           went.0,
           went.1,
           subst (λ (office : Office K g). GoesBy (office_of one) office (Acted one two) (Passed ls cs ls cs)) (sym went.2)
-              (goes_still (office_of one) (Acted one two) (Passed ls cs ls cs) went.3 (λ now. (λ line. refl, λ caller. refl))),
+              (goes_still (office_of one) (Acted one two) (Passed ls cs ls cs) went.3 (λ now. (λ line. refl, λ caller. refl, λ caller none. tt))),
         )
 
     pub turns_go : (turns : ℕ) (ls : List L) (cs : List C) (one : W) (ls' : List L) (cs' : List C) (two : W)

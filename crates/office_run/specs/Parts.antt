@@ -1,8 +1,8 @@
 -- The parts of a run: what each line and each caller's place did in it.
-use Rattle.std.specs.Prelude.{ℕ, zero, suc, List, [], ◌∷◌}
+use Rattle.std.specs.Prelude.{◌≤◌, ℕ, zero, suc, List, [], ◌∷◌}
 use Rattle.run_beat.specs.declared.sockets.Source.TheVariants.{Caller, Line}
 use Rattle.office_core.specs.History.{History}
-use Rattle.run_deeds.specs.Deeds.{Deed, Passes}
+use Rattle.run_deeds.specs.Deeds.{AllOf, Deed, IsNot, Passes}
 use Rattle.run_lines.specs.Wires.{Down, LineMoves, State, Terms}
 use Rattle.run_callers.specs.Sessions.{Free, Session, Through}
 
@@ -16,6 +16,8 @@ terms_at (terms ∷ all) (suc place) = terms_at all place
 abbrev pub AreWired : List Terms → History → List Deed → Type 0
 AreWired all now deeds = (place : ℕ) → (state : State) × Passes (LineMoves (terms_at all place)) (Line place) now (record { from = 0; wire = Down }) deeds state
 
--- whoever was taken at any place, each byte that was written to it is of the answer to what it had asked for
+-- whoever was taken at any place, each byte that was written to it is of the answer to what it had asked for; and there are at most 64 places
 abbrev pub AreServed : History → List Deed → Type 0
-AreServed now deeds = (caller : ℕ) → (session : Session) × Through (Caller caller) now Free deeds session
+AreServed now deeds =
+    ((caller : ℕ) → (session : Session) × Through (Caller caller) now Free deeds session)
+    × ((caller : ℕ) → 64 ≤ caller → AllOf (IsNot (Caller caller)) deeds)

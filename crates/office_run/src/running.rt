@@ -1,5 +1,5 @@
 //! The turns of an office that stays up.
-ghost use Rattle.std.specs.Prelude.{◌≡◌, ◌||◌, [], IfOk, is_some};
+ghost use Rattle.std.specs.Prelude.{◌≡◌, ◌≤◌, ◌||◌, [], IfOk, is_some, length};
 ghost use Rattle.run_beat.specs.declared.sockets.Source.TheVariants as source;
 ghost use Rattle.point_list.specs.Sites.{IsSound};
 ghost use Rattle.office_core.specs.Offices.{site_of};
@@ -474,7 +474,7 @@ fn lines_of(alloc: Global, site: &Site, timeout: u32) -> Result<Vec<Line>, Alloc
 
 /// Empty places for callers.
 fn places(alloc: Global) -> Result<Vec<Place>, AllocError>
-    ensures { IfOk result (λ places. AreEmpty 0 places.items) }
+    ensures { IfOk result (λ places. AreEmpty 0 places.items × (length places.items ≡ 64)) }
 {
     let mut places = Vec::new(alloc);
     for at in 0..MOST_CALLERS {
@@ -498,6 +498,7 @@ fn stay<K: Keeper, S: Sockets>(
 ) -> Result<(), RunFault>
     requires lines { AreDown 0 lines.old.items }
     requires places { AreEmpty 0 places.old.items }
+    requires few { length places.old.items ≤ 64 }
     ensures { (world.new.office.ghost_name ≡ world.old.office.ghost_name) × (world.new.sockets.ghost_name ≡ world.old.sockets.ghost_name)
         × GoesBy world.old.office.now world.new.office.now (λ acts. S.acts world.old.sockets.now acts world.new.sockets.now)
         (λ now deeds. AreWired (all_terms lines.old.items) now deeds × AreServed now deeds) }
@@ -519,6 +520,7 @@ fn turns<K: Keeper, S: Sockets>(
 ) -> Result<(), RunFault>
     requires lines { AreDown 0 lines.old.items }
     requires places { AreEmpty 0 places.old.items }
+    requires few { length places.old.items ≤ 64 }
     ensures { GoesBy office.old office.new (λ acts. S.acts sockets.old acts sockets.new) (λ now deeds. AreWired (all_terms lines.old.items) now deeds × AreServed now deeds) }
 {
     let mut world = Running {

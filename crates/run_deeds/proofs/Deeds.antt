@@ -12,7 +12,7 @@ use Rattle.office_core.specs.Proceeding.{AreOf, GoesAlong, LeftBySteps, Nothing,
 use Rattle.office_net.proofs.Querying.{none_of}
 use Rattle.office_core.proofs.Proceeding.{are_then, left_by_more, left_by_then, stepped_then}
 use Rattle.run_deeds.specs.Doings.{Runs}
-use Rattle.run_deeds.specs.Deeds.{ActsOf, AllOf, Deed, Deeds, GoesBy, acts_in, acts_of, steps_in, steps_of, with_all}
+use Rattle.run_deeds.specs.Deeds.{ActsOf, AllOf, Deed, Deeds, GoesBy, acts_in, acts_of, source_of, steps_in, steps_of, with_all}
 
 -- ---- lists of deeds
 
@@ -28,6 +28,10 @@ stepped_by now second first = ap (λ (steps : List Step). stepped now steps) (st
 pub all_then : (of : Source → Type 0) (second first : List Deed) → AllOf of second → AllOf of first → AllOf of (second ++ first)
 all_then of [] first later earlier = earlier
 all_then of (deed ∷ second) first later earlier = (later.0, all_then of second first later.1 earlier)
+
+pub all_wider : (of of' : Source → Type 0) → ((some : Source) → of some → of' some) → (deeds : List Deed) → AllOf of deeds → AllOf of' deeds
+all_wider of of' wider [] all = tt
+all_wider of of' wider (deed ∷ deeds) all = (wider (source_of deed) all.0, all_wider of of' wider deeds all.1)
 
 -- ---- deeds behind deeds
 

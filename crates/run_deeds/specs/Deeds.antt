@@ -85,6 +85,10 @@ acts_of = flat_map acts_in
 abbrev pub Is : Source → Source → Type 0
 Is source some = some ≡ source
 
+-- of another one
+abbrev pub IsNot : Source → Source → Type 0
+IsNot source some = some ≢ source
+
 -- all are of such lines or callers
 abbrev pub AllOf : (Source → Type 0) → List Deed → Type 0
 AllOf of [] = ⊤

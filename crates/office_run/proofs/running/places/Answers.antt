@@ -1,4 +1,4 @@
-use Rattle.std.proofs.Common.{List, ◌+◌, ℕ, length, ◌∙◌, ap, sym, subst, arith}
+use Rattle.std.proofs.Common.{◌≡◌, List, ◌+◌, ℕ, length, ◌∙◌, ap, sym, subst, arith}
 use Rattle.std.proofs.lemmas.List.{length_push}
 use Rattle.run_callers.specs.declared.place.Place.{Place}
 use Rattle.office_run.specs.Beginnings.{AreEmpty}
@@ -18,4 +18,6 @@ loop-at-preserved c =
     )
 
 pub returns : goal.returns
-returns c = c.loop-at.invariant.0
+returns c =
+    let full : c.loop-at.at ≡ 64 = omega (arith, c.loop-at-test.false, c.loop-at.auto.at-end) in
+    (c.loop-at.invariant.0, c.loop-at.invariant.1 ∙ full)

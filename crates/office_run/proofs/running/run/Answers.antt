@@ -12,31 +12,31 @@ pub returns-in_err-times-clause-deeds : goal.returns-in_err-times-clause-deeds
 returns-in_err-times-clause-deeds g c =
     let office = c.args.office.now in
     goes_still office (λ acts. g.S.Sockets.acts c.args.sockets.now acts c.args.sockets.now) (λ now deeds. AreWired (site_terms (site_of office)) now deeds × AreServed now deeds)
-    (g.S.Sockets.rests c.args.sockets.now) (λ now. (λ line. (record { from = 0; wire = Down }, refl), λ caller. (Free, refl)))
+    (g.S.Sockets.rests c.args.sockets.now) (λ now. (λ line. (record { from = 0; wire = Down }, refl), (λ caller. (Free, refl), λ caller far. tt)))
 
 pub returns-in_err-lines-clause-deeds : goal.returns-in_err-lines-clause-deeds
 returns-in_err-lines-clause-deeds g c =
     let office = c.args.office.now in
     goes_still office (λ acts. g.S.Sockets.acts c.args.sockets.now acts c.args.sockets.now) (λ now deeds. AreWired (site_terms (site_of office)) now deeds × AreServed now deeds)
-    (g.S.Sockets.rests c.args.sockets.now) (λ now. (λ line. (record { from = 0; wire = Down }, refl), λ caller. (Free, refl)))
+    (g.S.Sockets.rests c.args.sockets.now) (λ now. (λ line. (record { from = 0; wire = Down }, refl), (λ caller. (Free, refl), λ caller far. tt)))
 
 pub returns-in_err-places-clause-deeds : goal.returns-in_err-places-clause-deeds
 returns-in_err-places-clause-deeds g c =
     let office = c.args.office.now in
     goes_still office (λ acts. g.S.Sockets.acts c.args.sockets.now acts c.args.sockets.now) (λ now deeds. AreWired (site_terms (site_of office)) now deeds × AreServed now deeds)
-    (g.S.Sockets.rests c.args.sockets.now) (λ now. (λ line. (record { from = 0; wire = Down }, refl), λ caller. (Free, refl)))
+    (g.S.Sockets.rests c.args.sockets.now) (λ now. (λ line. (record { from = 0; wire = Down }, refl), (λ caller. (Free, refl), λ caller far. tt)))
 
 pub returns-in_err-orders-clause-deeds : goal.returns-in_err-orders-clause-deeds
 returns-in_err-orders-clause-deeds g c =
     let office = c.args.office.now in
     goes_still office (λ acts. g.S.Sockets.acts c.args.sockets.now acts c.args.sockets.now) (λ now deeds. AreWired (site_terms (site_of office)) now deeds × AreServed now deeds)
-    (g.S.Sockets.rests c.args.sockets.now) (λ now. (λ line. (record { from = 0; wire = Down }, refl), λ caller. (Free, refl)))
+    (g.S.Sockets.rests c.args.sockets.now) (λ now. (λ line. (record { from = 0; wire = Down }, refl), (λ caller. (Free, refl), λ caller far. tt)))
 
 pub returns-in_err-board-clause-deeds : goal.returns-in_err-board-clause-deeds
 returns-in_err-board-clause-deeds g c =
     let office = c.args.office.now in
     goes_still office (λ acts. g.S.Sockets.acts c.args.sockets.now acts c.args.sockets.now) (λ now deeds. AreWired (site_terms (site_of office)) now deeds × AreServed now deeds)
-    (g.S.Sockets.rests c.args.sockets.now) (λ now. (λ line. (record { from = 0; wire = Down }, refl), λ caller. (Free, refl)))
+    (g.S.Sockets.rests c.args.sockets.now) (λ now. (λ line. (record { from = 0; wire = Down }, refl), (λ caller. (Free, refl), λ caller far. tt)))
 
 pub returns-clause-deeds : goal.returns-clause-deeds
 returns-clause-deeds g c =
