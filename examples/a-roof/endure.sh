@@ -3,17 +3,18 @@
 #
 #     bash examples/a-roof/endure.sh [PATH-OF-OFFICE]
 #
-# A device behind a gateway is dead, one is late, a line floods, one is away while orders for it come, callers take
-# their time, a disk is full, and a clock is set. Each line of standard output says what was wanted and what came; where
-# these aren't the same somewhere, the status is 1 at the end. Without a path it proves and builds the program first. It
-# takes a minute and a half, works in a new folder of its own, which it leaves, and needs curl, Python 3, and the ports
-# 15030 to 15036 and 18090 to 18092. For the disk it needs to be root, and for the clock Debian's package faketime:
-# where it can't have these it says so, and tries the rest.
+# A device behind a gateway is dead, one is late, a line answers nothing, one resets its connection in the midst of
+# frames, one floods, one is away while orders for it come, callers take their time, a disk is full, and a clock is set.
+# Each line of standard output says what was wanted and what came; where these aren't the same somewhere, the status is
+# 1 at the end. Without a path it proves and builds the program first. It takes a minute and a half, works in a new
+# folder of its own, which it leaves, and needs curl, Python 3, and the ports 15030 to 15038 and 18090 to 18092. For the
+# disk it needs to be root, and for the clock Debian's package faketime: where it can't have these it says so, and tries
+# the rest.
 set -Eeuo pipefail
 . "$(dirname "$0")/shared.sh"
 needs curl 'which asks the office over HTTP'
 needs python3 'which plays the devices'
-for port in {15030..15036} {18090..18092}; do needs_port "$port"; done
+for port in {15030..15038} {18090..18092}; do needs_port "$port"; done
 find_office "$@"
 program=$office
 tell 'vexes the office for a minute and a half.'
@@ -117,6 +118,11 @@ used() {
     echo $(((numbers[13] + numbers[14]) * 1000 / $(getconf CLK_TCK)))
 }
 
+# How many milliseconds an answer took, of which the status and the seconds are told.
+waited() {
+    awk '{ print $1 == "200" ? int($2 * 1000) : "status " $1 }' <<< "$1"
+}
+
 # A list with a gauge of each of these devices, and the points that standard input has.
 list() {
     echo name,device,table,address,type,length,scale,role,roll
@@ -156,6 +162,8 @@ line = [
     { name = "flood", address = "127.0.0.1:15032" },
     { name = "late", address = "127.0.0.1:15033" },
     { name = "away", address = "127.0.0.1:15034" },
+    { name = "mute", address = "127.0.0.1:15037" },
+    { name = "torn", address = "127.0.0.1:15038" },
 ]
 device = [
     { name = "good", line = "good", unit = 1 },
@@ -164,12 +172,14 @@ device = [
     { name = "flood", line = "flood", unit = 1 },
     { name = "late", line = "late", unit = 1 },
     { name = "away", line = "away", unit = 1 },
+    { name = "mute", line = "mute", unit = 1 },
+    { name = "torn", line = "torn", unit = 1 },
 ]
 TOML
 # Each second address, so that each point is a read of its own.
 for address in {100..138..2}; do echo "near.$address,near,holding,$address,uint16,,,gauge,"; done |
-    list good near far flood late away > all/points.csv
-echo away.limit,away,holding,40,uint16,,,setting, >> all/points.csv
+    list good near far flood late away mute torn > all/points.csv
+for device in good away; do echo "$device.limit,$device,holding,40,uint16,,,setting,"; done >> all/points.csv
 site clock 15035 > clock/site.toml
 list clock > clock/points.csv << 'CSV'
 clock.limit,clock,holding,40,uint16,,,setting,
@@ -199,10 +209,13 @@ done > loaded
 
 mkfifo said
 exec 3<> said
-bash "$here/vex.sh" good=15030 gateway=15031 flood=15032 late=15033 away=15034 clock=15035 disk=15036 < said > heard &
+bash "$here/vex.sh" good=15030 gateway=15031 flood=15032 late=15033 away=15034 clock=15035 disk=15036 mute=15037 \
+    torn=15038 < said > heard &
 players+=($!)
-for line in good gateway flood late clock disk; do echo "open $line" >&3; done
+for line in good gateway flood late clock mute torn disk; do echo "open $line" >&3; done
 echo 'silent gateway 1' >&3
+echo 'silent mute 1' >&3
+echo 'reset torn' >&3
 echo 'late late 1.5' >&3
 await 5 heard 'disk is open'
 
@@ -232,8 +245,12 @@ behind="$behind $(! $has_clock || state 18091 k1)"
 at 11
 set_clock +0
 echo 'speak gateway 1' >&3
+echo 'calm torn' >&3
 rm -f disk/room/filling
+at 12
+soon=$(order 18090 k5 good.limit 50)
 at 13
+soon="$soon $(state 18090 k5)"
 full="$full $(! $has_disk || order 18092 k1 disk.limit 80)"
 at 15
 set_clock +3600
@@ -255,6 +272,11 @@ took=$(ask 18090 /points/good.slot/readings/1/1 --max-time 16 -o answer -w '%{ht
 at 47
 echo 'leave' >&3
 at 48
+echo 'begin 18090 20' >&3
+await 5 heard '20 callers are there'
+beside=$(ask 18090 /points/good.slot/readings/1/1 -o answer -w '%{http_code} %{time_total}')
+echo 'leave' >&3
+at 50
 
 check_slots 'a dead device' 18090 "$(slot_at 2)" "$(slot_at 8)" far.slot
 check 'a dead device: times that it was told' 1 "$(count all/listening 'device near of line gateway is silent')"
@@ -265,6 +287,13 @@ check_slots 'a dead device that is alive again' 18090 "$(slot_at 14)" "$(slot_at
 check_slots 'a late device' 18090 "$(slot_at 2)" "$(slot_at 26)" late.slot
 check 'a late device: times that its line was told to be down' 0 "$(count all/listening 'line late is down')"
 
+check 'a line that answers nothing: why it was told to be down' 'nothing was answered in time' \
+    "$(told all 'line mute is down: ')"
+check 'a line that resets in the midst of frames: why it was told to be down' 'the connection ended' \
+    "$(told all 'line torn is down: ' | sed 's/, /\n/g' | sort -u | join ,)"
+check_slots 'a line that resets no more' 18090 "$(slot_at 20)" "$(slot_at 26)" torn.slot
+
+check 'an order: its status, and how it stands a second later' '201 done' "$soon"
 check 'orders for a line that is away: statuses' '201 201 201 201' "$accepted"
 check 'orders for a line that is away: sent once it is there' '10 20 30 40 in 1 slots' "$(
     awk '/^away was set/ { values = values $5 " "; slots[$8] } END { print values "in " length(slots) " slots" }' heard
@@ -278,7 +307,8 @@ check 'a flood: milliseconds of processor time in the next ten seconds' 'at most
 check_slots 'a flood' 18090 "$(slot_at 18)" "$(slot_at 26)" good.slot far.slot late.slot
 
 check '64 callers whose body takes its time: milliseconds until another one is answered' 'at most 12000' \
-    "$(awk '{ print $1 == "000" ? "no answer" : int($2 * 1000) }' <<< "$took")"
+    "$(waited "$took")"
+check 'beside 20 callers whose head never ends: milliseconds until another one is answered' 'at most 500' "$(waited "$beside")"
 check_slots '64 callers whose body takes its time' 18090 "$(slot_at 34)" "$(slot_at 44)" good.slot far.slot late.slot
 
 if $has_disk; then

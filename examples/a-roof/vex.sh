@@ -10,8 +10,10 @@
 #     speak LINE UNIT         it answers again
 #     late LINE SECONDS       its answers come so much later
 #     flood LINE              behind each answer it sends what nobody asked for, as fast as it can
-#     calm LINE               it does no more
-#     call PORT COUNT         so many callers send a whole head to a port, and then a byte of the body a second
+#     reset LINE              it resets its connection in the midst of each answer
+#     calm LINE               it does neither any more
+#     begin PORT COUNT        so many callers send a byte a second of a head that never ends to a port
+#     call PORT COUNT         so many send a whole head, and then a byte of the body a second
 #     leave                   they go
 #
 # Standard output says which line is open, which orders came, and when all callers are there. It needs Python 3 alone.
@@ -28,6 +30,12 @@ SETTING, COUNTER = 40, 107
 ROLL = 60000
 # Replies to a query that nobody made.
 UNASKED = struct.pack(">HHHBBBH", 50000, 0, 5, 1, 3, 2, 0) * 1000
+# A connection that is closed so is reset: nothing that wasn't taken of it is kept.
+RESET = struct.pack("ii", 1, 0)
+HEADS = {
+    "begin": b"GET /points HTTP/1.1\r\nSlow: ",
+    "call": b"PUT /callers/slow/lists/l HTTP/1.1\r\nContent-Length: 1000\r\n\r\n",
+}
 
 began = time.monotonic()
 left = threading.Event()
@@ -50,6 +58,7 @@ class Line:
         self.silent: set[str] = set()
         self.delay = 0.0
         self.floods = False
+        self.resets = False
         self.setting = 0
 
     def open(self) -> None:
@@ -69,6 +78,10 @@ class Line:
                 while len(head := queries.read(7)) == 7:
                     transaction, _, length, unit = struct.unpack(">HHHB", head)
                     query = queries.read(length - 1)
+                    if self.resets:
+                        peer.sendall(self.frame(transaction, unit, query)[:8])
+                        peer.setsockopt(socket.SOL_SOCKET, socket.SO_LINGER, RESET)
+                        return
                     if str(unit) not in self.silent:
                         self.reply_later(peer, transaction, unit, query)
                     while self.floods:
@@ -82,12 +95,15 @@ class Line:
         else:
             self.reply(*words)
 
-    def reply(self, peer: socket.socket, transaction: int, unit: int, query: bytes) -> None:
-        answer = self.answer(query)
+    def reply(self, peer: socket.socket, *words) -> None:
         try:
-            peer.sendall(struct.pack(">HHHB", transaction, 0, len(answer) + 1, unit) + answer)
+            peer.sendall(self.frame(*words))
         except OSError:
             pass
+
+    def frame(self, transaction: int, unit: int, query: bytes) -> bytes:
+        answer = self.answer(query)
+        return struct.pack(">HHHB", transaction, 0, len(answer) + 1, unit) + answer
 
     def answer(self, query: bytes) -> bytes:
         function, address, count = struct.unpack(">BHH", query[:5])
@@ -109,12 +125,12 @@ class Line:
         return slot() % ROLL
 
 
-def call(port: str, count: str) -> None:
+def call(kind: str, port: str, count: str) -> None:
     left.clear()
     callers = []
-    for number in range(int(count)):
+    for _ in range(int(count)):
         caller = socket.create_connection(("127.0.0.1", int(port)))
-        caller.sendall(b"PUT /callers/slow/lists/l%d HTTP/1.1\r\nContent-Length: 1000\r\n\r\n" % number)
+        caller.sendall(HEADS[kind])
         callers.append(caller)
     tell(len(callers), "callers are there")
     while not left.wait(1):
@@ -132,8 +148,8 @@ for word in sys.argv[1:]:
     name, port = word.split("=")
     lines[name] = Line(name, int(port))
 for words in map(str.split, sys.stdin):
-    if words[0] == "call":
-        threading.Thread(target=call, args=words[1:], daemon=True).start()
+    if words[0] in HEADS:
+        threading.Thread(target=call, args=words, daemon=True).start()
     elif words[0] == "leave":
         left.set()
     elif words[0] == "open":
@@ -146,4 +162,5 @@ for words in map(str.split, sys.stdin):
         lines[words[1]].delay = float(words[2])
     else:
         lines[words[1]].floods = words[0] == "flood"
+        lines[words[1]].resets = words[0] == "reset"
 PYTHON
