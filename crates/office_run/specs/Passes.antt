@@ -5,7 +5,7 @@ use Rattle.office_run.specs.declared.pass.Pass.{Pass}
 
 -- a turn begins
 abbrev pub begun : ℕ → Pass → Pass
-begun now pass = record pass { number = if pass.is_owed then pass.number else (pass.number + 1) % (2 ^ 64); until = later now 10; is_owed = false }
+begun now pass = record pass { number = if pass.is_owed then pass.number else (pass.number + 1) % (2 ^ 64); until = later now 5; is_owed = false }
 
 -- it had no turn in this pass
 abbrev pub is_due : ℕ → Pass → Bool

@@ -5,7 +5,7 @@ ghost use Rattle.office_run.specs.Passes as passes;
 use run_beat::Moment;
 
 /// For so many milliseconds of a turn lines do something, and for as many callers.
-const MOST_MILLIS: u32 = 10;
+const MOST_MILLIS: u32 = 5;
 
 /// A pass over lines, or over callers: each does something once in it. It takes one turn, or several where they take
 /// too long; then those that are owed have theirs before any has another one.
