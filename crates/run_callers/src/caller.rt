@@ -353,6 +353,9 @@ impl Caller {
         let mut piece = [0u8; PIECE];
         match sockets.read(source, &mut piece) {
             Came::Nothing => {
+                if self.due() <= now {
+                    return Err(Gone);
+                }
                 self.has_paused = true;
                 return Ok(false);
             }
@@ -468,7 +471,8 @@ impl Caller {
         Ok(has_shown || has_written)
     }
 
-    /// Goes on with the exchange; tells whether there may be more to do at once.
+    /// Goes on with the exchange; tells whether there may be more to do at once. What came of its head is read before
+    /// it is judged as late, since it may have been there for as long as others had their turns.
     pub fn go_on<K: Keeper, S: Sockets>(
         &mut self,
         office: &mut Office<K>,
@@ -481,7 +485,7 @@ impl Caller {
             (λ _. Exchanges source office.old office.new (λ acts. S.acts sockets.old acts sockets.new) (session_of self.old) (session_of self.new))
             (λ _. (session : Session) × Exchanges source office.old office.new (λ acts. S.acts sockets.old acts sockets.new) (session_of self.old) session) }
     {
-        if self.due() <= now {
+        if self.until <= now {
             return Err(Gone);
         }
         match self.mood {

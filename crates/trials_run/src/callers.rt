@@ -263,3 +263,33 @@ fn staying(trial: &Trial<'_>) -> Result<(), OfficeError> {
 fn a_caller_has_a_second_behind_its_answer(rt: HostRuntime) -> Result<(), Fail> {
     Ok(twice!(rt, staying)?)
 }
+
+/// Each heard this.
+struct AllHeard(&'static str);
+
+impl Look<MemKeeper> for AllHeard {
+    fn look(&self, trial: &Trial<'_>, left: &mut Left<MemKeeper>) -> Result<(), OfficeError> {
+        for guest in &left.world.guests.all {
+            trial.told(&"heard", &guest.heard.as_slice(), &self.0.as_bytes());
+        }
+        Ok(())
+    }
+}
+
+/// Eight come at once, each of which takes a second: the last ones have their turn when five are over.
+fn unheard(trial: &Trial<'_>) -> Result<(), OfficeError> {
+    let world = world(
+        trial.alloc(),
+        16_000,
+        &[],
+        &[Speech::at_once(4_000, WHOLE); 8],
+    )?;
+    look_behind_new(trial, &[], world.with_pace(1_000), &AllHeard(ANSWER))
+}
+
+#[test]
+fn what_a_caller_said_in_time_is_heard_though_others_took_theirs(
+    rt: HostRuntime,
+) -> Result<(), Fail> {
+    Ok(twice!(rt, unheard)?)
+}

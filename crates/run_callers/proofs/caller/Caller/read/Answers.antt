@@ -8,6 +8,10 @@ use Rattle.run_deeds.proofs.Passing.{part_still, then_office}
 use Rattle.office_net.proofs.Querying.{told_err}
 use Rattle.run_callers.proofs.caller.Caller.read.Goals as goal
 
+pub returns-then-le : goal.returns-then-le
+returns-then-le g c =
+    (_, part_still Moves c.args.source c.args.office.now (λ acts. g.S.Sockets.acts c.args.sockets.now acts c.read.new.self) (session_of c.args.self.now) c.in-Nothing.ensures.acts)
+
 pub returns-in-Failed : goal.returns-in-Failed
 returns-in-Failed g c =
     (_, part_still Moves c.args.source c.args.office.now (λ acts. g.S.Sockets.acts c.args.sockets.now acts c.read.new.self) (session_of c.args.self.now) c.in-Failed.ensures.acts)
