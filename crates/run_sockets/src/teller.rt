@@ -15,48 +15,82 @@ const STANDARD_ERROR: RawFd = 2;
 /// A pipe that is told to be ready takes so many bytes without a wait (POSIX, `PIPE_BUF`, on Linux).
 const MOST_AT_ONCE: usize = 4_096;
 
+/// What standard error is.
+#[derive(Clone, Copy, Debug)]
+enum Kind {
+    /// A pipe or a terminal, of which the system tells when it is ready.
+    Watched,
+    /// A file, of which it refuses that: it never has to be waited for.
+    File,
+    /// It isn't open. A connection may have its descriptor, so nothing is written.
+    Closed,
+}
+
 /// Standard error.
 #[derive(Drop)]
 pub(crate) struct Teller<E> {
     out: E,
-    // Whether the system tells when it is ready. It refuses that of a file, which never has to be waited for.
-    is_watched: bool,
+    kind: Kind,
+    // Whether the system was asked when it is ready since something was written last.
+    has_asked: bool,
 }
 
 impl<E: Write> Teller<E> {
-    /// Has the system tell when it is ready, where it may have to be waited for.
+    /// Looks what it is.
     pub(crate) fn new(poll: &Poll, out: E) -> Teller<E> {
         let watched = poll
             .registry()
             .register(&mut SourceFd(&STANDARD_ERROR), ERROR, Interest::WRITABLE);
+        let kind = match watched {
+            Ok(()) => Kind::Watched,
+            // `EBADF` has no kind of its own.
+            Err(error) if error.kind() == ErrorKind::Uncategorized => Kind::Closed,
+            Err(_) => Kind::File,
+        };
         Teller {
             out,
-            is_watched: watched.is_ok(),
+            kind,
+            has_asked: false,
         }
     }
 
-    /// Has the system tell again, also where it is ready still.
-    fn watch_on(&self, poll: &Poll) {
+    /// Has the system tell when it is ready, also where it is so still.
+    fn ask(&mut self, poll: &Poll) {
         // Where that is refused nothing more is told, and nobody is held up.
         let _ = poll
             .registry()
             .reregister(&mut SourceFd(&STANDARD_ERROR), ERROR, Interest::WRITABLE);
+        self.has_asked = true;
     }
 
-    /// Writes once, where it is ready, as far as that takes no wait.
+    /// Writes once, where it is ready, as far as that takes no wait. What the system told before something was to be
+    /// written says nothing: a terminal may have been stopped since.
+    fn write_where_ready(&mut self, poll: &Poll, is_ready: &mut bool, bytes: &[u8]) -> Sent
+        requires { 0 < length bytes.now }
+        ensures { SentWithin (length bytes.now) result }
+    {
+        let may_write = self.has_asked && *is_ready;
+        if !self.has_asked {
+            *is_ready = false;
+            self.ask(poll);
+        }
+        if !may_write {
+            return Sent::Nothing;
+        }
+        self.has_asked = false;
+        self.write_once(&bytes[..bytes.len().min(MOST_AT_ONCE)])
+    }
+
+    /// Writes once, as far as that takes no wait.
     pub(crate) fn write(&mut self, poll: &Poll, is_ready: &mut bool, bytes: &[u8]) -> Sent
         requires { 0 < length bytes.now }
         ensures { SentWithin (length bytes.now) result }
     {
-        if !self.is_watched {
-            return self.write_once(bytes);
+        match self.kind {
+            Kind::Watched => self.write_where_ready(poll, is_ready, bytes),
+            Kind::File => self.write_once(bytes),
+            Kind::Closed => Sent::Failed,
         }
-        if !*is_ready {
-            return Sent::Nothing;
-        }
-        *is_ready = false;
-        self.watch_on(poll);
-        self.write_once(&bytes[..bytes.len().min(MOST_AT_ONCE)])
     }
 
     fn write_once(&mut self, bytes: &[u8]) -> Sent
