@@ -368,14 +368,18 @@ impl<K: Keeper, S: Sockets> Running<'_, K, S> {
         }
     }
 
-    /// So many milliseconds may pass, if nothing comes.
+    /// So many milliseconds may pass, if nothing comes: less what the turn itself took.
     fn patience(&self) -> u64 {
-        let most = self.times.slots.until_next(self.times.clock);
-        let most = most.min(MOST_WAIT);
-        match self.due {
-            Some(due) => most.min(self.times.now.until(due)),
+        let times = &self.times;
+        let Ok(now) = self.sockets.now() else {
+            return 0;
+        };
+        let most = times.slots.until_next(times.clock).min(MOST_WAIT);
+        let most = match self.due {
+            Some(due) => most.min(times.now.until(due)),
             None => most,
-        }
+        };
+        most.saturating_sub(times.now.until(now))
     }
 }
 
@@ -400,6 +404,8 @@ impl<K: Keeper, S: Sockets> World for Running<'_, K, S> {
             self.patience()
         };
         self.sockets.wait(most)?;
+        // What is to be told may be taken only now, and the run may end.
+        self.journal.write(self.sockets);
         self.times = Times::of(self.sockets, self.times.slots, &mut self.watch)?;
         self.due = self.watch.held_until(self.times.now);
         self.tell_clock();

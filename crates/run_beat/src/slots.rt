@@ -36,7 +36,8 @@ impl Slots {
         }
     }
 
-    pub(crate) fn millis(self) -> u64
+    /// The milliseconds of a slot.
+    pub fn millis(self) -> u64
         ensures { result ≡ self * 1000 }
     {
         u64::from(self.seconds) * 1_000
