@@ -1,11 +1,11 @@
 -- The oldest order that waits on a device.
-use Rattle.std.proofs.Common.{◌≡◌, ◌∙◌, ◌≤◌, ℕ, List, true, Option, Some, None, refl, sym, ap, subst}
+use Rattle.std.proofs.Common.{◌≡◌, ◌∙◌, ℕ, List, true, Option, Some, None, refl, sym, ap}
 use Rattle.std.specs.Prelude.{is_some, option_map}
 use Rattle.poll_book.specs.declared.rows.Setting.{Setting}
 use Rattle.poll_book.specs.declared.rows.SettingRow.{SettingRow}
 use Rattle.poll_book.specs.Orders.{as_setting}
 use Rattle.office_core.specs.History.{History, Send}
-use Rattle.office_net.specs.Kinds.{IsOldest, SendsUpTo, number_in}
+use Rattle.office_net.specs.Kinds.{IsOldest, Sends, number_in}
 use Rattle.office_net.specs.Moves.{next_order, number_of}
 
 abbrev number_of_row : SettingRow → ℕ
@@ -26,7 +26,5 @@ is_number number None is = absurd (cc)
 is_number number (Some row) is = cc
 
 -- the order of this number is sent
-pub oldest_is_sent : (last conn number : ℕ) (device : List ℕ) → number ≤ last → (now : History) → IsOldest now device (Some number) → SendsUpTo last conn device now (Send conn number)
-oldest_is_sent last conn number device few now oldest =
-    let same = is_number number (next_order now device) oldest in
-    ((waits number (next_order now device) oldest, ap (Send conn) same), subst (λ (n : ℕ). n ≤ last) same few)
+pub oldest_is_sent : (conn number : ℕ) (device : List ℕ) (now : History) → IsOldest now device (Some number) → Sends conn device now (Send conn number)
+oldest_is_sent conn number device now oldest = (waits number (next_order now device) oldest, ap (Send conn) (is_number number (next_order now device) oldest))

@@ -1,5 +1,5 @@
 -- Kinds of what is done with an office: which events may be made of a history.
-use Rattle.std.specs.Prelude.{◌≡◌, ℕ, ◌≤◌, true, List, Option, Some, is_some, option_map}
+use Rattle.std.specs.Prelude.{◌≡◌, ℕ, true, List, Option, Some, is_some, option_map}
 use Rattle.mb_mbap.specs.declared.frame.Frame.{Frame}
 use Rattle.poll_book.specs.declared.rows.Setting.{Setting}
 use Rattle.read_planner.specs.declared.Read.{Read}
@@ -35,10 +35,6 @@ IsOldest now device number = number ≡ option_map number_in (next_order now dev
 -- the oldest order that waits on a device is sent
 abbrev pub Sends : ℕ → List ℕ → History → Happening → Type 0
 Sends conn device now event = (is_some (next_order now device) ≡ true) × (event ≡ Send conn (number_of (next_order now device)))
-
--- the same, if its number is at most this one
-abbrev pub SendsUpTo : ℕ → ℕ → List ℕ → History → Happening → Type 0
-SendsUpTo last conn device now event = Sends conn device now event × (number_of (next_order now device) ≤ last)
 
 -- a job has its turn
 abbrev pub Turn : ℕ → ℕ → LineJob → History → Happening → Type 0

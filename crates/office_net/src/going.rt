@@ -7,7 +7,7 @@ ghost use Rattle.office_core.specs.Offices.{AccountsFor, arrived, keeper_of};
 ghost use Rattle.office_net.specs.Counting.{Learnt};
 ghost use Rattle.office_core.specs.Following.{Follows};
 ghost use Rattle.office_core.specs.Proceeding.{GoesAlong, Nothing};
-ghost use Rattle.office_net.specs.Kinds.{Asks, Hears, IsOldest, Opens, SendsUpTo};
+ghost use Rattle.office_net.specs.Kinds.{Asks, Hears, IsOldest, Opens};
 ghost use Rattle.office_net.specs.Querying.{Answered, Makes, Misses, Tries};
 ghost use Rattle.office_core.specs.declared.event.EventAnswer.TheVariants as answer;
 
@@ -63,8 +63,11 @@ pub fn ask_among<K: Keeper>(
     ask_lacking(office, conn, slot, device, read)
 }
 
-/// The number of the oldest order that waits on a device.
-fn oldest<K: Keeper>(office: &mut Office<K>, device: &str) -> Result<Option<u32>, OfficeError>
+/// The number of the oldest order that waits on a device, if one does. It refuses as `Office::waiting` does.
+pub fn oldest_order<K: Keeper>(
+    office: &mut Office<K>,
+    device: &str,
+) -> Result<Option<u32>, OfficeError>
     ensures value { IfOk result (λ number. Learnt office.old office.new (λ now. IsOldest now device.now number)) }
     ensures along { GoesAlong Nothing office.old office.new }
 {
@@ -72,25 +75,5 @@ fn oldest<K: Keeper>(office: &mut Office<K>, device: &str) -> Result<Option<u32>
     match found {
         Some(order) => Ok(Some(order.number)),
         None => Ok(None),
-    }
-}
-
-/// Sends the oldest order that waits on a device, if its number is at most `last`. It refuses as `Office::waiting` and
-/// `Office::send_order` do.
-pub fn send_among<K: Keeper>(
-    office: &mut Office<K>,
-    conn: Conn,
-    device: &str,
-    last: u32,
-) -> Result<Option<Frame>, OfficeError>
-    ensures { MatchResult result (Makes (SendsUpTo last conn device.now) office.old office.new) (λ _. Misses (SendsUpTo last conn device.now) office.old office.new) }
-{
-    let number = oldest(office, device)?;
-    match number {
-        Some(number) if number <= last => {
-            let query = office.send_order(conn, number)?;
-            Ok(Some(query))
-        }
-        _ => Ok(None),
     }
 }

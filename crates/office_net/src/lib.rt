@@ -23,7 +23,7 @@ pub use answering::{has_page, respond};
 pub use counting::last_counted;
 pub use drilling::{DrillFault, DrillStep, drill};
 pub use fault::PollFault;
-pub use going::{ask_among, last_order, open_line, send_among, take_late};
+pub use going::{ask_among, last_order, oldest_order, open_line, take_late};
 pub use job::LineJob;
 pub use machine::Poll;
 pub use planning::{jobs_of, reads_of};

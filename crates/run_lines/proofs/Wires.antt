@@ -1,7 +1,7 @@
 -- How lines' connections stand, deed by deed.
 use Rattle.std.proofs.Common.{◌≡◌, ◌≤◌, ◌<◌, ◌⊎◌, inl, inr, Bool, true, false, ℕ, List, [], ◌∷◌, ◌++◌, length, Option, Some, None, Result, Ok, Err, refl, sym, ◌∙◌, ap, subst}
 use Rattle.std.specs.Prelude.{IsErrAnd, IsSome, MatchResult, if◌then◌else◌, is_some}
-use Rattle.std.specs.List.{flat_map}
+use Rattle.std.specs.List.{flat_map, list_any}
 use Rattle.std.proofs.lemmas.List.{append-nil}
 use Rattle.mb_mbap.specs.declared.frame.Frame.{Frame}
 use Rattle.mb_mbap.specs.declared.fault.FrameFault.{FrameFault}
@@ -19,60 +19,80 @@ use Rattle.office_core.specs.declared.error.OfficeError.{OfficeError}
 use Rattle.office_core.specs.declared.error.OfficeError.TheVariants as error
 use Rattle.office_core.specs.declared.event.Arrival.{Arrival}
 use Rattle.office_core.specs.Errors.{is_of_store}
-use Rattle.office_core.specs.Offices.{arrived}
+use Rattle.office_core.specs.Offices.{arrived, keeper_of}
 use Rattle.office_core.specs.declared.event.EventAnswer.{EventAnswer}
 use Rattle.office_core.specs.declared.event.EventAnswer.TheVariants as answer
 use Rattle.office_core.specs.declared.event.EventAnswer.TheVariants.{Opened, Query}
 use Rattle.office_core.specs.Answers.{answer_of}
-use Rattle.office_core.specs.Following.{Follows, MayLeave}
-use Rattle.office_core.specs.History.{Happening, History}
+use Rattle.office_core.specs.Following.{Fails, Follows, Happens, MayLeave}
+use Rattle.office_core.specs.History.{Happening, History, Send}
 use Rattle.office_core.specs.Proceeding.{Did, GoesAlong, Missed, Nothing, stepped}
 use Rattle.office_core.specs.Standing.{is_store}
-use Rattle.office_net.specs.Kinds.{Asks, Hears, Opens, SendsUpTo}
+use Rattle.office_net.specs.Counting.{Learnt}
+use Rattle.office_net.specs.Kinds.{Asks, Hears, IsOldest, Opens}
 use Rattle.office_net.specs.Querying.{Answered, CameTo, Makes, Misses, Tries}
-use Rattle.office_net.proofs.Querying.{makes_wider, misses_wider, nothing_then_makes, nothing_then_misses}
+use Rattle.office_net.proofs.Oldest.{oldest_is_sent}
+use Rattle.office_net.proofs.Querying.{learnt_makes, makes_wider, misses_wider, nothing_then_makes, nothing_then_misses}
 use Rattle.run_lines.specs.declared.round.Asked.{Asked}
 use Rattle.run_deeds.specs.Doings.{AsksOne, HearsOne, OpensOne, Runs, SendsOne}
 use Rattle.run_deeds.specs.Deeds.{AllOf, Deed, Deeds, GivesUpOn, Is, Next, Over, Passes, Replies, Rests, Starts, With, steps_of, Shows}
-use Rattle.run_lines.specs.Rounds.{query_of}
+use Rattle.run_lines.specs.Rounds.{number_for, query_of}
+use Rattle.run_lines.specs.declared.window.Query.{Query as Waiting}
+use Rattle.run_lines.specs.Windows.{is_for}
 use Rattle.run_lines.specs.declared.loss.Loss.{Loss}
 use Rattle.run_lines.specs.declared.loss.Stop.{Stop}
 use Rattle.run_lines.specs.declared.loss.Stop.TheVariants.{Ahead, Lost, Refused}
 use Rattle.run_lines.specs.Links.{before, held_in}
-use Rattle.run_lines.specs.Wires.{AsksOver, Begun, GivesUp, IsShown, LineMoves, Lined, Queries, Reaches, Sends, SendsOver, Settles, Standing, Terms, Up, Wire, WireMoves, Wired, WiredBy, fresh, given_up, heard, settled, without}
+use Rattle.run_lines.specs.Wires.{AsksOver, Begun, GivesUp, IsShown, LineMoves, Lined, Queries, Reaches, Sends, SendsOver, Settles, SomeQuery, Standing, Terms, Up, Wire, WireMoves, Wired, WiredBy, fresh, given_up, heard, settled, without}
 use Rattle.run_deeds.proofs.Deeds.{goes_wider}
 use Rattle.run_deeds.proofs.Passing.{acting_once, acting_still, part_still, then_office}
 
 -- ---- queries over a connection
 
-module _ {K : Type 0} {g : Ghosts K} (old new : Office K g) (conn slot : ℕ) (device : List ℕ) where
-  pub sends_made : (last : ℕ) (told : Option Frame) → Makes (SendsUpTo last conn device) old new told → Makes (Queries conn (Some slot)) old new told
-  sends_made last = makes_wider (SendsUpTo last conn device) (Queries conn (Some slot)) (λ now event sends. SendsOver slot device refl sends.0) old new
+module _ (conn slot : ℕ) (waiting : List Waiting) (device : List ℕ) where
+  sends_one : (number : ℕ) → list_any (is_for number) waiting ≡ false → (now : History) → IsOldest now device (Some number)
+      → Queries conn (Some slot) waiting (Some number) now (Send conn number)
+  sends_one number free now oldest = SendsOver slot device number refl refl free refl (oldest_is_sent conn number device now oldest)
 
-  pub sends_missed : (last : ℕ) → Misses (SendsUpTo last conn device) old new → Misses (Queries conn (Some slot)) old new
-  sends_missed last = misses_wider (SendsUpTo last conn device) (Queries conn (Some slot)) (λ now event sends. SendsOver slot device refl sends.0) old new
+  module _ {K : Type 0} {g : Ghosts K} where
+    -- the oldest order was known, and was sent, or the store refused it
+    pub sends_made : (one two three : Office K g) (number : ℕ) (told : Result Frame OfficeError) → list_any (is_for number) waiting ≡ false
+        → Learnt one two (λ now. IsOldest now device (Some number)) → (g.is_clean (keeper_of three) → g.is_clean (keeper_of two))
+        → (g.is_clean (keeper_of three) → MatchResult told
+        (λ query. Happens (Follows two) (Follows three) (MayLeave two) (MayLeave three) (λ _. Send conn number) (Query query))
+        (λ e. Fails (Follows two) (Follows three) (MayLeave two) (MayLeave three) (λ _. Send conn number) (answer.Refused e)))
+        → MatchResult told (λ query. Makes (Queries conn (Some slot) waiting (Some number)) one three (Some query)) (λ _. Misses (SomeQuery conn (Some slot) waiting) one three)
+    sends_made one two three number (Ok query) free learnt before went =
+        learnt_makes (Queries conn (Some slot) waiting (Some number)) one two three (λ now. IsOldest now device (Some number)) (Send conn number) (Ok query)
+        (λ now oldest. sends_one number free now oldest) learnt before went
+    sends_made one two three number (Err e) free learnt before went =
+        learnt_makes (SomeQuery conn (Some slot) waiting) one two three (λ now. IsOldest now device (Some number)) (Send conn number) (Err e)
+        (λ now oldest. (Some number, sends_one number free now oldest)) learnt before went
 
-  pub asks_made : (read : Read) (told : Option Frame) → Makes (Asks conn slot device read) old new told → Makes (Queries conn (Some slot)) old new told
-  asks_made read = makes_wider (Asks conn slot device read) (Queries conn (Some slot)) (λ now event asks. AsksOver slot device read refl asks) old new
+    pub asks_made : (old new : Office K g) (read : Read) (told : Option Frame) → Makes (Asks conn slot device read) old new told → Makes (Queries conn (Some slot) waiting None) old new told
+    asks_made old new read =
+        makes_wider (Asks conn slot device read) (Queries conn (Some slot) waiting None) (λ now event asks. AsksOver slot device read refl refl asks) old new
 
-  pub asks_missed : (read : Read) → Misses (Asks conn slot device read) old new → Misses (Queries conn (Some slot)) old new
-  asks_missed read = misses_wider (Asks conn slot device read) (Queries conn (Some slot)) (λ now event asks. AsksOver slot device read refl asks) old new
+    pub asks_missed : (old new : Office K g) (read : Read) → Misses (Asks conn slot device read) old new → Misses (SomeQuery conn (Some slot) waiting) old new
+    asks_missed old new read =
+        misses_wider (Asks conn slot device read) (SomeQuery conn (Some slot) waiting) (λ now event asks. (None, AsksOver slot device read refl refl asks)) old new
 
 -- nothing happened where no query was made
 pub made_none : {K : Type 0} {g : Ghosts K} (kind : History → Happening → Type 0) (old new : Office K g) (told : Option Frame) → is_some told ≡ false → Makes kind old new told → GoesAlong Nothing old new
 made_none kind old new None none makes = makes
 made_none kind old new (Some query) none makes = absurd (cc)
 
-pub none_asked : (asked : Option Asked) → is_some asked ≡ false → is_some (query_of asked) ≡ false
-none_asked None none = none
-none_asked (Some asked) none = none
+module _ {K : Type 0} {g : Ghosts K} (conn : ℕ) (round : Option ℕ) (waiting : List Waiting) where
+  pub asked_none : (old new : Office K g) (asked : Option Asked) → is_some asked ≡ false → Makes (Queries conn round waiting (number_for asked)) old new (query_of asked) → GoesAlong Nothing old new
+  asked_none old new None none makes = makes
+  asked_none old new (Some asked) none makes = absurd (cc)
 
--- the office was only asked, and then a query was made or missed
-pub then_asked : {K : Type 0} {g : Ghosts K} (conn slot : ℕ) (one two three : Office K g) (told : Result (Option Asked) OfficeError) → GoesAlong Nothing one two
-    → MatchResult told (λ asked. Makes (Queries conn (Some slot)) two three (query_of asked)) (λ _. Misses (Queries conn (Some slot)) two three)
-    → MatchResult told (λ asked. Makes (Queries conn (Some slot)) one three (query_of asked)) (λ _. Misses (Queries conn (Some slot)) one three)
-then_asked conn slot one two three (Ok asked) along makes = nothing_then_makes (Queries conn (Some slot)) one two three (query_of asked) along makes
-then_asked conn slot one two three (Err e) along misses = nothing_then_misses (Queries conn (Some slot)) one two three along misses
+  -- the office was only asked, and then a query was made or missed
+  pub then_asked : (one two three : Office K g) (told : Result (Option Asked) OfficeError) → GoesAlong Nothing one two
+      → MatchResult told (λ asked. Makes (Queries conn round waiting (number_for asked)) two three (query_of asked)) (λ _. Misses (SomeQuery conn round waiting) two three)
+      → MatchResult told (λ asked. Makes (Queries conn round waiting (number_for asked)) one three (query_of asked)) (λ _. Misses (SomeQuery conn round waiting) one three)
+  then_asked one two three (Ok asked) along makes = nothing_then_makes (Queries conn round waiting (number_for asked)) one two three (query_of asked) along makes
+  then_asked one two three (Err e) along misses = nothing_then_misses (SomeQuery conn round waiting) one two three along misses
 
 -- ---- one event over a connection
 
@@ -149,9 +169,9 @@ module _ {K : Type 0} {g : Ghosts K} (terms : Terms) (source : Source) (old new 
 
 -- ---- of each kind
 
-query_runs : (now : History) (event : Happening) (conn : ℕ) (round : Option ℕ) → Queries conn round now event → Runs now event
-query_runs now event conn round (AsksOver slot device read is asks) = AsksOne conn slot device read asks
-query_runs now event conn round (SendsOver slot device is sends) = SendsOne conn device sends
+query_runs : (now : History) (event : Happening) (conn : ℕ) (round : Option ℕ) (waiting : List Waiting) (order : Option ℕ) → Queries conn round waiting order now event → Runs now event
+query_runs now event conn round waiting order (AsksOver slot device read is none asks) = AsksOne conn slot device read asks
+query_runs now event conn round waiting order (SendsOver slot device number is some free made sends) = SendsOne conn device sends
 
 module _ {K : Type 0} {g : Ghosts K} (terms : Terms) (source : Source) (old new : Office K g) where
   -- the line was opened, or it wasn't
@@ -163,12 +183,15 @@ module _ {K : Type 0} {g : Ghosts K} (terms : Terms) (source : Source) (old new 
 
   module _ (at : Standing) where
     -- a query was made
-    pub wired_query : (query : Frame) (wire : Wire) → length at.waiting < terms.most → Sends at query wire → Answered (Queries at.conn at.round) old new (Query query) → Wired terms source old new (λ acts. acts ≡ []) (Up at) wire
-    wired_query query wire few sends = wired_answered terms source old new (Queries at.conn at.round) (Up at) wire (Query query) (λ now event queries told. (query_runs now event at.conn at.round queries, inl (query, queries, told, few, sends)))
+    pub wired_query : (query : Frame) (order : Option ℕ) (wire : Wire) → length at.waiting < terms.most → Sends at query order wire → Answered (Queries at.conn at.round at.waiting order) old new (Query query)
+        → Wired terms source old new (λ acts. acts ≡ []) (Up at) wire
+    wired_query query order wire few sends =
+        wired_answered terms source old new (Queries at.conn at.round at.waiting order) (Up at) wire (Query query)
+        (λ now event queries told. (query_runs now event at.conn at.round at.waiting order queries, inl (query, order, queries, told, few, sends)))
 
     -- none was made
-    pub wired_missed : Misses (Queries at.conn at.round) old new → Wired terms source old new (λ acts. acts ≡ []) (Up at) (Up at)
-    wired_missed = wired_refused terms source old new (Queries at.conn at.round) (Up at) (λ now event queries. (query_runs now event at.conn at.round queries, inl (queries, refl)))
+    pub wired_missed : Misses (SomeQuery at.conn at.round at.waiting) old new → Wired terms source old new (λ acts. acts ≡ []) (Up at) (Up at)
+    wired_missed = wired_refused terms source old new (SomeQuery at.conn at.round at.waiting) (Up at) (λ now event some. (query_runs now event at.conn at.round at.waiting some.0 some.1, inl (some, refl)))
 
     -- a frame came
     pub wired_heard : (frame : Frame) (told : EventAnswer) → Tries (Hears at.conn frame) old new told

@@ -49,13 +49,17 @@ after None = Ended
 after (Some (Excepted code)) = if code == 5 then Ended else if code == 6 then Ended else Next
 after (Some _) = Next
 
--- only what was sent is settled
 abbrev pub when_sent : Orders → Orders → Orders
 when_sent answered Sent = answered
 when_sent answered orders = orders
 
+-- what is answered was sent in this round, or in one before, if none was sent in this one yet
+abbrev pub when_due : Orders → Orders → Orders
+when_due answered Next = answered
+when_due answered orders = when_sent answered orders
+
 abbrev pub settled : Option Arrival → Share → Share
-settled arrival share = record share { orders = when_sent (after arrival) share.orders }
+settled arrival share = record share { orders = when_due (after arrival) share.orders }
 
 abbrev pub passed : Share → Share
 passed share = record share { orders = when_sent Ended share.orders; is_passed = true }

@@ -1,6 +1,6 @@
 -- How a line's connection stands, deed by deed.
 use Rattle.std.specs.Prelude.{◌≡◌, ◌⊎◌, ◌≤◌, ◌<◌, ⊤, ℕ, Bool, true, false, IsSome, List, [], ◌∷◌, ◌++◌, length, Option, Some, None, Result, Err}
-use Rattle.std.specs.List.{filter}
+use Rattle.std.specs.List.{filter, list_any}
 use Rattle.mb_mbap.specs.declared.frame.Frame.{Frame}
 use Rattle.mb_mbap.specs.Stream.{fault_of, spelled}
 use Rattle.poll_book.specs.declared.keeper.Neighbours.{Ghosts}
@@ -11,13 +11,13 @@ use Rattle.office_core.specs.declared.office.Office.{Office}
 use Rattle.office_core.specs.declared.event.EventAnswer.{EventAnswer}
 use Rattle.office_core.specs.declared.event.EventAnswer.TheVariants.{Arrived, Opened, Query}
 use Rattle.office_core.specs.Answers.{answer_of}
-use Rattle.office_core.specs.History.{Happening, History}
+use Rattle.office_core.specs.History.{Happening, History, Send}
 use Rattle.office_core.specs.Proceeding.{Did, Missed}
 use Rattle.office_net.specs.Kinds.{Asks, Hears, Opens, Sends as SendsOne}
 use Rattle.run_lines.specs.declared.loss.Stop.{Stop}
 use Rattle.run_lines.specs.declared.loss.Stop.TheVariants.{Lost}
 use Rattle.run_lines.specs.declared.window.Query.{Query as Waiting}
-use Rattle.run_lines.specs.Windows.{is_of_another, is_under_another}
+use Rattle.run_lines.specs.Windows.{is_for, is_of_another, is_under_another}
 use Rattle.run_deeds.specs.Deeds.{Deed, GivesUpOn, Over, PartOf, PassesBy, Rests, Starts, With}
 
 -- what the site says of a line: its name, and how many of its queries may wait
@@ -51,10 +51,17 @@ pub data Wire : Type 0 where
 abbrev pub fresh : ℕ → Standing
 fresh conn = record { conn = conn; left = []; unread = []; reading = true; waiting = []; round = None }
 
--- a query over a connection in the round of a slot: a read is asked for it, or an order is sent
-pub data Queries (conn : ℕ) (round : Option ℕ) (now : History) (event : Happening) : Type 0 where
-  AsksOver : (slot : ℕ) (device : List ℕ) (read : Read) → round ≡ Some slot → Asks conn slot device read now event → Queries conn round now event
-  SendsOver : (slot : ℕ) (device : List ℕ) → round ≡ Some slot → SendsOne conn device now event → Queries conn round now event
+-- a query over a connection in the round of a slot, beside those that wait: a read is asked for it, or an order is sent that
+-- doesn't wait there
+pub data Queries (conn : ℕ) (round : Option ℕ) (waiting : List Waiting) (order : Option ℕ) (now : History) (event : Happening) : Type 0 where
+  AsksOver : (slot : ℕ) (device : List ℕ) (read : Read) → round ≡ Some slot → order ≡ None → Asks conn slot device read now event
+      → Queries conn round waiting order now event
+  SendsOver : (slot : ℕ) (device : List ℕ) (number : ℕ) → round ≡ Some slot → order ≡ Some number → list_any (is_for number) waiting ≡ false
+      → event ≡ Send conn number → SendsOne conn device now event → Queries conn round waiting order now event
+
+-- the same, whether it is for an order or not
+abbrev pub SomeQuery : ℕ → Option ℕ → List Waiting → History → Happening → Type 0
+SomeQuery conn round waiting now event = (order : Option ℕ) × Queries conn round waiting order now event
 
 -- bytes were read behind others; what begins with a bad header is dropped, and then no frame can follow
 abbrev pub Reaches : Standing → List ℕ → Wire → Type 0
@@ -66,8 +73,8 @@ Reaches at bytes wire' =
 abbrev pub sent : Frame → Waiting → Standing → Standing
 sent query asked at = record at { left = at.left ++ spelled query; waiting = at.waiting ++ asked ∷ [] }
 
-abbrev pub Sends : Standing → Frame → Wire → Type 0
-Sends at query wire' = (asked : Waiting) × (asked.transaction ≡ query.transaction) × (wire' ≡ Up (sent query asked at))
+abbrev pub Sends : Standing → Frame → Option ℕ → Wire → Type 0
+Sends at query order wire' = (asked : Waiting) × (asked.transaction ≡ query.transaction) × (asked.order ≡ order) × (wire' ≡ Up (sent query asked at))
 
 -- the queries that wait behind the reply to one
 abbrev pub settled : Frame → Standing → Standing
@@ -104,8 +111,9 @@ abbrev pub GivesUp : Wire → Wire → Type 0
 GivesUp wire wire' = (devices : List ℕ) × (wire' ≡ without devices wire)
 
 -- What a deed makes of the connection of a line. It is begun where none stands, and stands under the number that the office
--- gives as the line is opened; what is asked goes over it, query behind query, and nothing else, while fewer wait than may; and
--- the frames that are heard are those of the bytes that were read over it, each once, in their order
+-- gives as the line is opened; what is asked goes over it, query behind query, and nothing else, while fewer wait than may, and
+-- no order while it waits there; and the frames that are heard are those of the bytes that were read over it, each once, in
+-- their order
 abbrev pub WireMoves : Terms → History → Wire → Deed → Wire → Type 0
 WireMoves terms now wire (With (Closes source)) wire' = wire' ≡ Down
 WireMoves terms now wire (GivesUpOn source device) wire' = wire' ≡ given_up device wire
@@ -117,10 +125,11 @@ WireMoves terms now (Up at) (With (Reads source bytes)) wire' = (at.reading ≡ 
 WireMoves terms now (Up at) (With (Ends source)) wire' = wire' ≡ Up at
 WireMoves terms now (Up at) (With (Writes source bytes)) wire' = (rest : List ℕ) × (at.left ≡ bytes ++ rest) × (wire' ≡ Up (record at { left = rest }))
 WireMoves terms now (Up at) (Over source (Did event)) wire' =
-    ((query : Frame) × Queries at.conn at.round now event × (answer_of now event ≡ Query query) × (length at.waiting < terms.most) × Sends at query wire')
+    ((query : Frame) × (order : Option ℕ) × Queries at.conn at.round at.waiting order now event × (answer_of now event ≡ Query query) × (length at.waiting < terms.most)
+    × Sends at query order wire')
     ⊎ ((frame : Frame) × (rest : List ℕ) × Hears at.conn frame now event × IsNext at frame rest × (wire' ≡ Up (heard (answer_of now event) frame (record at { unread = rest }))))
 WireMoves terms now (Up at) (Over source (Missed event)) wire' =
-    (Queries at.conn at.round now event × (wire' ≡ Up at))
+    (SomeQuery at.conn at.round at.waiting now event × (wire' ≡ Up at))
     ⊎ ((frame : Frame) × (rest : List ℕ) × Hears at.conn frame now event × IsNext at frame rest × (wire' ≡ Up (settled frame (record at { unread = rest }))))
 WireMoves terms now _ _ _ = ⊥
 

@@ -97,10 +97,12 @@ pub(crate) enum Told {
 }
 
 impl Told {
-    /// Whether it was told that the line is down for what it answered, or didn't: then it is up once it answers.
+    /// Whether it was told that the line is down though it had stood: then it is up once it answers, and not as it
+    /// stands, since what ended at once may do so again.
     pub fn is_of_answers(self) -> bool {
         match self {
-            Told::Down(Loss::Silent | Loss::Stuck | Loss::Noise | Loss::Frames(_)) => true,
+            Told::Down(Loss::Silent | Loss::Stuck | Loss::Noise | Loss::Frames(_) | Loss::Ended) =>
+                true,
             Told::Down(_) | Told::Nothing | Told::Up => false,
         }
     }

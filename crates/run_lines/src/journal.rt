@@ -78,7 +78,8 @@ impl Journal {
         self.out.push(bytes).is_ok()
     }
 
-    /// Tells an event, unless more waits than is held; then it is counted, which is told before the next one for which there is room.
+    /// Tells an event, unless more waits than is held; then it is counted, which is told before the next one for which
+    /// there is room.
     pub fn tell(&mut self, event: &Event<'_>) {
         if self.left_out > 0 && self.put(&LeftOut(self.left_out)) {
             self.left_out = 0;

@@ -44,6 +44,8 @@ pub struct Line {
     connection: Connection,
     // So many orders had come for it when its last round over this connection began.
     orders: Option<u64>,
+    // The clock's slot as that one began; none while the clock was held.
+    offered: Option<u32>,
     // So many had come when the round that is under way was told last.
     woken: u64,
     // Whether the slot counts as not begun behind the round that is under way.
@@ -54,8 +56,10 @@ pub struct Line {
     has_begun: bool,
     // The slot is begun again then, since the store refused something of it.
     retry: Option<Moment>,
-    // Whether none is begun before that: the store refused as no round was under way.
+    // Whether none is begun before that: the store refused as one was to be begun.
     is_paused: bool,
+    // Whether what the store refused in this turn was an answer.
+    has_refused: bool,
     refusals: Delay,
     noise: Noise,
     // Whether it couldn't be reached since it was looked up where it is, and when that was.
@@ -103,12 +107,14 @@ impl Line {
             stations: Stations::new(alloc, name),
             connection: Connection::Down,
             orders: None,
+            offered: None,
             woken: 0,
             is_unbegun: false,
             begun_in: 0,
             has_begun: false,
             retry: None,
             is_paused: false,
+            has_refused: false,
             refusals: Delay::none(),
             noise: Noise::none(),
             is_unreached: false,
@@ -219,18 +225,27 @@ impl Line {
         }
     }
 
-    /// Tells that it is down, where that is new.
+    /// Tells that it is up, where it was told that its connection ended, and it is asked nothing that it could answer.
+    fn tell_stands(&mut self, journal: &mut Journal)
+        ensures { Keeps self.old self.new }
+    {
+        if self.told == Told::Down(Loss::Ended) && self.stations.have_no_reads() {
+            self.tell_up(journal);
+        }
+    }
+
+    /// Tells that it is down, where that is new. What was told first stands until it is up again.
     fn tell_down(&mut self, journal: &mut Journal, why: Loss)
         ensures { Keeps self.old self.new }
     {
-        let is_down = matches!(self.told, Told::Down(_));
-        self.told = Told::Down(why);
-        if !is_down {
-            journal.tell(&Event::Down {
-                line: self.stations.line(),
-                why,
-            });
+        if matches!(self.told, Told::Down(_)) {
+            return;
         }
+        self.told = Told::Down(why);
+        journal.tell(&Event::Down {
+            line: self.stations.line(),
+            why,
+        });
     }
 
     /// Tells that it is down, where it can't be reached and that is new.
@@ -352,6 +367,14 @@ impl Line {
         }
     }
 
+    /// A device answered, and the store refused that.
+    fn note_refused(&mut self, journal: &mut Journal)
+        ensures { Keeps self.old self.new }
+    {
+        self.has_refused = true;
+        self.tell_up(journal);
+    }
+
     /// Takes the next frame that came, if there is one; tells whether it was one that the store has nothing to do with.
     fn take_one<K: Keeper>(
         &mut self,
@@ -370,7 +393,10 @@ impl Line {
                 self.tell_up(journal);
                 Ok(false)
             }
-            Some(Taken::Refused(fault)) => Err(Stop::Refused(fault)),
+            Some(Taken::Refused(fault)) => {
+                self.note_refused(journal);
+                Err(Stop::Refused(fault))
+            }
             Some(Taken::Repeat) => {
                 one_more(&mut self.tally.refused);
                 Ok(true)
@@ -640,17 +666,22 @@ impl Line {
         }
     }
 
-    /// The store refused: the round that is under way ends, and the slot is begun again a while later. Where none was,
-    /// none is begun before.
+    /// The store refused: the round that is under way ends, and the slot is begun again a while later. Where one was to
+    /// be begun, none is before. What else it refuses until then, as other answers that had come, leaves that moment.
     fn refuse(&mut self, now: Moment)
         ensures same { IsSame self.old self.new }
         ensures rested { wire_at self.new ≡ rested (wire_at self.old) }
     {
+        let is_pending = self.retry.is_some_and(|moment| now < moment);
         self.is_unbegun = false;
-        self.is_paused = self.round().is_none();
+        let was_answer = mem::replace(&mut self.has_refused, false);
+        let was_to_begin = !was_answer && self.round().is_none();
+        self.is_paused = was_to_begin || (is_pending && self.is_paused);
         self.end_round();
-        self.refusals = self.refusals.longer();
-        self.retry = Some(now.after(self.refusals.millis()));
+        if !is_pending {
+            self.refusals = self.refusals.longer();
+            self.retry = Some(now.after(self.refusals.millis()));
+        }
     }
 
     /// Tells whether its counters are counted in slots to come, where that is new.

@@ -4,8 +4,8 @@ ghost use Rattle.mb_mbap.specs.Stream.{spelled};
 ghost use Rattle.run_beat.specs.declared.sockets.Source.{Source as ASource};
 ghost use Rattle.office_core.specs.Proceeding.{GoesAlong, Nothing};
 ghost use Rattle.office_net.specs.Querying.{Makes, Misses};
-ghost use Rattle.run_lines.specs.Rounds.{query_of};
-ghost use Rattle.run_lines.specs.Wires.{GivesUp, Queries, Reaches, Sends, Terms, Up, Wired, Works, fresh, rested, settled};
+ghost use Rattle.run_lines.specs.Rounds.{number_for, query_of};
+ghost use Rattle.run_lines.specs.Wires.{GivesUp, Queries, Reaches, Sends, SomeQuery, Terms, Up, Wired, Works, fresh, rested, settled};
 
 use crate::journal::Journal;
 use crate::loss::{Loss, Stop};
@@ -130,7 +130,7 @@ impl Link {
     /// A query was made: it waits to be written, and to be answered.
     fn send(&mut self, asked: &Asked, now: Moment) -> Result<(), AllocError>
         requires { length (asked_in self.old) < 16 }
-        ensures { OnOk result (Sends (standing_of self.old) asked.now.query (wire_of self.new)) }
+        ensures { OnOk result (Sends (standing_of self.old) asked.now.query asked.now.order (wire_of self.new)) }
     {
         self.asked = self.asked.saturating_add(1);
         let bytes = asked.query.encode();
@@ -138,7 +138,7 @@ impl Link {
         self.window.push(Query {
             transaction: asked.query.transaction,
             device: asked.device,
-            is_order: asked.is_order,
+            order: asked.order,
             sent: now,
         })
     }
@@ -149,7 +149,7 @@ impl Link {
         office: &mut Office<K>,
         stations: &Stations,
     ) -> Result<Option<Asked>, OfficeError>
-        ensures made { MatchResult result (λ asked. Makes (Queries self.old.conn (slot_of self.old.round)) office.old office.new (query_of asked)) (λ _. Misses (Queries self.old.conn (slot_of self.old.round)) office.old office.new) }
+        ensures made { MatchResult result (λ asked. Makes (Queries self.old.conn (slot_of self.old.round) (asked_in self.old) (number_for asked)) office.old office.new (query_of asked)) (λ _. Misses (SomeQuery self.old.conn (slot_of self.old.round) (asked_in self.old)) office.old office.new) }
         ensures standing { standing_of self.new ≡ standing_of self.old }
     {
         match &mut self.round {
@@ -165,8 +165,8 @@ impl Link {
         mem::replace(&mut self.asked, 0)
     }
 
-    /// Makes one query, if one may be made in the round that is under way, and fewer than so many wait; tells whether it
-    /// did.
+    /// Makes one query, if one may be made in the round that is under way, and fewer than so many wait; tells whether
+    /// it did.
     fn ask_one<K: Keeper>(
         &mut self,
         office: &mut Office<K>,
@@ -227,7 +227,7 @@ impl Link {
         let Some(at) = stations.place_of(frame.unit_id) else {
             return;
         };
-        let is_order = query.is_some_and(|query| query.is_order);
+        let is_order = query.is_some_and(|query| query.order.is_some());
         stations.answer(at, journal);
         if let Some(arrival) = arrival {
             stations.tell_ordered(at, is_order, arrival, journal);

@@ -1,16 +1,16 @@
 //! A round of a line: of each of its devices the orders that waited as it began, and then its reads.
-ghost use Rattle.std.specs.Prelude.{◌≡◌, ℕ, IfOk, MatchResult, Some};
+ghost use Rattle.std.specs.Prelude.{◌≡◌, ℕ, IfOk, MatchResult, None, Some};
 ghost use Rattle.office_core.specs.Proceeding.{GoesAlong, Nothing};
 ghost use Rattle.office_net.specs.Querying.{Makes, Misses};
-ghost use Rattle.run_lines.specs.Rounds.{query_of};
-ghost use Rattle.run_lines.specs.Wires.{Queries};
+ghost use Rattle.run_lines.specs.Rounds.{number_for, query_of};
+ghost use Rattle.run_lines.specs.Wires.{Queries, SomeQuery};
 
 use crate::share::Share;
-use crate::station::{Station, Stations};
+use crate::station::{Station, Stations, Turn};
 use crate::window::Window;
 use mb_mbap::Frame;
 use office_core::{Arrival, Office, OfficeError};
-use office_net::{ask_among, last_order, send_among};
+use office_net::{ask_among, last_order, oldest_order};
 use poll_book::Keeper;
 use poll_match::Conn;
 use run_beat::Moment;
@@ -62,37 +62,56 @@ pub(crate) struct Asked {
     pub query: Frame,
     /// The place of its device among those of the line.
     pub device: usize,
-    /// Whether it is for an order.
-    pub is_order: bool,
+    /// The number of the order that it is for, if it is for one.
+    pub order: Option<u32>,
 }
 
 impl Progress {
-    /// The next order of a device, if one is to be sent.
+    /// The next order of a device whose turn this is, if one is to be sent. One that was sent in a round before, and
+    /// waits, counts as sent.
     fn order_of<K: Keeper>(
         &mut self,
         office: &mut Office<K>,
         conn: Conn,
-        at: usize,
+        device: usize,
         station: &Station,
-    ) -> Result<Option<Frame>, OfficeError>
-        ensures { (slot : ℕ) → MatchResult result (Makes (Queries conn (Some slot)) office.old office.new) (λ _. Misses (Queries conn (Some slot)) office.old office.new) }
+        turn: Turn,
+        window: &Window,
+    ) -> Result<Option<Asked>, OfficeError>
+        ensures { (slot : ℕ) → MatchResult result (λ asked. Makes (Queries conn (Some slot) window.now (number_for asked)) office.old office.new (query_of asked)) (λ _. Misses (SomeQuery conn (Some slot) window.now) office.old office.new) }
     {
-        let Some(share) = self.shares.get_mut(at) else {
+        if station.turn() != turn {
+            return Ok(None);
+        }
+        let Some(share) = self.shares.get_mut(device) else {
             return Ok(None);
         };
         let Some(last) = share.order() else {
             return Ok(None);
         };
-        let query = send_among(office, conn, station.name.as_str(), last)?;
-        match query {
-            Some(_) => share.send(),
-            None => share.finish_orders(),
+        let oldest = oldest_order(office, station.name.as_str())?;
+        match oldest {
+            Some(number) if number <= last => {
+                share.send();
+                if window.has_order(number) {
+                    return Ok(None);
+                }
+                let query = office.send_order(conn, number)?;
+                Ok(Some(Asked {
+                    query,
+                    device,
+                    order: Some(number),
+                }))
+            }
+            _ => {
+                share.finish_orders();
+                Ok(None)
+            }
         }
-        Ok(query)
     }
 
-    /// The next read of a device that lacks a reading, if it is to be asked. One that was silent is asked one at a
-    /// time.
+    /// The next read of a device whose turn this is that lacks a reading, if it is to be asked. One that was silent is
+    /// asked one at a time.
     fn read_of<K: Keeper>(
         &mut self,
         office: &mut Office<K>,
@@ -100,11 +119,12 @@ impl Progress {
         slot: u32,
         at: usize,
         station: &Station,
+        turn: Turn,
         window: &Window,
     ) -> Result<Option<Frame>, OfficeError>
-        ensures { MatchResult result (Makes (Queries conn (Some slot)) office.old office.new) (λ _. Misses (Queries conn (Some slot)) office.old office.new) }
+        ensures { MatchResult result (Makes (Queries conn (Some slot) window.now None) office.old office.new) (λ _. Misses (SomeQuery conn (Some slot) window.now) office.old office.new) }
     {
-        if station.is_silent && window.has(at) {
+        if station.turn() != turn || (station.is_silent && window.has(at)) {
             return Ok(None);
         }
         let Some(share) = self.shares.get_mut(at) else {
@@ -124,51 +144,92 @@ impl Progress {
         Ok(None)
     }
 
-    /// The next order that is to be sent, in the order of the devices.
+    /// The next order that is to be sent, in the order of the devices whose turn this is.
     fn next_order<K: Keeper>(
         &mut self,
         office: &mut Office<K>,
         conn: Conn,
         stations: &[Station],
+        turn: Turn,
+        window: &Window,
     ) -> Result<Option<Asked>, OfficeError>
-        ensures { (slot : ℕ) → MatchResult result (λ asked. Makes (Queries conn (Some slot)) office.old office.new (query_of asked)) (λ _. Misses (Queries conn (Some slot)) office.old office.new) }
+        ensures { (slot : ℕ) → MatchResult result (λ asked. Makes (Queries conn (Some slot) window.now (number_for asked)) office.old office.new (query_of asked)) (λ _. Misses (SomeQuery conn (Some slot) window.now) office.old office.new) }
     {
         for (device, station) in stations.iter().enumerate() {
-            if let Some(query) = self.order_of(office, conn, device, station)? {
-                return Ok(Some(Asked {
-                    query,
-                    device,
-                    is_order: true,
-                }));
+            let asked = self.order_of(office, conn, device, station, turn, window)?;
+            if asked.is_some() {
+                return Ok(asked);
             }
         }
         Ok(None)
     }
 
-    /// The next read that is to be asked, in the order of the devices.
+    /// The next read that is to be asked, in the order of the devices whose turn this is.
     fn next_read<K: Keeper>(
         &mut self,
         office: &mut Office<K>,
         conn: Conn,
         slot: u32,
         stations: &[Station],
+        turn: Turn,
         window: &Window,
     ) -> Result<Option<Asked>, OfficeError>
-        ensures { MatchResult result (λ asked. Makes (Queries conn (Some slot)) office.old office.new (query_of asked)) (λ _. Misses (Queries conn (Some slot)) office.old office.new) }
+        ensures { MatchResult result (λ asked. Makes (Queries conn (Some slot) window.now (number_for asked)) office.old office.new (query_of asked)) (λ _. Misses (SomeQuery conn (Some slot) window.now) office.old office.new) }
     {
         for (device, station) in stations.iter().enumerate() {
-            if let Some(query) = self.read_of(office, conn, slot, device, station, window)? {
+            if let Some(query) = self.read_of(office, conn, slot, device, station, turn, window)? {
                 return Ok(Some(Asked {
                     query,
                     device,
-                    is_order: false,
+                    order: None,
                 }));
             }
         }
         Ok(None)
     }
 
-    /// What is asked next: orders first.
+    /// What is asked next of the devices whose turn this is: orders first.
+    fn asked_among<K: Keeper>(
+        &mut self,
+        office: &mut Office<K>,
+        conn: Conn,
+        slot: u32,
+        kind: Kind,
+        stations: &[Station],
+        turn: Turn,
+        window: &Window,
+    ) -> Result<Option<Asked>, OfficeError>
+        ensures { MatchResult result (λ asked. Makes (Queries conn (Some slot) window.now (number_for asked)) office.old office.new (query_of asked)) (λ _. Misses (SomeQuery conn (Some slot) window.now) office.old office.new) }
+    {
+        let order = self.next_order(office, conn, stations, turn, window)?;
+        if order.is_some() || kind == Kind::OrdersAlone {
+            return Ok(order);
+        }
+        self.next_read(office, conn, slot, stations, turn, window)
+    }
+
+    /// What is asked next of the devices that were silent.
+    fn asked_of_silent<K: Keeper>(
+        &mut self,
+        office: &mut Office<K>,
+        conn: Conn,
+        slot: u32,
+        kind: Kind,
+        stations: &[Station],
+        window: &Window,
+    ) -> Result<Option<Asked>, OfficeError>
+        ensures { MatchResult result (λ asked. Makes (Queries conn (Some slot) window.now (number_for asked)) office.old office.new (query_of asked)) (λ _. Misses (SomeQuery conn (Some slot) window.now) office.old office.new) }
+    {
+        let behind = Turn::SilentBehind;
+        let asked = self.asked_among(office, conn, slot, kind, stations, behind, window)?;
+        if asked.is_some() {
+            return Ok(asked);
+        }
+        let before = Turn::SilentBefore;
+        self.asked_among(office, conn, slot, kind, stations, before, window)
+    }
+
+    /// What is asked next: of silent devices last, so that they hold up no other one.
     fn next_asked<K: Keeper>(
         &mut self,
         office: &mut Office<K>,
@@ -178,13 +239,14 @@ impl Progress {
         stations: &[Station],
         window: &Window,
     ) -> Result<Option<Asked>, OfficeError>
-        ensures { MatchResult result (λ asked. Makes (Queries conn (Some slot)) office.old office.new (query_of asked)) (λ _. Misses (Queries conn (Some slot)) office.old office.new) }
+        ensures { MatchResult result (λ asked. Makes (Queries conn (Some slot) window.now (number_for asked)) office.old office.new (query_of asked)) (λ _. Misses (SomeQuery conn (Some slot) window.now) office.old office.new) }
     {
-        let order = self.next_order(office, conn, stations)?;
-        if order.is_some() || kind == Kind::OrdersAlone {
-            return Ok(order);
+        let answering = Turn::Answering;
+        let asked = self.asked_among(office, conn, slot, kind, stations, answering, window)?;
+        if asked.is_some() {
+            return Ok(asked);
         }
-        self.next_read(office, conn, slot, stations, window)
+        self.asked_of_silent(office, conn, slot, kind, stations, window)
     }
 
     /// Orders up to a number are to be sent: also those that came since, to the devices that are done.
@@ -207,7 +269,7 @@ impl Progress {
         stations: &[Station],
         window: &Window,
     ) -> Result<Option<Asked>, OfficeError>
-        ensures { MatchResult result (λ asked. Makes (Queries conn (Some slot)) office.old office.new (query_of asked)) (λ _. Misses (Queries conn (Some slot)) office.old office.new) }
+        ensures { MatchResult result (λ asked. Makes (Queries conn (Some slot) window.now (number_for asked)) office.old office.new (query_of asked)) (λ _. Misses (SomeQuery conn (Some slot) window.now) office.old office.new) }
     {
         self.wake(last, kind, stations);
         let asked = self.next_asked(office, conn, slot, kind, stations, window)?;
@@ -215,7 +277,7 @@ impl Progress {
             return Ok(asked);
         }
         self.wake(last, kind, stations);
-        self.next_order(office, conn, stations)
+        self.next_asked(office, conn, slot, Kind::OrdersAlone, stations, window)
     }
 }
 
@@ -276,7 +338,7 @@ impl Round {
         stations: &Stations,
         window: &Window,
     ) -> Result<Option<Asked>, OfficeError>
-        ensures made { MatchResult result (λ asked. Makes (Queries conn (Some self.old.slot)) office.old office.new (query_of asked)) (λ _. Misses (Queries conn (Some self.old.slot)) office.old office.new) }
+        ensures made { MatchResult result (λ asked. Makes (Queries conn (Some self.old.slot) window.now (number_for asked)) office.old office.new (query_of asked)) (λ _. Misses (SomeQuery conn (Some self.old.slot) window.now) office.old office.new) }
         ensures slot { self.new.slot ≡ self.old.slot }
     {
         let (slot, kind, last) = (self.slot, self.kind, self.last);

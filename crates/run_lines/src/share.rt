@@ -92,12 +92,13 @@ impl Share {
         self.reads = reads;
     }
 
-    /// What was sent for its order is answered: behind exceptions 5 (acknowledge) and 6 (server device busy), and where
-    /// the store refused the answer, it waits as before, and no more orders are sent; else it is settled.
+    /// What was sent for its order, in this round or before, is answered: behind exceptions 5 (acknowledge) and 6
+    /// (server device busy), and where the store refused the answer, it waits as before, and no more orders are sent;
+    /// else it is settled.
     pub fn settle(&mut self, arrival: Option<Arrival>)
         ensures { self.new ≡ shares.settled arrival self.old }
     {
-        if self.orders == Orders::Sent {
+        if matches!(self.orders, Orders::Next | Orders::Sent) {
             self.orders = match arrival {
                 None | Some(Arrival::Excepted(5 | 6)) => Orders::Ended,
                 _ => Orders::Next,

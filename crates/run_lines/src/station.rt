@@ -12,6 +12,15 @@ use poll_book::PointRow;
 use read_planner::Read;
 use std::alloc::{AllocError, Global};
 
+/// When in a round a device is asked: those that were silent last, and of these first the ones behind the one that fell
+/// silent last, so that each of them has its turn in some round.
+#[derive(Clone, Copy, Debug, PartialEq, Eq)]
+pub(crate) enum Turn {
+    Answering,
+    SilentBehind,
+    SilentBefore,
+}
+
 /// A device of a line.
 #[derive(Drop)]
 pub(crate) struct Station {
@@ -23,6 +32,8 @@ pub(crate) struct Station {
     pub is_silent: bool,
     // Whether that was told.
     is_told: bool,
+    // Whether it stands behind the device that fell silent last.
+    is_behind: bool,
 }
 
 /// The devices of a line, in the site's order.
@@ -35,6 +46,17 @@ pub(crate) struct Stations {
 }
 
 impl Station {
+    /// When it is asked.
+    pub fn turn(&self) -> Turn {
+        if !self.is_silent {
+            Turn::Answering
+        } else if self.is_behind {
+            Turn::SilentBehind
+        } else {
+            Turn::SilentBefore
+        }
+    }
+
     fn tell(&self, line: &str, what: Told, journal: &mut Journal) {
         let name = self.name.as_str();
         journal.tell(&Event::Device { line, name, what });
@@ -48,9 +70,9 @@ fn station_of(
     known: &[PointRow],
     former: Option<&Station>,
 ) -> Result<Station, AllocError> {
-    let (is_silent, is_told) = match former {
-        Some(former) => (former.is_silent, former.is_told),
-        None => (false, false),
+    let (is_silent, is_told, is_behind) = match former {
+        Some(former) => (former.is_silent, former.is_told, former.is_behind),
+        None => (false, false, false),
     };
     Ok(Station {
         name: device.name.clone()?,
@@ -58,6 +80,7 @@ fn station_of(
         reads: reads_of(alloc, known, device)?,
         is_silent,
         is_told,
+        is_behind,
     })
 }
 
@@ -133,9 +156,15 @@ impl Stations {
     pub fn fall_silent(&mut self, at: usize)
         ensures { self.new.line ≡ self.old.line }
     {
-        if let Some(station) = self.all.get_mut(at) {
-            station.is_silent = true;
+        for (place, station) in self.all.iter_mut().enumerate() {
+            station.is_silent |= place == at;
+            station.is_behind = at < place;
         }
+    }
+
+    /// Whether no device is asked anything in a slot.
+    pub fn have_no_reads(&self) -> bool {
+        self.all.iter().all(|station| station.reads.is_empty())
     }
 
     /// A device answers. Where it was told that it is silent, this is told too.

@@ -17,9 +17,21 @@ pub(crate) struct Query {
     pub transaction: u16,
     /// The place of its device among those of the line.
     pub device: usize,
-    /// Whether it was sent for an order.
-    pub is_order: bool,
+    /// The number of the order that it was sent for, if it was for one.
+    pub order: Option<u32>,
     pub sent: Moment,
+}
+
+impl Query {
+    /// Whether it was sent for the order of a number.
+    fn is_for(&self, number: u32) -> bool
+        ensures { result ≡ windows.is_for number self.now }
+    {
+        match self.order {
+            Some(order) => order == number,
+            None => false,
+        }
+    }
 }
 
 /// Queries, in the order in which they were sent. Contracts see them as a list, of 16 at most.
@@ -95,6 +107,13 @@ impl Window {
         ensures { result ≡ list_any (windows.is_of device) self.now }
     {
         self.queries.iter().any(|query| query.device == device)
+    }
+
+    /// Whether one waits that was sent for the order of a number.
+    pub fn has_order(&self, number: u32) -> bool
+        ensures { result ≡ list_any (windows.is_for number) self.now }
+    {
+        self.queries.iter().any(|query| query.is_for(number))
     }
 
     /// The one that was sent first.

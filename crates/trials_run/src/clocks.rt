@@ -2,8 +2,10 @@
 use crate::guest::Speech;
 use crate::orders::{ASKED, ORDER, OrderDone};
 use crate::scenes::{
-    Left, Look, assert_readings, assert_told, assert_total, look_behind_new, world,
+    Behind, IMAGE, Left, Look, assert_readings, assert_told, assert_total, look_behind_new, world,
+    world_of,
 };
+use crate::wire::{Spell, Trouble};
 use crate::world::Setting;
 use office_core::OfficeError;
 use poll_book::MemKeeper;
@@ -129,4 +131,34 @@ fn ordered(trial: &Trial<'_>) -> Result<(), OfficeError> {
 #[test]
 fn an_order_is_sent_while_the_clock_stands_behind(rt: HostRuntime) -> Result<(), Fail> {
     Ok(twice!(rt, ordered)?)
+}
+
+/// The roof answers nothing for a while, in which an order is sent and given up.
+const ROOF_SILENT: [Behind; 2] = [
+    Behind {
+        image: IMAGE,
+        spells: &[Spell {
+            trouble: Trouble::Silent,
+            unit: None,
+            from: 4_500,
+            to: 8_000,
+        }],
+    },
+    Behind {
+        image: IMAGE,
+        spells: &[],
+    },
+];
+
+/// While the clock stands behind, an order that was given up is sent again as the clock's next slot begins.
+fn ordered_again(trial: &Trial<'_>) -> Result<(), OfficeError> {
+    let speeches = [Speech::at_once(5_000, ORDER), Speech::at_once(9_500, ASKED)];
+    let world = world_of(trial.alloc(), 10_000, &ROOF_SILENT, &speeches)?;
+    let world = world.with_settings(BACK_BEFORE_AN_ORDER);
+    look_behind_new(trial, &[], world, &OrderDone)
+}
+
+#[test]
+fn an_order_is_sent_again_while_the_clock_stands_behind(rt: HostRuntime) -> Result<(), Fail> {
+    Ok(twice!(rt, ordered_again)?)
 }

@@ -127,10 +127,10 @@ const DEAD: Run = Run {
     asked: &[
         (0, 1, 16),
         (2000, 2, 1),
-        (3000, 1, 1),
         (3000, 2, 1),
-        (8000, 1, 1),
+        (3000, 1, 1),
         (8000, 2, 1),
+        (8000, 1, 1),
     ],
     near: &[],
     far: FAR_ALONE,
@@ -170,10 +170,10 @@ const DEAD_OF_TWO: Run = Run {
     asked: &[
         (0, 1, 2),
         (2000, 2, 1),
-        (3000, 1, 1),
         (3000, 2, 1),
-        (8000, 1, 1),
+        (3000, 1, 1),
         (8000, 2, 1),
+        (8000, 1, 1),
     ],
     near: &[],
     far: FAR_ALONE,
@@ -204,8 +204,8 @@ const LATE: Run = Run {
         (3000, 1, 16),
         (5000, 2, 1),
         (6000, 1, 5),
-        (8000, 1, 1),
         (8000, 2, 1),
+        (8000, 1, 1),
         (9000, 1, 15),
         (11000, 1, 1),
         (12000, 1, 4),
@@ -247,9 +247,8 @@ const BEHIND: Run = Run {
         (0, 2, 1),
         (3000, 1, 16),
         (5000, 2, 1),
-        (8000, 1, 1),
         (8000, 2, 1),
-        (8000, 1, 20),
+        (8000, 1, 21),
     ],
     near: &[(100, 0), (101, 3), (102, 8)],
     far: &[(100, 0), (101, 5), (102, 8)],
@@ -288,8 +287,8 @@ const ORDERED: Run = Run {
     asked: &[
         (0, 1, 16),
         (2000, 2, 1),
-        (3000, 1, 1),
         (3000, 2, 1),
+        (3000, 1, 1),
         (4500, 2, 1),
         (5500, 2, 1),
     ],
@@ -310,4 +309,68 @@ fn ordered(trial: &Trial<'_>) -> Result<(), OfficeError> {
 #[test]
 fn an_order_is_sent_once_the_one_before_is_answered(rt: HostRuntime) -> Result<(), Fail> {
     Ok(twice!(rt, ordered)?)
+}
+
+/// A gateway with four devices behind it, of which one query may wait.
+const SITE_OF_FOUR: &str =
+    "[[line]]\nname = \"roof\"\naddress = \"127.0.0.1:502\"\noutstanding = 1\n[[device]]\nname = \"near\"\nline = \"roof\"\nunit = 1\n[[device]]\nname = \"two\"\nline = \"roof\"\nunit = 2\n[[device]]\nname = \"three\"\nline = \"roof\"\nunit = 3\n[[device]]\nname = \"far\"\nline = \"roof\"\nunit = 4\n";
+
+const IMAGE_OF_FOUR: &str =
+    "[[unit]]\nid = 1\nholding_start = 41\nholding = [0]\n[[unit]]\nid = 2\nholding_start = 41\nholding = [0]\n[[unit]]\nid = 3\nholding_start = 41\nholding = [0]\n[[unit]]\nid = 4\nholding_start = 41\nholding = [0]\n";
+
+/// The seconds of each.
+const POINTS_OF_FOUR: &[Happens] = &[Load(
+    "l1",
+    "near,near,holding,41,uint16,,,gauge,\ntwo,two,holding,41,uint16,,,gauge,\nthree,three,holding,41,uint16,,,gauge,\nfar,far,holding,41,uint16,,,gauge,\n",
+)];
+
+/// All but the last one answer nothing.
+const ALL_BUT_FAR: &[Spell] = &[
+    Spell {
+        trouble: Trouble::Silent,
+        unit: Some(1),
+        from: 0,
+        to: u64::MAX,
+    },
+    Spell {
+        trouble: Trouble::Silent,
+        unit: Some(2),
+        from: 0,
+        to: u64::MAX,
+    },
+    Spell {
+        trouble: Trouble::Silent,
+        unit: Some(3),
+        from: 0,
+        to: u64::MAX,
+    },
+];
+
+/// Each dead device costs a time-out, so that the last one has no turn in two slots. Then
+/// it has the first, since the others were silent.
+const THREE_DEAD: Run = Run {
+    ends: 12_500,
+    spells: ALL_BUT_FAR,
+    told: "1970-01-01T00:08:22Z office: line roof is up\n1970-01-01T00:08:25Z office: line roof is down: nothing was answered in time\n1970-01-01T00:08:32Z office: line roof is up\n",
+    asked: &[
+        (0, 1, 1),
+        (2000, 2, 1),
+        (4000, 2, 1),
+        (6000, 3, 1),
+        (10000, 4, 1),
+        (10000, 1, 1),
+        (12000, 2, 1),
+    ],
+    near: &[],
+    far: &[(102, 10)],
+};
+
+fn three_dead(trial: &Trial<'_>) -> Result<(), OfficeError> {
+    let world = gateway(trial.alloc(), IMAGE_OF_FOUR, &THREE_DEAD, &[])?;
+    assert_in(trial, SITE_OF_FOUR, POINTS_OF_FOUR, world, &THREE_DEAD)
+}
+
+#[test]
+fn dead_devices_are_asked_behind_the_others(rt: HostRuntime) -> Result<(), Fail> {
+    Ok(twice!(rt, three_dead)?)
 }

@@ -279,3 +279,36 @@ fn late(trial: &Trial<'_>) -> Result<(), OfficeError> {
 fn a_device_that_answers_after_the_time_out_is_heard(rt: HostRuntime) -> Result<(), Fail> {
     Ok(twice!(rt, late)?)
 }
+
+/// It answers nothing, then refuses connections, then takes one and answers nothing: all the while it was told that it
+/// is down. It is told as up once it answers.
+const SILENT_AND_AWAY: Run = Run {
+    ends: 17_500,
+    cellar: &[
+        Spell {
+            trouble: Trouble::Silent,
+            unit: None,
+            from: 3_000,
+            to: 15_000,
+        },
+        Spell {
+            trouble: Trouble::Away,
+            unit: None,
+            from: 8_500,
+            to: 9_500,
+        },
+    ],
+    begun: &[0, 9000, 11000, 17000],
+    told: "1970-01-01T00:08:22Z office: line roof is up\n1970-01-01T00:08:22Z office: line cellar is up\n1970-01-01T00:08:30Z office: line cellar is down: nothing was answered in time\n1970-01-01T00:08:31Z office: it took 30 ms to look up where line cellar is\n1970-01-01T00:08:39Z office: line cellar is up\n",
+    roof: &[(100, 0), (101, 3), (102, 8), (103, 13)],
+    readings: &[(100, 0), (103, 17)],
+};
+
+fn silent_and_away(trial: &Trial<'_>) -> Result<(), OfficeError> {
+    assert_run(trial, &SILENT_AND_AWAY)
+}
+
+#[test]
+fn a_line_that_answered_nothing_is_up_once_it_answers(rt: HostRuntime) -> Result<(), Fail> {
+    Ok(twice!(rt, silent_and_away)?)
+}

@@ -242,3 +242,101 @@ fn between(trial: &Trial<'_>) -> Result<(), OfficeError> {
 fn an_order_is_sent_while_a_round_is_under_way(rt: HostRuntime) -> Result<(), Fail> {
     Ok(twice!(rt, between)?)
 }
+
+/// What the roof was asked, and when.
+struct AskedAt(&'static [(u64, u8)]);
+
+impl Look<MemKeeper> for AskedAt {
+    fn look(&self, trial: &Trial<'_>, left: &mut Left<MemKeeper>) -> Result<(), OfficeError> {
+        let asked = left.world.wires.first().map(|wire| wire.asked.as_slice());
+        trial.told(&"asked", &asked, &Some(self.0));
+        Ok(())
+    }
+}
+
+/// Of slot 102 the roof is asked for its reading once it has answered to the order, which was sent in slot 101.
+const SENT_ONCE: AskedAt = AskedAt(&[(0, 17), (3_000, 17), (7_500, 17), (8_500, 17)]);
+
+/// A slot ends while an order is waited for.
+fn waits_on(trial: &Trial<'_>) -> Result<(), OfficeError> {
+    let speeches = [Speech::at_once(7_500, ORDER)];
+    let world = world_of(trial.alloc(), 9_800, &ROOF_LATE, &speeches)?;
+    look_behind_new(trial, &[], world, &SENT_ONCE)
+}
+
+#[test]
+fn an_order_that_waits_is_not_sent_again_in_the_next_slot(rt: HostRuntime) -> Result<(), Fail> {
+    Ok(twice!(rt, waits_on)?)
+}
+
+/// The roof takes three seconds from the seventh on.
+const ROOF_GETS_LATE: [Behind; 2] = [
+    Behind {
+        image: IMAGE,
+        spells: &[Spell {
+            trouble: Trouble::Late(3_000),
+            unit: None,
+            from: 7_000,
+            to: u64::MAX,
+        }],
+    },
+    Behind {
+        image: IMAGE,
+        spells: &[],
+    },
+];
+
+/// Of slot 102 the roof is asked once it answers, though nothing was asked in that slot before.
+const TAKEN_UP_AGAIN: AskedAt = AskedAt(&[(0, 17), (3_000, 17), (7_500, 17), (10_500, 17)]);
+
+/// An order that waits as a slot begins is given up, and answered later.
+fn given_up(trial: &Trial<'_>) -> Result<(), OfficeError> {
+    let speeches = [Speech::at_once(7_500, ORDER)];
+    let world = world_of(trial.alloc(), 12_000, &ROOF_GETS_LATE, &speeches)?;
+    look_behind_new(trial, &[], world, &TAKEN_UP_AGAIN)
+}
+
+#[test]
+fn a_slot_waits_for_a_device_whose_order_was_given_up(rt: HostRuntime) -> Result<(), Fail> {
+    Ok(twice!(rt, given_up)?)
+}
+
+/// The roof is away for half a second, and takes a second and a half from then on.
+const ROOF_AWAY_AND_LATE: [Behind; 2] = [
+    Behind {
+        image: IMAGE,
+        spells: &[
+            Spell {
+                trouble: Trouble::Away,
+                unit: None,
+                from: 5_000,
+                to: 5_500,
+            },
+            Spell {
+                trouble: Trouble::Late(1_500),
+                unit: None,
+                from: 6_500,
+                to: u64::MAX,
+            },
+        ],
+    },
+    Behind {
+        image: IMAGE,
+        spells: &[],
+    },
+];
+
+/// The connection stays, and what it is asked in slot 102 waits for the answer to the order.
+const WAITED_FOR: AskedAt = AskedAt(&[(0, 17), (3_000, 17), (7_000, 17), (8_500, 17)]);
+
+/// Over a connection that was made anew an order is sent a second before a slot begins.
+fn anew(trial: &Trial<'_>) -> Result<(), OfficeError> {
+    let speeches = [Speech::at_once(7_000, ORDER)];
+    let world = world_of(trial.alloc(), 9_800, &ROOF_AWAY_AND_LATE, &speeches)?;
+    look_behind_new(trial, &[], world, &WAITED_FOR)
+}
+
+#[test]
+fn an_order_has_its_time_though_a_slot_begins(rt: HostRuntime) -> Result<(), Fail> {
+    Ok(twice!(rt, anew)?)
+}

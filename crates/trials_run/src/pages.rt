@@ -240,8 +240,8 @@ fn pages_are_shown_part_by_part(rt: HostRuntime) -> Result<(), Fail> {
     Ok(twice!(rt, told_in_parts)?)
 }
 
-/// The cellar's round of slot 101 is cut as its connection ends, and begun again. Then the connection ends once more, and
-/// nothing lacks in a round behind that.
+/// The cellar's round of slot 101 is cut as its connection ends, and begun again. Then the connection ends once more,
+/// and nothing lacks in a round behind that.
 const LOST_TWICE: &[Spell] = &[
     Spell {
         trouble: Trouble::Late(2_000),

@@ -7,8 +7,8 @@ use poll_book::MemKeeper;
 use std::test::Fail;
 use telling::{Trial, twice};
 
-/// What is asked for, and what is answered: a counter, the same in slots without a reading, one that isn't a counter, an
-/// unknown point, slots in the wrong order, and another method.
+/// What is asked for, and what is answered: a counter, the same in slots without a reading, one that isn't a counter,
+/// an unknown point, slots in the wrong order, and another method.
 const EXCHANGES: &[(&str, &str)] = &[
     (
         "GET /points/e/report/100/101 HTTP/1.1\r\n\r\n",

@@ -1,9 +1,13 @@
 //! Stores that refuse.
 use crate::guest::Speech;
 use crate::orders::{ORDER, WAITING};
-use crate::scenes::{assert_readings, assert_told, keep_up_in, world};
+use crate::scenes::{
+    Behind, Left, Look, assert_readings, assert_told, keep_up_in, look_behind, office_over, world,
+    world_of,
+};
 use office_core::{Office, OfficeError};
 use office_plays::refusing::Refusing;
+use office_plays::steps::Happens::{self, Load};
 use office_run::RunFault;
 use poll_book::StoreFault;
 use std::test::Fail;
@@ -202,4 +206,42 @@ fn unshown(trial: &Trial<'_>) -> Result<(), OfficeError> {
 #[test]
 fn a_page_that_the_store_refuses_breaks_off_and_is_told(rt: HostRuntime) -> Result<(), Fail> {
     Ok(twice!(rt, unshown)?)
+}
+
+/// Three devices on one line.
+const SITE: &str =
+    "[[line]]\nname = \"roof\"\naddress = \"127.0.0.1:502\"\n[[device]]\nname = \"a\"\nline = \"roof\"\nunit = 1\n[[device]]\nname = \"b\"\nline = \"roof\"\nunit = 2\n[[device]]\nname = \"c\"\nline = \"roof\"\nunit = 3\n";
+
+const DEVICES: Behind = Behind {
+    image: "[[unit]]\nid = 1\nholding_start = 41\nholding = [0]\n[[unit]]\nid = 2\nholding_start = 41\nholding = [0]\n[[unit]]\nid = 3\nholding_start = 41\nholding = [0]\n",
+    spells: &[],
+};
+
+const POINTS: &[Happens] = &[Load(
+    "l1",
+    "a,a,holding,41,uint16,,,gauge,\nb,b,holding,41,uint16,,,gauge,\nc,c,holding,41,uint16,,,gauge,\n",
+)];
+
+/// The readings of slot 101 came a second later.
+struct BegunOnceMore;
+
+impl Look<Refusing> for BegunOnceMore {
+    fn look(&self, trial: &Trial<'_>, left: &mut Left<Refusing>) -> Result<(), OfficeError> {
+        assert_readings(trial, &mut left.office, "a", &[(100, 0), (101, 4)])?;
+        assert_readings(trial, &mut left.office, "c", &[(100, 0), (101, 4)])
+    }
+}
+
+/// What three devices answered at once is refused: that is one refusal of a round.
+fn refused_at_once(trial: &Trial<'_>) -> Result<(), OfficeError> {
+    let alloc = trial.alloc();
+    let keeper = Refusing::changes(alloc, 5, 8, StoreFault::Full);
+    let office = office_over(alloc, keeper, SITE, POINTS)?;
+    let world = world_of(alloc, 6_500, &[DEVICES], &[])?;
+    look_behind(trial, office, world, &BegunOnceMore)
+}
+
+#[test]
+fn a_slot_is_begun_again_a_second_after_all_of_it_was_refused(rt: HostRuntime) -> Result<(), Fail> {
+    Ok(twice!(rt, refused_at_once)?)
 }

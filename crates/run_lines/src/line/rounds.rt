@@ -29,7 +29,8 @@ enum Becomes {
     Waiting,
 }
 
-/// When the slot is begun again that the store refused, as a round begins: where that isn't of orders alone, it is by that.
+/// When the slot is begun again that the store refused, as a round begins: where that isn't of orders alone, it is by
+/// that.
 fn retry_beside(retry: Option<Moment>, kind: Kind) -> Option<Moment> {
     match kind {
         Kind::Whole => None,
@@ -133,47 +134,62 @@ impl Line {
         }
     }
 
-    /// What becomes of the round that is under way. Until its slot is over a device that was passed over may answer.
-    /// Where nothing was answered then, or for three time-outs, the line is silent.
-    fn becomes(&self, times: Times) -> Option<Becomes> {
+    /// Whether a round that is under way is past: by the clock, or since it lasted for a slot, as where the clock was
+    /// set back. One in which nothing was answered yet lasts for a time-out at least.
+    fn is_past(&self, round: &Round, has_answer: bool, times: &Times) -> bool {
+        let begun_in = self.begun_in;
+        let is_over = times.slot().is_some_and(|slot| begun_in < slot)
+            || times.slots.millis() <= round.began().until(times.now);
+        is_over && (has_answer || round.began().after(self.timeout) <= times.now)
+    }
+
+    /// What becomes of the round that is under way. Until it is past a device that was passed over may answer. Where
+    /// nothing was answered then, or for three time-outs, and nothing is left to be asked, the line is silent.
+    fn becomes(&self, times: &Times) -> Option<Becomes> {
         let Connection::Up(link) = &self.connection else {
             return None;
         };
         let round = link.round()?;
         let slot = round.slot();
-        let two = round.began().after(self.timeout).after(self.timeout);
         let has_answer = link.has_answer(slot);
-        let begun_in = self.begun_in;
-        let is_over = times.slot().is_some_and(|later| begun_in < later);
+        let is_past = self.is_past(round, has_answer, times);
+        let is_left = round.has_left(&self.stations);
         let is_done = if has_answer {
-            is_over || !round.has_left(&self.stations)
+            is_past || !is_left
         } else {
-            !round.has_asked()
+            !round.has_asked() && !is_left
         };
         if link.is_settled() && is_done {
             return Some(Becomes::Done);
         }
-        if has_answer && is_over {
+        if has_answer && is_past {
             return Some(Becomes::Cut(round.kind(), slot));
         }
-        if is_over || (!has_answer && two.after(self.timeout) <= times.now) {
+        let two = round.began().after(self.timeout).after(self.timeout);
+        let is_late = two.after(self.timeout) <= times.now;
+        if is_past || (!has_answer && link.is_settled() && is_late) {
             return Some(Becomes::Silent);
         }
         Some(Becomes::Waiting)
     }
 
-    /// From when on an answer is waited for in the round that is under way: where none came yet, for three time-outs
-    /// from its beginning at most.
+    /// From when on an answer is waited for in the round that is under way. Where all that was asked is given up, and
+    /// nothing was answered, that is looked at after one time-out and after three.
     fn waits_from(&self, now: Moment) -> Moment {
         let Connection::Up(link) = &self.connection else {
             return now;
         };
-        let from = link.waits_from().unwrap_or(now);
-        match link.round() {
-            Some(round) if !link.has_answer(round.slot()) => {
-                from.min(round.began().after(self.timeout).after(self.timeout))
+        match (link.waits_from(), link.round()) {
+            (Some(from), _) => from,
+            (None, Some(round)) if !link.has_answer(round.slot()) => {
+                let one = round.began().after(self.timeout);
+                if now < one {
+                    round.began()
+                } else {
+                    one.after(self.timeout)
+                }
             }
-            _ => from,
+            (None, _) => now,
         }
     }
 
@@ -184,14 +200,16 @@ impl Line {
     {
         let now = times.now;
         self.count_queries();
-        match self.becomes(times) {
+        match self.becomes(&times) {
             Some(Becomes::Done) => {
                 self.refusals = Delay::none();
+                self.tell_stands(journal);
                 self.count_round(journal, now);
                 self.end_round();
                 self.stations.tell_silent(journal);
             }
             Some(Becomes::Cut(kind, slot)) => {
+                self.refusals = Delay::none();
                 self.tell_cut(journal, kind, slot);
                 self.end_round();
                 self.stations.tell_silent(journal);
@@ -232,6 +250,7 @@ impl Line {
         self.has_begun = true;
         self.retry = retry_beside(self.retry, kind);
         self.orders = Some(orders);
+        self.offered = times.slot();
         self.woken = orders;
         Ok(())
     }
@@ -293,8 +312,8 @@ impl Line {
     }
 
     /// The round that is to be begun: the slot's, if it isn't begun, and no counter of the line is counted in a later
-    /// one. Where orders came since, or while no slot may be begun, since the clock jumped ahead or stands behind one
-    /// that was begun, it is one of orders alone.
+    /// one. Where orders came since, or the clock's slot is another one and may not be begun, it is one of orders
+    /// alone.
     fn choose(&mut self, times: &Times, orders: u64) -> Option<(u32, Kind)>
         ensures keeps { Keeps self.old self.new }
         ensures wanted { IfSome result (λ chosen. Wants self.new.beat chosen.0) }
@@ -314,7 +333,7 @@ impl Line {
             self.is_unbegun = false;
             return Some((slot, Kind::Whole));
         }
-        if self.orders == Some(orders) {
+        if self.orders == Some(orders) && self.offered == times.slot() {
             return None;
         }
         self.beat.again();

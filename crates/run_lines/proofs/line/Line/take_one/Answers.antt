@@ -35,11 +35,16 @@ returns-in-Some-Answer g c =
 pub returns-in-Some-Refused : goal.returns-in-Some-Refused
 returns-in-Some-Refused g c =
     let line = c.args.self.now in (
-      record { place = refl; name = c.take.ensures.name; most = refl; from = refl },
+      record {
+        place = c.note_refused.ensures.0.place;
+        name = c.note_refused.ensures.0.name ∙ c.take.ensures.name;
+        most = c.note_refused.ensures.0.most;
+        from = c.note_refused.ensures.0.from;
+      },
       (
         wire_of c.take.new.self,
         over_link line c.args.office.now c.take.new.office (λ acts. acts ≡ []) c.in-Up.link (wire_of c.take.new.self) c.in-Up.is (c.take.ensures.wired (terms_of line) (source_of line)),
-        refl,
+        c.note_refused.ensures.1,
       ),
     )
 

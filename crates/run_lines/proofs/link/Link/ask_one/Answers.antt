@@ -5,10 +5,10 @@ use Rattle.run_lines.specs.declared.loss.Loss.TheVariants.{Memory}
 use Rattle.run_lines.specs.declared.round.Asked.{Asked}
 use Rattle.run_lines.specs.declared.window.Query.{Query as Waiting}
 use Rattle.run_lines.specs.Links.{asked_in, slot_of, standing_of, wire_of}
-use Rattle.run_lines.specs.Rounds.{query_of}
+use Rattle.run_lines.specs.Rounds.{number_for, query_of}
 use Rattle.run_lines.specs.Wires.{Queries, Sends, Standing, Up, WireMoves, sent}
 use Rattle.run_deeds.proofs.Passing.{part_asked}
-use Rattle.run_lines.proofs.Wires.{made_none, none_asked, shown, shown_lost, wired_missed, wired_query}
+use Rattle.run_lines.proofs.Wires.{asked_none, shown, shown_lost, wired_missed, wired_query}
 use Rattle.run_lines.proofs.link.Link.ask_one.Goals as goal
 
 pub returns-in_err-asked : goal.returns-in_err-asked
@@ -22,7 +22,7 @@ pub returns-in_default : goal.returns-in_default
 returns-in_default g c = λ terms source is. (
   wire_of c.args.self.now,
   part_asked (WireMoves terms) source c.args.office.now c.next.new.office (λ acts. acts ≡ []) (wire_of c.args.self.now)
-      (made_none (Queries c.args.self.now.conn (slot_of c.args.self.now.round)) c.args.office.now c.next.new.office _ (none_asked _ (ap is_some c.in_default.is)) c.in_ok-asked.ensures.made) refl,
+      (asked_none c.args.self.now.conn (slot_of c.args.self.now.round) (asked_in c.args.self.now) c.args.office.now c.next.new.office _ (ap is_some c.in_default.is) c.in_ok-asked.ensures.made) refl,
   ap Up c.next.ensures.standing,
 )
 
@@ -32,10 +32,10 @@ returns-in_err-send g c = λ terms source is.
     let query = c.in-Some.asked.query in
     let room : length (asked_in c.args.self.now) < c.args.most = search rules in
     let few : length (asked_in c.args.self.now) < terms.most = subst (λ (most : ℕ). length (asked_in c.args.self.now) < most) (sym is) room in
-    let asked : Waiting = record { transaction = query.transaction; device = c.in-Some.asked.device; is_order = c.in-Some.asked.is_order; sent = c.args.now } in (
+    let asked : Waiting = record { transaction = query.transaction; device = c.in-Some.asked.device; order = c.in-Some.asked.order; sent = c.args.now } in (
       Up (sent query asked at),
-      wired_query terms source c.args.office.now c.next.new.office at query (Up (sent query asked at)) few (asked, refl, refl)
-          (subst (λ (some : Option Asked). Makes (Queries c.args.self.now.conn (slot_of c.args.self.now.round)) c.args.office.now c.next.new.office (query_of some)) c.in-Some.is c.in_ok-asked.ensures.made),
+      wired_query terms source c.args.office.now c.next.new.office at query c.in-Some.asked.order (Up (sent query asked at)) few (asked, refl, refl, refl)
+          (subst (λ (some : Option Asked). Makes (Queries c.args.self.now.conn (slot_of c.args.self.now.round) (asked_in c.args.self.now) (number_for some)) c.args.office.now c.next.new.office (query_of some)) c.in-Some.is c.in_ok-asked.ensures.made),
       shown_lost _ c.from_residual-in_err-send.result Memory (Up (sent query asked at)) (wire_of c.send.new.self) c.from_residual-in_err-send.ensures.1,
     )
 
@@ -46,8 +46,8 @@ returns g c = λ terms source is.
     let room : length (asked_in c.args.self.now) < c.args.most = search rules in
     let few : length (asked_in c.args.self.now) < terms.most = subst (λ (most : ℕ). length (asked_in c.args.self.now) < most) (sym is) room in (
       wire_of c.send.new.self,
-      wired_query terms source c.args.office.now c.next.new.office at query (wire_of c.send.new.self) few
-          (subst (λ (some : Standing). Sends some query (wire_of c.send.new.self)) c.next.ensures.standing c.in_ok-send.ensures)
-          (subst (λ (some : Option Asked). Makes (Queries c.args.self.now.conn (slot_of c.args.self.now.round)) c.args.office.now c.next.new.office (query_of some)) c.in-Some.is c.in_ok-asked.ensures.made),
+      wired_query terms source c.args.office.now c.next.new.office at query c.in-Some.asked.order (wire_of c.send.new.self) few
+          (subst (λ (some : Standing). Sends some query c.in-Some.asked.order (wire_of c.send.new.self)) c.next.ensures.standing c.in_ok-send.ensures)
+          (subst (λ (some : Option Asked). Makes (Queries c.args.self.now.conn (slot_of c.args.self.now.round) (asked_in c.args.self.now) (number_for some)) c.args.office.now c.next.new.office (query_of some)) c.in-Some.is c.in_ok-asked.ensures.made),
       refl,
     )

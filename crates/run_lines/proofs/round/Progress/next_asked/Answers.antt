@@ -1,11 +1,9 @@
 use Rattle.std.proofs.Common.{Some, sym}
-use Rattle.run_lines.specs.Rounds.{query_of}
-use Rattle.run_lines.specs.Wires.{Queries}
-use Rattle.run_lines.proofs.Wires.{made_none, none_asked, then_asked}
+use Rattle.run_lines.proofs.Wires.{asked_none, then_asked}
 use Rattle.run_lines.proofs.round.Progress.next_asked.Goals as goal
 
 pub returns : goal.returns
 returns g c =
-    then_asked c.args.conn c.args.slot c.args.office.now c.next_order.new.office c.next_read.new.office c.next_read.result
-    (made_none (Queries c.args.conn (Some c.args.slot)) c.args.office.now c.next_order.new.office (query_of c.in_ok-order.order) (none_asked c.in_ok-order.order (sym c.if-is_some.ensures)) (c.in_ok-order.ensures c.args.slot))
-    c.next_read.ensures
+    then_asked c.args.conn (Some c.args.slot) c.args.window.now c.args.office.now c.asked_among.new.office c.asked_of_silent.new.office c.asked_of_silent.result
+    (asked_none c.args.conn (Some c.args.slot) c.args.window.now c.args.office.now c.asked_among.new.office c.in_ok-asked.asked (sym c.if-is_some.ensures) c.in_ok-asked.ensures)
+    c.asked_of_silent.ensures

@@ -1,11 +1,9 @@
-use Rattle.std.proofs.Common.{Option, Some, ap, subst}
-use Rattle.std.specs.Prelude.{is_some}
-use Rattle.mb_mbap.specs.declared.frame.Frame.{Frame}
+use Rattle.std.proofs.Common.{Some, sym}
 use Rattle.office_core.proofs.Proceeding.{along_still, along_then}
 use Rattle.office_net.proofs.Querying.{nothing_then_makes, nothing_then_misses, told_err}
-use Rattle.office_net.specs.Querying.{Makes}
-use Rattle.run_lines.specs.Wires.{Queries}
-use Rattle.run_lines.proofs.Wires.{made_none}
+use Rattle.run_lines.specs.Rounds.{number_for, query_of}
+use Rattle.run_lines.specs.Wires.{Queries, SomeQuery}
+use Rattle.run_lines.proofs.Wires.{asked_none}
 use Rattle.run_lines.proofs.round.Progress.next_order.Goals as goal
 
 pub loop-device-init : goal.loop-device-init
@@ -14,14 +12,14 @@ loop-device-init g c = along_still c.args.office.now
 pub loop-device-preserved : goal.loop-device-preserved
 loop-device-preserved g c =
     along_then c.args.office.now c.loop-device.office c.order_of.new.office c.loop-device.invariant
-    (made_none (Queries c.args.conn (Some 0)) c.loop-device.office c.order_of.new.office _ (ap is_some c.in_default.is) (c.in_ok-query.ensures 0))
+    (asked_none c.args.conn (Some 0) c.args.window.now c.loop-device.office c.order_of.new.office c.in_ok-asked.asked (sym c.if-is_some.ensures) (c.in_ok-asked.ensures 0))
 
-pub returns-in_err-query : goal.returns-in_err-query
-returns-in_err-query g c = λ slot.
+pub returns-in_err-asked : goal.returns-in_err-asked
+returns-in_err-asked g c = λ slot.
     told_err c.from_residual.result _ _ c.from_residual.ensures.0
-    (nothing_then_misses (Queries c.args.conn (Some slot)) c.args.office.now c.loop-device.office c.order_of.new.office c.loop-device.invariant (c.in_err-query.ensures slot))
+    (nothing_then_misses (SomeQuery c.args.conn (Some slot) c.args.window.now) c.args.office.now c.loop-device.office c.order_of.new.office c.loop-device.invariant (c.in_err-asked.ensures slot))
 
-pub returns-in-Some : goal.returns-in-Some
-returns-in-Some g c = λ slot.
-    nothing_then_makes (Queries c.args.conn (Some slot)) c.args.office.now c.loop-device.office c.order_of.new.office (Some c.in-Some.query) c.loop-device.invariant
-    (subst (λ (told : Option Frame). Makes (Queries c.args.conn (Some slot)) c.loop-device.office c.order_of.new.office told) c.in-Some.is (c.in_ok-query.ensures slot))
+pub returns-then-is_some : goal.returns-then-is_some
+returns-then-is_some g c = λ slot.
+    nothing_then_makes (Queries c.args.conn (Some slot) c.args.window.now (number_for c.in_ok-asked.asked)) c.args.office.now c.loop-device.office c.order_of.new.office
+    (query_of c.in_ok-asked.asked) c.loop-device.invariant (c.in_ok-asked.ensures slot)

@@ -2,7 +2,7 @@ use Rattle.std.proofs.Common.{None, Some}
 use Rattle.office_core.proofs.Following.{stays_so}
 use Rattle.office_net.proofs.Oldest.{oldest_found}
 use Rattle.office_core.proofs.Proceeding.{along_asked}
-use Rattle.office_net.proofs.going.oldest.Goals as goal
+use Rattle.office_net.proofs.going.oldest_order.Goals as goal
 
 pub returns-in-Some-clause-value : goal.returns-in-Some-clause-value
 returns-in-Some-clause-value g c = λ clean. (
