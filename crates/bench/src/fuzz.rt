@@ -54,7 +54,6 @@ enum Reader {
     Site,
     Image,
     Script,
-    Words,
 }
 
 const READERS: &[Reader] = &[
@@ -65,7 +64,6 @@ const READERS: &[Reader] = &[
     Reader::Site,
     Reader::Image,
     Reader::Script,
-    Reader::Words,
 ];
 
 impl Reader {
@@ -78,7 +76,6 @@ impl Reader {
             Reader::Site => samples::SITES,
             Reader::Image => samples::IMAGES,
             Reader::Script => samples::SCRIPTS,
-            Reader::Words => samples::WORDS,
         }
     }
 
@@ -99,7 +96,6 @@ impl Reader {
             Reader::Site => readers::site_file(alloc, bytes),
             Reader::Image => readers::image(alloc, bytes),
             Reader::Script => readers::script(alloc, bytes),
-            Reader::Words => readers::words(alloc, bytes),
         }
     }
 }

@@ -5,6 +5,8 @@
 #[cfg(test)]
 mod command_faults;
 #[cfg(test)]
+mod drawn_words;
+#[cfg(test)]
 mod drills;
 #[cfg(test)]
 mod noise;

@@ -9,11 +9,9 @@ use mb_pdu::{Reply, Request, Span};
 use office_core::Office;
 use office_net::serve_one;
 use office_script::{ReplayFault, Replayed, replay};
-use office_words::{WordFault, read_words};
 use point_list::{ListFault, Site, read_points};
 use poll_book::MemKeeper;
 use std::alloc::{AllocError, Global};
-use std::str;
 
 /// A unit as a request. What one is read to spells the bytes again.
 pub fn request(bytes: &[u8]) -> Result<Came, Trouble> {
@@ -107,25 +105,6 @@ pub fn script(alloc: Global, bytes: &[u8]) -> Result<Came, Trouble> {
         Ok(Replayed::FaultLine(_)) => Ok(Came::Refused),
         Err(ReplayFault::Memory) => Err(Trouble::Memory),
         Err(_) => Err(Trouble::Wrong("a reader or a writer that failed")),
-    }
-}
-
-/// The words of a text, cut at its white space.
-fn words_of(alloc: Global, text: &str) -> Result<Vec<String>, AllocError> {
-    let mut words = Vec::new(alloc);
-    for word in text.split([' ', '\n']) {
-        words.push(String::from_str(alloc, word)?)?;
-    }
-    Ok(words)
-}
-
-/// Words of a command line.
-pub fn words(alloc: Global, bytes: &[u8]) -> Result<Came, Trouble> {
-    let text = str::from_utf8(bytes).unwrap_or("\u{FFFD}");
-    match read_words(alloc, words_of(alloc, text)?) {
-        Ok(_) => Ok(Came::Value),
-        Err(WordFault::Words) => Ok(Came::Refused),
-        Err(WordFault::Memory) => Err(Trouble::Memory),
     }
 }
 

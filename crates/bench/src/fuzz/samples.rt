@@ -53,16 +53,3 @@ pub const SCRIPTS: &[&[u8]] = &[
     b"device m1 roof 17\npoint e,m1,holding,107,uint16,,,counter,\nopen roof\nask 1 m1 1 3 107 1\nreply 1 00 00 00 00 00 05 11 03 02 FD E8\nvoid v1 e 1\nrestart\n",
     b"device m1 roof 17\npoint lim,m1,holding,40,uint16,,,setting,\norder k1 lim 80\nopen roof\nsend 1 1\nreply 1 00 00 00 00 00 06 11 06 00 28 00 50\n# end\n",
 ];
-
-pub const WORDS: &[&[u8]] = &[
-    b"load --store\nf\n--site\ns\n--caller ann\n--key k1\nlist\n",
-    b"poll --store f --site s --slot 7 roof",
-    b"order --store f --site s --caller ann --key k1 lim -- -5",
-    b"report --store f --site s e 1 2",
-    b"serve --store f --site s --port 8080 --count 1 --timeout 9",
-    b"void --store f --site s --caller ann --key v1 e 12",
-    b"migrate --store f --timeout 9",
-    b"sim --image i --port 5020",
-    b"discover --site s m1",
-    b"help poll",
-];
