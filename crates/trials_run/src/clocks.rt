@@ -1,9 +1,10 @@
 //! A clock that somebody sets, while the devices go on by one that nobody does.
+use crate::gateways;
 use crate::guest::Speech;
 use crate::orders::{ASKED, ORDER, OrderDone};
 use crate::scenes::{
-    Behind, IMAGE, Left, Look, assert_readings, assert_told, assert_total, look_behind_new, world,
-    world_of,
+    AllTold, Behind, IMAGE, Left, Look, assert_readings, assert_told, assert_total, look_behind,
+    look_behind_new, office_over, world, world_of,
 };
 use crate::wire::{Spell, Trouble};
 use crate::world::Setting;
@@ -161,4 +162,34 @@ fn ordered_again(trial: &Trial<'_>) -> Result<(), OfficeError> {
 #[test]
 fn an_order_is_sent_again_while_the_clock_stands_behind(rt: HostRuntime) -> Result<(), Fail> {
     Ok(twice!(rt, ordered_again)?)
+}
+
+/// A gateway of which the near device, that is asked more than the far one, answers nothing.
+const NEAR_SILENT: Behind = Behind {
+    image: gateways::IMAGE,
+    spells: gateways::NEAR_IS_SILENT,
+};
+
+/// The clock's next slot begins nine seconds into the run, when that round has lasted for more than a slot.
+const ROUND_ENDS: AllTold = AllTold(
+    "1970-01-01T00:08:22Z office: line roof is up\n1970-01-01T00:08:25Z office: line roof polled slot 100: asked 17 recorded 1 excepted 0 refused 0 in 3000 ms\n1970-01-01T00:08:25Z office: device near of line roof is silent\n1970-01-01T00:08:11Z office: the clock stands behind slot 101: no slot before it is begun\n1970-01-01T00:08:15Z office: line roof polled slot 101: asked 2 recorded 1 excepted 0 refused 0 in 6000 ms\n",
+);
+
+/// The clock is set back while a round waits for a device that may answer yet.
+fn round_ends(trial: &Trial<'_>) -> Result<(), OfficeError> {
+    let alloc = trial.alloc();
+    let office = office_over(
+        alloc,
+        MemKeeper::new(alloc),
+        gateways::SITE,
+        gateways::POINTS,
+    )?;
+    let world = world_of(alloc, 10_000, &[NEAR_SILENT], &[])?;
+    let world = world.with_settings(BACK_BEFORE_AN_ORDER);
+    look_behind(trial, office, world, &ROUND_ENDS)
+}
+
+#[test]
+fn a_round_ends_though_the_clock_was_set_back(rt: HostRuntime) -> Result<(), Fail> {
+    Ok(twice!(rt, round_ends)?)
 }

@@ -15,21 +15,21 @@ use std::test::Fail;
 use telling::{Trial, twice};
 
 /// A gateway with two devices behind it.
-const SITE: &str =
+pub(crate) const SITE: &str =
     "[[line]]\nname = \"roof\"\naddress = \"127.0.0.1:502\"\n[[device]]\nname = \"near\"\nline = \"roof\"\nunit = 1\n[[device]]\nname = \"far\"\nline = \"roof\"\nunit = 2\n";
 
 /// The same, of which two queries may wait.
 const SITE_OF_TWO: &str =
     "[[line]]\nname = \"roof\"\naddress = \"127.0.0.1:502\"\noutstanding = 2\n[[device]]\nname = \"near\"\nline = \"roof\"\nunit = 1\n[[device]]\nname = \"far\"\nline = \"roof\"\nunit = 2\n";
 
-const IMAGE: &str =
+pub(crate) const IMAGE: &str =
     "[[unit]]\nid = 1\nholding_start = 41\nholding = [0]\n[[unit]]\nid = 2\nholding_start = 41\nholding = [0]\n";
 
 /// The seconds of both devices; of the near one twenty times, so that it has twenty reads more than the far one.
 const LIST: &str =
     "near,near,holding,41,uint16,,,gauge,\nfar,far,holding,41,uint16,,,gauge,\na0,near,holding,100,uint16,,,gauge,\na1,near,holding,102,uint16,,,gauge,\na2,near,holding,104,uint16,,,gauge,\na3,near,holding,106,uint16,,,gauge,\na4,near,holding,108,uint16,,,gauge,\na5,near,holding,110,uint16,,,gauge,\na6,near,holding,112,uint16,,,gauge,\na7,near,holding,114,uint16,,,gauge,\na8,near,holding,116,uint16,,,gauge,\na9,near,holding,118,uint16,,,gauge,\nb0,near,holding,120,uint16,,,gauge,\nb1,near,holding,122,uint16,,,gauge,\nb2,near,holding,124,uint16,,,gauge,\nb3,near,holding,126,uint16,,,gauge,\nb4,near,holding,128,uint16,,,gauge,\nb5,near,holding,130,uint16,,,gauge,\nb6,near,holding,132,uint16,,,gauge,\nb7,near,holding,134,uint16,,,gauge,\nb8,near,holding,136,uint16,,,gauge,\nb9,near,holding,138,uint16,,,gauge,\n";
 
-const POINTS: &[Happens] = &[Load("l1", LIST)];
+pub(crate) const POINTS: &[Happens] = &[Load("l1", LIST)];
 
 /// The same devices, of which the far one has a register to set.
 const IMAGE_WITH_LIMIT: &str =
@@ -108,7 +108,7 @@ fn assert_run(trial: &Trial<'_>, site: &str, run: &Run) -> Result<(), OfficeErro
 }
 
 /// The near device answers nothing.
-const NEAR_IS_SILENT: &[Spell] = &[Spell {
+pub(crate) const NEAR_IS_SILENT: &[Spell] = &[Spell {
     trouble: Trouble::Silent,
     unit: Some(1),
     from: 0,

@@ -7,6 +7,8 @@ mod ahead;
 #[cfg(test)]
 mod arrivals;
 #[cfg(test)]
+mod busy;
+#[cfg(test)]
 mod callers;
 #[cfg(test)]
 mod clocks;

@@ -244,7 +244,7 @@ fn an_order_is_sent_while_a_round_is_under_way(rt: HostRuntime) -> Result<(), Fa
 }
 
 /// What the roof was asked, and when.
-struct AskedAt(&'static [(u64, u8)]);
+pub(crate) struct AskedAt(pub &'static [(u64, u8)]);
 
 impl Look<MemKeeper> for AskedAt {
     fn look(&self, trial: &Trial<'_>, left: &mut Left<MemKeeper>) -> Result<(), OfficeError> {

@@ -1,10 +1,12 @@
 //! Stores that refuse.
+use crate::busy;
 use crate::guest::Speech;
 use crate::orders::{ORDER, WAITING};
 use crate::scenes::{
-    Behind, Left, Look, assert_readings, assert_told, keep_up_in, look_behind, office_over, world,
-    world_of,
+    AllTold, Behind, IMAGE, Left, Look, assert_readings, assert_told, keep_up_in, look_behind,
+    office_over, world, world_of,
 };
+use crate::wire::{Spell, Trouble};
 use office_core::{Office, OfficeError};
 use office_plays::refusing::Refusing;
 use office_plays::steps::Happens::{self, Load};
@@ -244,4 +246,33 @@ fn refused_at_once(trial: &Trial<'_>) -> Result<(), OfficeError> {
 #[test]
 fn a_slot_is_begun_again_a_second_after_all_of_it_was_refused(rt: HostRuntime) -> Result<(), Fail> {
     Ok(twice!(rt, refused_at_once)?)
+}
+
+/// It answers nothing in slot 101.
+const SILENT: Behind = Behind {
+    image: IMAGE,
+    spells: &[Spell {
+        trouble: Trouble::Silent,
+        unit: None,
+        from: 3_000,
+        to: 9_000,
+    }],
+};
+
+const UP_THOUGH_REFUSED: AllTold = AllTold(
+    "1970-01-01T00:08:22Z office: line roof is up\n1970-01-01T00:08:22Z office: line roof polled slot 100: asked 1 recorded 2 excepted 0 refused 0 in 0 ms\n1970-01-01T00:08:30Z office: line roof is down: nothing was answered in time\n1970-01-01T00:08:31Z office: line roof is up\n1970-01-01T00:08:31Z office: the store refuses: full\n1970-01-01T00:08:32Z office: line roof polled slot 102: asked 1 recorded 2 excepted 0 refused 0 in 0 ms\n1970-01-01T00:08:32Z office: the store takes what comes again\n",
+);
+
+/// The first answer of a line that was told to be down is refused: the line is up.
+fn refused_as_it_is_down(trial: &Trial<'_>) -> Result<(), OfficeError> {
+    let alloc = trial.alloc();
+    let keeper = Refusing::changes(alloc, 4, 5, StoreFault::Full);
+    let office = office_over(alloc, keeper, busy::SITE, busy::POINTS)?;
+    let world = world_of(alloc, 11_000, &[SILENT], &[])?;
+    look_behind(trial, office, world, &UP_THOUGH_REFUSED)
+}
+
+#[test]
+fn a_line_is_up_though_the_store_refuses_its_answer(rt: HostRuntime) -> Result<(), Fail> {
+    Ok(twice!(rt, refused_as_it_is_down)?)
 }

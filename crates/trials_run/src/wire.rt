@@ -5,6 +5,7 @@ ghost use Rattle.run_beat.specs.Counts.{CameWithin, SentWithin};
 use crate::arrivals::give;
 use mb_map::{MapError, Sim, Table};
 use mb_mbap::{Frame, FrameReader};
+use mb_pdu::Unit;
 use run_beat::{Came, Connected, Sent};
 use std::alloc::{AllocError, Global};
 
@@ -21,6 +22,8 @@ pub(crate) enum Trouble {
     Silent,
     /// It answers so many milliseconds later.
     Late(u64),
+    /// Each device of the line refuses what is to be set, by exception 6 (server device busy).
+    Busy,
     /// The line has no connection, and refuses each.
     Away,
     /// The same, until it is looked up where it is.
@@ -99,6 +102,21 @@ fn replies(sim: &mut Sim, query: &Frame) -> Result<Vec<Frame>, AllocError> {
         Ok(frames) => Ok(frames),
         Err(MapError::Memory | MapError::TooLarge | MapError::BadImage) => Err(AllocError),
     }
+}
+
+/// Whether a query is to set something.
+fn is_write(query: &Frame) -> bool {
+    matches!(query.unit.as_bytes().first(), Some(5 | 6 | 15 | 16))
+}
+
+/// What a busy device replies to a query.
+fn busy(query: &Frame) -> Option<Frame> {
+    let function = query.unit.as_bytes().first()?;
+    Some(Frame {
+        transaction: query.transaction,
+        unit_id: query.unit_id,
+        unit: Unit::from_bytes(&[function | 0x80, 6])?,
+    })
 }
 
 /// The queries that bytes complete.
@@ -232,6 +250,18 @@ impl Wire {
         Came::Bytes(count)
     }
 
+    /// What is replied to a query.
+    fn answers(&mut self, query: &Frame, now: u64) -> Result<Vec<Frame>, AllocError> {
+        if !self.has(Trouble::Busy, now) || !is_write(query) {
+            return replies(&mut self.sim, query);
+        }
+        let mut answers = Vec::new(self.alloc);
+        if let Some(answer) = busy(query) {
+            answers.push(answer)?;
+        }
+        Ok(answers)
+    }
+
     /// A query comes.
     fn hear(&mut self, query: &Frame, now: u64) -> Result<(), AllocError> {
         self.asked.push((now, query.unit_id))?;
@@ -239,7 +269,7 @@ impl Wire {
             return Ok(());
         };
         count_seconds(&mut self.sim, query.unit_id, now / 1000);
-        for frame in replies(&mut self.sim, query)? {
+        for frame in self.answers(query, now)? {
             self.later.push(Reply {
                 due: now.saturating_add(delay),
                 frame,
