@@ -166,8 +166,8 @@ fn order<'a>(alloc: Global) -> Result<Command<'a>, AllocError>
     let command = command(
         alloc,
         "order",
-        "Orders a setting, which the next poll sends",
-        "Orders a setting, which the next poll sends.\n\nExample: office order --store roof.db --site site.toml --caller ann --key k1 lim -- -5",
+        "Orders a setting, which waits until a poll sends it",
+        "Orders a setting, which waits until a poll sends it.\n\nExample: office order --store roof.db --site site.toml --caller ann --key k1 lim -- -5",
     );
     let command = with_office(alloc, command, STORE_ALONE)?;
     let command = with_caller(alloc, command)?;
