@@ -1,10 +1,11 @@
-//! What each command does. Faults are found in the order of its steps: the site, a list or an image, the store,
-//! names, the line, and the work itself.
+//! What each command does. Faults are found in the order of its steps: an address, the site, a list or an image, the
+//! store, names, the line, and the work itself.
 ghost use Rattle.std.specs.Prelude.{IfOk};
 ghost use Rattle.point_list.specs.Sites.{IsSound};
 
 use crate::errands::print;
 use crate::output::Output;
+use crate::staying::ip_address;
 use crate::{Failure, Fault, Host, Stores, Task, Why, answer_lines, answer_stream, discover, plan};
 use line_source::LineSource;
 use mb_map::Sim;
@@ -140,6 +141,9 @@ fn work<H: Stores>(
     timeout: u16,
     errand: &Errand,
 ) -> Result<(), Failure> {
+    if let Errand::Run { bind, .. } = errand {
+        ip_address(host.alloc(), bind.as_str())?;
+    }
     let site = site_of(host, site)?;
     let list = list_of(host, errand)?;
     let task = Task {

@@ -20,15 +20,21 @@ pub struct Stay<'a> {
     pub port: u16,
 }
 
-/// Where callers are listened for.
-pub fn door_of(alloc: Global, stay: &Stay<'_>) -> Result<SocketAddr, Failure> {
-    match stay.bind.parse::<IpAddr>() {
-        Ok(address) => Ok(SocketAddr::new(address, stay.port)),
+/// The IP address that a word of the command line gives.
+pub(crate) fn ip_address(alloc: Global, bind: &str) -> Result<IpAddr, Failure> {
+    match bind.parse::<IpAddr>() {
+        Ok(address) => Ok(address),
         Err(_) => {
             let why = Why::Words("it is no IP address");
-            Err(Failure::new(Fault::Command, why).of(alloc, stay.bind))
+            Err(Failure::new(Fault::Command, why).of(alloc, bind))
         }
     }
+}
+
+/// Where callers are listened for.
+pub fn door_of(alloc: Global, stay: &Stay<'_>) -> Result<SocketAddr, Failure> {
+    let address = ip_address(alloc, stay.bind)?;
+    Ok(SocketAddr::new(address, stay.port))
 }
 
 /// The address of each line of a site, a host and port.
