@@ -81,6 +81,12 @@ impl<'a, C: Clock> Timed<'a, C> {
         }
     }
 
+    /// Whether an error is the end of what comes: one who is waited for without a limit may go as it likes, also where it
+    /// leaves answers unread, so that the system resets the connection.
+    fn is_end(&self, error: io::Error) -> bool {
+        self.limit.is_none() && error.kind() == ErrorKind::ConnectionReset
+    }
+
     fn read_once(&mut self, buf: &mut [u8]) -> io::Result<usize>
         ensures { ReadsAtMost result buf.new }
     {
@@ -97,6 +103,7 @@ impl<C: Clock> Read for Timed<'_, C> {
         for _ in 1..READS {
             match self.read_once(buf) {
                 Err(error) if error.kind() == ErrorKind::Interrupted => {}
+                Err(error) if self.is_end(error) => return Ok(0),
                 done => return done,
             }
         }

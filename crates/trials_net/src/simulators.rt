@@ -1,8 +1,9 @@
 //! Readers and writers of simulated devices that fail.
 use crate::noise::Noise;
+use crate::sockets::{ends, say};
 use mb_map::Sim;
 use mb_mbap::Counted;
-use office_commands::{Failure, Fault, answer_lines, answer_stream};
+use office_commands::{Failure, Fault, Timed, answer_lines, answer_stream};
 use std::alloc::Global;
 use std::io::{self, Write};
 use std::test::Fail;
@@ -52,4 +53,23 @@ fn all(trial: &Trial<'_>) -> Result<(), Fault> {
 #[test]
 fn readers_and_writers_of_devices_fail(rt: HostRuntime) -> Result<(), Fail> {
     Ok(twice!(rt, all)?)
+}
+
+/// A peer closes, and leaves an answer unread: what comes in ends by a reset.
+fn reset(trial: &Trial<'_>) -> Result<(), Fault> {
+    let rt = trial.runtime();
+    let mut sim = Sim::from_toml(rt.alloc(), IMAGE)?;
+    let (near, far) = ends(rt)?;
+    say(&far, &[0], false)?;
+    drop(near);
+    let mut reader = Counted::new(Timed::endless(rt, far));
+    let mut writer = Counted::new(io::sink());
+    let ended = answer_stream(rt.alloc(), &mut sim, &mut reader, &mut writer);
+    trial.told(&"ended", &ended.map_err(|failure| failure.fault), &Ok(()));
+    Ok(())
+}
+
+#[test]
+fn devices_end_well_where_an_answer_is_left_unread(rt: HostRuntime) -> Result<(), Fail> {
+    Ok(twice!(rt, reset)?)
 }

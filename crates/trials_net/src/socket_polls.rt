@@ -1,5 +1,5 @@
 //! Poll rounds over sockets, whose devices answered beforehand.
-use crate::sockets::{connected, listen, say};
+use crate::sockets::{connected, ends, listen, say};
 use office_commands::{Fault, poll};
 use office_core::Office;
 use office_plays::builders::office_after;
@@ -25,14 +25,6 @@ const CASES: &[(&[u8], bool, Result<&str, Fault>)] = &[
 ];
 
 const COUNTER: &[Happens] = &[Load("l1", "e,m1,holding,107,uint16,,,counter,\n")];
-
-/// A stream to a device, and the device's end.
-fn ends(rt: &HostRuntime) -> Result<(TcpStream, TcpStream), Fault> {
-    let (listener, address) = listen(rt)?;
-    let near = connected(rt, address.as_str())?;
-    let (far, _) = listener.accept().map_err(|_| Fault::Line)?;
-    Ok((near, far))
-}
 
 /// The query that came to the device.
 fn heard(far: &TcpStream) -> Result<[u8; 12], Fault> {

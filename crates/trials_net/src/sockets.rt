@@ -17,6 +17,14 @@ pub(crate) fn connected(rt: &HostRuntime, address: &str) -> Result<TcpStream, Fa
     Ok(connect(rt, address, Duration::from_secs(1))?)
 }
 
+/// A stream to a device, and the device's end.
+pub(crate) fn ends(rt: &HostRuntime) -> Result<(TcpStream, TcpStream), Fault> {
+    let (listener, address) = listen(rt)?;
+    let near = connected(rt, address.as_str())?;
+    let (far, _) = listener.accept().map_err(|_| Fault::Line)?;
+    Ok((near, far))
+}
+
 /// Writes all that an end of a connection has to say, after which it may end its side.
 pub(crate) fn say(end: &TcpStream, bytes: &[u8], ends: bool) -> Result<(), Fault> {
     let mut writer = end;
