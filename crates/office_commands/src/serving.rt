@@ -2,11 +2,11 @@
 use crate::timed::Timed;
 use crate::{Failure, Fault};
 use mb_mbap::Counted;
-use office_core::Office;
+use office_core::{Office, OfficeError};
 use office_net::serve_one;
-use poll_book::Keeper;
+use poll_book::{Keeper, StoreFault};
 use std::alloc::Global;
-use std::io::{self, ErrorKind, Read};
+use std::io::{self, ErrorKind, Read, Write};
 use std::net::{Shutdown, TcpListener, TcpStream};
 use std::rt::Clock;
 use std::time::Duration;
@@ -35,21 +35,48 @@ fn close<C: Clock>(clock: &C, stream: &TcpStream) -> io::Result<()> {
     Ok(())
 }
 
-/// Answers the request of a connection. A fault ends the connection alone.
+/// A stream to a caller, and whether the answer says that the store or memory refused.
+#[derive(Drop)]
+struct Answering<W> {
+    stream: W,
+    is_refused: bool,
+}
+
+impl<W: Write> Write for Answering<W> {
+    fn write(&mut self, buf: &[u8]) -> io::Result<usize> {
+        self.is_refused |= buf.starts_with(b"HTTP/1.1 503 ");
+        self.stream.write(buf)
+    }
+
+    fn flush(&mut self) -> io::Result<()> {
+        self.stream.flush()
+    }
+}
+
+/// Answers the request of a connection; tells whether it was refused. A fault ends the connection alone.
 fn answer<R: Clock + AllocGlobal, K: Keeper>(
     rt: &R,
     office: &mut Office<K>,
     stream: &TcpStream,
     timeout: Duration,
-) -> io::Result<()> {
+) -> io::Result<bool> {
     stream.set_nodelay(true)?;
     let exchange = Duration::from_secs(EXCHANGE);
     let mut reader = Counted::new(Timed::new(rt, stream.try_clone()?, exchange, timeout)?);
-    let mut writer = Counted::new(Timed::new(rt, stream.try_clone()?, exchange, timeout)?);
-    match serve_one(rt.alloc(), office, &mut reader, &mut writer) {
-        Ok(_) => close(rt, stream),
-        Err(_) => Ok(()),
+    let mut writer = Counted::new(Answering {
+        stream: Timed::new(rt, stream.try_clone()?, exchange, timeout)?,
+        is_refused: false,
+    });
+    if serve_one(rt.alloc(), office, &mut reader, &mut writer).is_ok() {
+        // Of a connection that fails nobody is there to be told.
+        let _ = close(rt, stream);
     }
+    Ok(writer.into_inner().is_refused)
+}
+
+/// Whether a file of the store fails.
+fn fails<K: Keeper>(office: &mut Office<K>) -> bool {
+    matches!(office.orders(), Err(OfficeError::Store(StoreFault::Disk)))
 }
 
 /// Takes the next connection of a listener. One that went away before it was taken is passed over.
@@ -66,7 +93,8 @@ pub fn take_next(listener: &TcpListener) -> Result<TcpStream, Failure> {
 
 /// Answers so many connections, one after the other; without a count it goes on. Each read and write
 /// waits for `timeout` at most, and an exchange takes 30 seconds in all. A connection that fails ends
-/// alone; `Line` comes where none can be taken any more.
+/// alone; `Line` comes where none can be taken any more, and `Store` where a file of the store failed, and fails again
+/// as it is asked twice behind that.
 pub fn serve<R: Clock + AllocGlobal, K: Keeper>(
     rt: &R,
     office: &mut Office<K>,
@@ -77,8 +105,10 @@ pub fn serve<R: Clock + AllocGlobal, K: Keeper>(
     let count = count.map_or(u64::MAX, u64::from);
     for _ in 0..count {
         let stream = take_next(listener)?;
-        // Of a connection that fails nobody is there to be told.
-        let _ = answer(rt, office, &stream, timeout);
+        let is_refused = answer(rt, office, &stream, timeout).unwrap_or(false);
+        if is_refused && fails(office) && fails(office) {
+            return Err(Failure::from(Fault::Store(StoreFault::Disk)));
+        }
     }
     Ok(())
 }

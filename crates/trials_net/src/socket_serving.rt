@@ -3,8 +3,10 @@ use crate::sockets::{connected, listen, say};
 use office_commands::{Fault, serve};
 use office_core::Office;
 use office_plays::builders::office_after;
+use office_plays::refusing::Refusing;
 use office_plays::steps::Happens::{self, Load};
-use poll_book::MemKeeper;
+use poll_book::{MemKeeper, StoreFault};
+use std::alloc::Global;
 use std::io;
 use std::net::{TcpListener, TcpStream};
 use std::test::Fail;
@@ -92,4 +94,57 @@ fn all(trial: &Trial<'_>) -> Result<(), Fault> {
 #[test]
 fn each_connection_is_served(rt: HostRuntime) -> Result<(), Fail> {
     Ok(twice!(rt, all)?)
+}
+
+const COUNTER: &[Happens] = &[Load("l1", "e,m1,holding,107,uint16,,,counter,\n")];
+
+const TOTAL: &str = "GET /points/e/total HTTP/1.1\r\n\r\n";
+
+const REFUSED: &str =
+    "HTTP/1.1 503 Service Unavailable\r\nContent-Type: application/json\r\nContent-Length: 17\r\nConnection: close\r\n\r\n{\"error\":\"store\"}";
+
+const GIVEN: &str =
+    "HTTP/1.1 200 OK\r\nContent-Type: application/json\r\nContent-Length: 25\r\nConnection: close\r\n\r\n{\"point\":\"e\",\"total\":\"0\"}";
+
+/// How many calls an office makes before it is asked for anything.
+fn calls_before(alloc: Global) -> Result<u32, Fault> {
+    let keeper = Refusing::from(alloc, u32::MAX, StoreFault::Disk);
+    Ok(office_after(alloc, keeper, COUNTER)?.into_keeper().calls)
+}
+
+/// Two callers ask for a total over a keeper that refuses calls: how serving ends, and what the first one is told.
+fn assert_totals(
+    trial: &Trial<'_>,
+    keeper: Refusing,
+    ended: Result<(), Fault>,
+    told: &[&str],
+) -> Result<(), Fault> {
+    let rt = trial.runtime();
+    let mut office = office_after(rt.alloc(), keeper, COUNTER)?;
+    let (listener, address) = listen(rt)?;
+    let callers = [
+        caller(rt, address.as_str(), TOTAL, true)?,
+        caller(rt, address.as_str(), TOTAL, true)?,
+    ];
+    let done = serve(rt, &mut office, &listener, Some(2), Duration::from_secs(1));
+    trial.told(&"ended", &done.map_err(|failure| failure.fault), &ended);
+    for (end, expected) in callers.iter().zip(told) {
+        assert_answer(trial, end, TOTAL, expected)?;
+    }
+    Ok(())
+}
+
+/// A file that failed once is asked on, and one that fails again ends it.
+fn broken(trial: &Trial<'_>) -> Result<(), Fault> {
+    let before = calls_before(trial.alloc())?;
+    let once = Refusing::new(trial.alloc(), before, StoreFault::Disk);
+    assert_totals(trial, once, Ok(()), &[REFUSED, GIVEN])?;
+    let for_good = Refusing::from(trial.alloc(), before, StoreFault::Disk);
+    let ended = Err(Fault::Store(StoreFault::Disk));
+    assert_totals(trial, for_good, ended, &[REFUSED])
+}
+
+#[test]
+fn serving_ends_where_the_store_is_broken(rt: HostRuntime) -> Result<(), Fail> {
+    Ok(twice!(rt, broken)?)
 }
