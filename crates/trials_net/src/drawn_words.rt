@@ -76,14 +76,19 @@ fn words_of(alloc: Global, line: &str) -> Result<Vec<String>, AllocError> {
     Ok(words)
 }
 
+/// A place among so many.
+fn place_among(dice: &mut Dice, count: usize) -> usize {
+    dice.below(u32::try_from(count).unwrap_or(u32::MAX)) as usize
+}
+
 fn drawn_of<'a>(dice: &mut Dice, texts: &[&'a str]) -> &'a str {
-    let place = dice.below(texts.len() as u32) as usize;
+    let place = place_among(dice, texts.len());
     texts.get(place).copied().unwrap_or("")
 }
 
 /// Leaves a word out, puts one in, or puts one in another's place.
 fn change(alloc: Global, dice: &mut Dice, words: &mut Vec<String>) -> Result<(), AllocError> {
-    let place = dice.below(words.len() as u32) as usize;
+    let place = place_among(dice, words.len());
     if dice.below(3) > 0 && place < words.len() {
         words.remove(place);
     }
