@@ -4,8 +4,8 @@
 #     bash examples/a-roof/many.sh [PATH-OF-OFFICE [SECONDS]]
 #
 # for a minute, or for so many seconds. Then it asks for each of its pages, and tells how many readings came in each
-# whole slot, what the office told on standard error, how long callers and pages took, and what memory and processor time
-# the office took. Without a path it proves and builds the program first. It works in a new folder of its own, which it
+# whole slot, what the office told on standard error, how long callers and pages took, what memory and processor time
+# the office took, and what the machine did meanwhile. Without a path it proves and builds the program first. It works in a new folder of its own, which it
 # leaves, and needs curl, Python 3 and the ports 15100 to 15163 and 18080. Where it can't go on it says why, and ends with
 # status 1.
 set -Eeuo pipefail
@@ -78,6 +78,39 @@ usage() {
 }
 
 tell "it listens: $(usage | paste -sd ' ')"
+
+# What the machine itself did meanwhile, since what is late may be so for that.
+python3 - "$seconds" << 'PYTHON' > machine &
+import os
+import sys
+import time
+
+
+def stolen():
+    with open("/proc/stat") as stat:
+        return int(stat.readline().split()[8]) / os.sysconf("SC_CLK_TCK")
+
+
+before, end = stolen(), time.monotonic() + int(sys.argv[1])
+woken, synced = [], []
+probe = os.open("probe", os.O_CREAT | os.O_WRONLY)
+while time.monotonic() < end:
+    begin = time.monotonic()
+    time.sleep(0.1)
+    slept = time.monotonic()
+    os.pwrite(probe, b"a page", 0)
+    os.fsync(probe)
+    woken.append(slept - begin - 0.1)
+    synced.append(time.monotonic() - slept)
+woken.sort()
+synced.sort()
+last = len(woken) * 99 // 100
+print(f"the machine: {stolen() - before:.1f} s of its processors went to others; of {len(woken)} sleeps 99 of 100 ended",
+      f"within {woken[last] * 1000:.1f} ms of their end, all within {woken[-1] * 1000:.1f}, and of as many syncs of",
+      f"another file 99 of 100 took {synced[last] * 1000:.1f} ms at most, and all {synced[-1] * 1000:.1f}")
+PYTHON
+machine=$!
+players+=("$machine")
 python3 - "$seconds" << 'PYTHON'
 import asyncio
 import sys
@@ -116,6 +149,8 @@ taken.sort()
 print(f"{len(taken)} requests, {failed} not answered by 200: half within {taken[len(taken) // 2] * 1000:.1f} ms,",
       f"99 of 100 within {taken[len(taken) * 99 // 100] * 1000:.1f}, all within {taken[-1] * 1000:.1f}")
 PYTHON
+wait "$machine"
+cat machine
 for page in / /points /metrics /devices/0; do
     curl --silent --output page --write-out "$page: %{size_download} bytes within %{time_total} s\n" \
         "http://127.0.0.1:18080$page"
