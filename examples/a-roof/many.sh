@@ -5,9 +5,9 @@
 #
 # for a minute, or for so many seconds. Then it asks for each of its pages, and tells how many readings came in each
 # whole slot, what the office told on standard error, how long callers and pages took, what memory and processor time
-# the office took, and what the machine did meanwhile. Without a path it proves and builds the program first. It works in a new folder of its own, which it
-# leaves, and needs curl, Python 3 and the ports 15100 to 15163 and 18080. Where it can't go on it says why, and ends with
-# status 1.
+# the office took, and what the machine did meanwhile. Without a path it proves and builds the program first. It works
+# in a new folder of its own, which it leaves, and needs curl, Python 3 and the ports 15100 to 15163 and 18080. Where it
+# can't go on it says why, and ends with status 1.
 set -Eeuo pipefail
 . "$(dirname "$0")/shared.sh"
 needs python3 'which plays devices and callers'
