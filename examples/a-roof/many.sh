@@ -105,8 +105,8 @@ while time.monotonic() < end:
 woken.sort()
 synced.sort()
 last = len(woken) * 99 // 100
-print(f"the machine: {stolen() - before:.1f} s of its processors went to others; of {len(woken)} sleeps 99 of 100 ended",
-      f"within {woken[last] * 1000:.1f} ms of their end, all within {woken[-1] * 1000:.1f}, and of as many syncs of",
+print(f"the machine: {stolen() - before:.1f} s of its processors went to others; of {len(woken)} sleeps 99 of 100",
+      f"ended within {woken[last] * 1000:.1f} ms of their end, all within {woken[-1] * 1000:.1f}, and of as many syncs of",
       f"another file 99 of 100 took {synced[last] * 1000:.1f} ms at most, and all {synced[-1] * 1000:.1f}")
 PYTHON
 machine=$!
