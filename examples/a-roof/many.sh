@@ -106,8 +106,8 @@ woken.sort()
 synced.sort()
 last = len(woken) * 99 // 100
 print(f"the machine: {stolen() - before:.1f} s of its processors went to others; of {len(woken)} sleeps 99 of 100",
-      f"ended within {woken[last] * 1000:.1f} ms of their end, all within {woken[-1] * 1000:.1f}, and of as many syncs of",
-      f"another file 99 of 100 took {synced[last] * 1000:.1f} ms at most, and all {synced[-1] * 1000:.1f}")
+      f"ended within {woken[last] * 1000:.1f} ms of their end, all within {woken[-1] * 1000:.1f}, and of as many syncs",
+      f"of another file 99 of 100 took {synced[last] * 1000:.1f} ms at most, and all {synced[-1] * 1000:.1f}")
 PYTHON
 machine=$!
 players+=("$machine")
