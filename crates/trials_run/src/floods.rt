@@ -1,4 +1,4 @@
-//! Lines that send what nobody asked for, or take no bytes.
+//! Lines that send what nobody asked for or what was answered, or take no bytes.
 use crate::scenes::{Left, Look, assert_readings, assert_told, look_behind_new, world};
 use crate::wire::{Spell, Trouble};
 use crate::world::World;
@@ -62,6 +62,28 @@ fn flooding(trial: &Trial<'_>) -> Result<(), OfficeError> {
 #[test]
 fn a_line_that_floods_while_it_rests_is_cut(rt: HostRuntime) -> Result<(), Fail> {
     Ok(twice!(rt, flooding)?)
+}
+
+/// Each of its answers comes 8,000 times: these 88,000 bytes were asked for once, so it isn't cut.
+const REPEATING: Run = Run {
+    cellar: &[Spell {
+        trouble: Trouble::Repeating(8_000),
+        unit: None,
+        from: 0,
+        to: u64::MAX,
+    }],
+    told: "1970-01-01T00:08:22Z office: line roof is up\n1970-01-01T00:08:22Z office: line cellar is up\n",
+    begun: &[0],
+    read: 352_000,
+};
+
+fn repeating(trial: &Trial<'_>) -> Result<(), OfficeError> {
+    assert_run(trial, &REPEATING)
+}
+
+#[test]
+fn a_line_that_repeats_what_it_answered_is_not_cut(rt: HostRuntime) -> Result<(), Fail> {
+    Ok(twice!(rt, repeating)?)
 }
 
 /// From slot 101 on it takes no bytes.

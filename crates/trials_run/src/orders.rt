@@ -7,7 +7,7 @@ use crate::wire::{Spell, Trouble, Wire};
 use crate::world::World;
 use office_core::OfficeError;
 use office_plays::refusing::Refusing;
-use office_plays::steps::Happens::{self, Order};
+use office_plays::steps::Happens::{self, Load, Order};
 use office_plays::steps::push;
 use poll_book::{MemKeeper, StoreFault};
 use std::alloc::Global;
@@ -86,6 +86,27 @@ fn ordered(trial: &Trial<'_>) -> Result<(), OfficeError> {
 #[test]
 fn an_order_is_sent_at_once(rt: HostRuntime) -> Result<(), Fail> {
     Ok(twice!(rt, ordered)?)
+}
+
+/// A register of the device in the cellar that an order sets.
+const CELLAR_LIMIT: &[Happens] = &[Load("l2", "top,m2,holding,40,uint16,,,setting,\n")];
+
+const ORDER_BELOW: &str =
+    "PUT /callers/ann/orders/k1 HTTP/1.1\r\nContent-Length: 26\r\n\r\n{\"point\":\"top\",\"value\":80}";
+
+/// The same in the cellar, whose line is the second one of the site.
+fn ordered_below(trial: &Trial<'_>) -> Result<(), OfficeError> {
+    let speeches = [
+        Speech::at_once(5_000, ORDER_BELOW),
+        Speech::at_once(5_001, ASKED),
+    ];
+    let world = world(trial.alloc(), ENDS, &[], &speeches)?;
+    look_behind_new(trial, CELLAR_LIMIT, world, &OrderDone)
+}
+
+#[test]
+fn an_order_is_sent_over_the_line_of_its_device(rt: HostRuntime) -> Result<(), Fail> {
+    Ok(twice!(rt, ordered_below)?)
 }
 
 /// Devices without a register that can be set.

@@ -32,6 +32,8 @@ pub(crate) enum Trouble {
     Nowhere,
     /// The line sends what nobody asked for, as fast as it is read.
     Flooding,
+    /// The line sends each reply so many times.
+    Repeating(usize),
     /// The line takes no bytes.
     Stuck,
 }
@@ -46,16 +48,6 @@ pub(crate) struct Spell {
 }
 
 impl Spell {
-    /// All of the line, from the beginning on.
-    pub const fn always(trouble: Trouble) -> Spell {
-        Spell {
-            trouble,
-            unit: None,
-            from: 0,
-            to: u64::MAX,
-        }
-    }
-
     fn is_at(&self, now: u64) -> bool {
         self.from <= now && now < self.to
     }
@@ -170,6 +162,19 @@ impl Wire {
         Some(delay)
     }
 
+    /// How many times a reply comes.
+    fn times(&self, now: u64) -> usize {
+        let mut times = 1;
+        for spell in self.spells {
+            if let Trouble::Repeating(count) = spell.trouble
+                && spell.is_at(now)
+            {
+                times = count;
+            }
+        }
+        times
+    }
+
     /// The first moment after this one at which it is to be looked at.
     pub fn next(&self, now: u64) -> u64 {
         let mut first = u64::MAX;
@@ -219,10 +224,13 @@ impl Wire {
 
     /// The replies that are due come.
     fn come_due(&mut self, now: u64) -> Result<(), AllocError> {
+        let times = self.times(now);
         for reply in &self.later {
             if reply.due <= now {
-                self.replies
-                    .extend_from_slice(reply.frame.encode().as_bytes())?;
+                let bytes = reply.frame.encode();
+                for _ in 0..times {
+                    self.replies.extend_from_slice(bytes.as_bytes())?;
+                }
             }
         }
         self.later.retain(|reply| now < reply.due);
