@@ -214,8 +214,11 @@ fn a_page_that_the_store_refuses_breaks_off_and_is_told(rt: HostRuntime) -> Resu
 const SITE: &str =
     "[[line]]\nname = \"roof\"\naddress = \"127.0.0.1:502\"\n[[device]]\nname = \"a\"\nline = \"roof\"\nunit = 1\n[[device]]\nname = \"b\"\nline = \"roof\"\nunit = 2\n[[device]]\nname = \"c\"\nline = \"roof\"\nunit = 3\n";
 
+const THREE: &str =
+    "[[unit]]\nid = 1\nholding_start = 41\nholding = [0]\n[[unit]]\nid = 2\nholding_start = 41\nholding = [0]\n[[unit]]\nid = 3\nholding_start = 41\nholding = [0]\n";
+
 const DEVICES: Behind = Behind {
-    image: "[[unit]]\nid = 1\nholding_start = 41\nholding = [0]\n[[unit]]\nid = 2\nholding_start = 41\nholding = [0]\n[[unit]]\nid = 3\nholding_start = 41\nholding = [0]\n",
+    image: THREE,
     spells: &[],
 };
 
@@ -275,4 +278,33 @@ fn refused_as_it_is_down(trial: &Trial<'_>) -> Result<(), OfficeError> {
 #[test]
 fn a_line_is_up_though_the_store_refuses_its_answer(rt: HostRuntime) -> Result<(), Fail> {
     Ok(twice!(rt, refused_as_it_is_down)?)
+}
+
+/// The first device answers nothing in slot 100.
+const FIRST_IS_SILENT: Behind = Behind {
+    image: THREE,
+    spells: &[Spell {
+        trouble: Trouble::Silent,
+        unit: Some(1),
+        from: 0,
+        to: 2_500,
+    }],
+};
+
+const BACK_THOUGH_REFUSED: AllTold = AllTold(
+    "1970-01-01T00:08:22Z office: line roof is up\n1970-01-01T00:08:24Z office: line roof polled slot 100: asked 3 recorded 2 excepted 0 refused 0 in 2000 ms\n1970-01-01T00:08:24Z office: device a of line roof is silent\n1970-01-01T00:08:25Z office: device a of line roof answers again\n1970-01-01T00:08:25Z office: the store refuses: full\n1970-01-01T00:08:26Z office: line roof polled slot 101: asked 1 recorded 1 excepted 0 refused 0 in 0 ms\n1970-01-01T00:08:26Z office: the store takes what comes again\n",
+);
+
+/// The first answer of a device that was told to be silent is refused: the device answers again.
+fn refused_as_it_is_silent(trial: &Trial<'_>) -> Result<(), OfficeError> {
+    let alloc = trial.alloc();
+    let keeper = Refusing::changes(alloc, 6, 7, StoreFault::Full);
+    let office = office_over(alloc, keeper, SITE, POINTS)?;
+    let world = world_of(alloc, 6_500, &[FIRST_IS_SILENT], &[])?;
+    look_behind(trial, office, world, &BACK_THOUGH_REFUSED)
+}
+
+#[test]
+fn a_device_answers_again_though_the_store_refuses_its_answer(rt: HostRuntime) -> Result<(), Fail> {
+    Ok(twice!(rt, refused_as_it_is_silent)?)
 }
