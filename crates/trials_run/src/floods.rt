@@ -86,6 +86,28 @@ fn a_line_that_repeats_what_it_answered_is_not_cut(rt: HostRuntime) -> Result<()
     Ok(twice!(rt, repeating)?)
 }
 
+/// Behind each of its answers come 4,000 frames that nobody asked for: 44,000 bytes of them are borne in a slot.
+const NOISY: Run = Run {
+    cellar: &[Spell {
+        trouble: Trouble::Noisy(4_000),
+        unit: None,
+        from: 0,
+        to: u64::MAX,
+    }],
+    told: "1970-01-01T00:08:22Z office: line roof is up\n1970-01-01T00:08:22Z office: line cellar is up\n",
+    begun: &[0],
+    read: 176_044,
+};
+
+fn noisy(trial: &Trial<'_>) -> Result<(), OfficeError> {
+    assert_run(trial, &NOISY)
+}
+
+#[test]
+fn what_nobody_asked_for_is_counted_anew_in_each_slot(rt: HostRuntime) -> Result<(), Fail> {
+    Ok(twice!(rt, noisy)?)
+}
+
 /// From slot 101 on it takes no bytes.
 const STUCK: Run = Run {
     cellar: &[Spell {
@@ -106,4 +128,34 @@ fn stuck(trial: &Trial<'_>) -> Result<(), OfficeError> {
 #[test]
 fn a_line_that_takes_no_bytes_is_cut(rt: HostRuntime) -> Result<(), Fail> {
     Ok(twice!(rt, stuck)?)
+}
+
+/// Twice it takes no bytes for a second and a half.
+const BRIEFLY_STUCK: Run = Run {
+    cellar: &[
+        Spell {
+            trouble: Trouble::Stuck,
+            unit: None,
+            from: 2_000,
+            to: 4_500,
+        },
+        Spell {
+            trouble: Trouble::Stuck,
+            unit: None,
+            from: 7_000,
+            to: 9_500,
+        },
+    ],
+    told: "1970-01-01T00:08:22Z office: line roof is up\n1970-01-01T00:08:22Z office: line cellar is up\n",
+    begun: &[0],
+    read: 44,
+};
+
+fn briefly_stuck(trial: &Trial<'_>) -> Result<(), OfficeError> {
+    assert_run(trial, &BRIEFLY_STUCK)
+}
+
+#[test]
+fn a_line_that_takes_no_bytes_for_a_while_is_not_cut(rt: HostRuntime) -> Result<(), Fail> {
+    Ok(twice!(rt, briefly_stuck)?)
 }

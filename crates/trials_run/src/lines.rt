@@ -141,6 +141,30 @@ fn a_refused_connection_is_tried_again(rt: HostRuntime) -> Result<(), Fail> {
     Ok(twice!(rt, refusing)?)
 }
 
+/// For eight seconds a connection that is begun doesn't come to stand: two are waited for, and then it is tried again.
+const UNREADY: Run = Run {
+    ends: 13_000,
+    cellar: &[Spell {
+        trouble: Trouble::Unready,
+        unit: None,
+        from: 0,
+        to: 8_000,
+    }],
+    begun: &[0, 3_000, 7_000],
+    told: "1970-01-01T00:08:22Z office: line roof is up\n1970-01-01T00:08:24Z office: line cellar is down: it can't be reached\n1970-01-01T00:08:24Z office: it took 30 ms to look up where line cellar is\n1970-01-01T00:08:30Z office: line cellar is up\n",
+    roof: &[(100, 0), (101, 3), (102, 8)],
+    readings: &[(102, 8)],
+};
+
+fn unready(trial: &Trial<'_>) -> Result<(), OfficeError> {
+    assert_run(trial, &UNREADY)
+}
+
+#[test]
+fn a_connection_that_does_not_come_to_stand_is_given_up(rt: HostRuntime) -> Result<(), Fail> {
+    Ok(twice!(rt, unready)?)
+}
+
 /// No connection can be begun to it for eight seconds.
 const NOWHERE: Run = Run {
     ends: 18_000,

@@ -30,10 +30,14 @@ pub(crate) enum Trouble {
     Moved,
     /// None can be begun.
     Nowhere,
+    /// One that is begun comes neither to stand nor to an end.
+    Unready,
     /// The line sends what nobody asked for, as fast as it is read.
     Flooding,
     /// The line sends each reply so many times.
     Repeating(usize),
+    /// The line sends so many frames that nobody asked for behind its replies.
+    Noisy(usize),
     /// The line takes no bytes.
     Stuck,
 }
@@ -111,6 +115,14 @@ fn busy(query: &Frame) -> Option<Frame> {
     })
 }
 
+/// Adds bytes so many times.
+fn add(all: &mut Vec<u8>, bytes: &[u8], times: usize) -> Result<(), AllocError> {
+    for _ in 0..times {
+        all.extend_from_slice(bytes)?;
+    }
+    Ok(())
+}
+
 /// The queries that bytes complete.
 fn queries(reader: &mut FrameReader, bytes: &[u8]) -> Result<Vec<Frame>, AllocError> {
     Ok(reader.feed(bytes)?.frames)
@@ -162,14 +174,14 @@ impl Wire {
         Some(delay)
     }
 
-    /// How many times a reply comes.
-    fn times(&self, now: u64) -> usize {
-        let mut times = 1;
+    /// How many times a reply comes, and how many frames behind it that nobody asked for.
+    fn times(&self, now: u64) -> (usize, usize) {
+        let mut times = (1, 0);
         for spell in self.spells {
-            if let Trouble::Repeating(count) = spell.trouble
-                && spell.is_at(now)
-            {
-                times = count;
+            match spell.trouble {
+                Trouble::Repeating(count) if spell.is_at(now) => times.0 = count,
+                Trouble::Noisy(count) if spell.is_at(now) => times.1 = count,
+                _ => {}
             }
         }
         times
@@ -214,6 +226,9 @@ impl Wire {
     }
 
     pub fn connected(&self, now: u64) -> Connected {
+        if self.has(Trouble::Unready, now) {
+            return Connected::NotYet;
+        }
         let is_lost = self.looked_up.is_empty() && self.has(Trouble::Moved, now);
         if is_lost || self.has(Trouble::Away, now) {
             Connected::Failed
@@ -224,20 +239,16 @@ impl Wire {
 
     /// The replies that are due come.
     fn come_due(&mut self, now: u64) -> Result<(), AllocError> {
-        let times = self.times(now);
+        let (times, noises) = self.times(now);
         for reply in &self.later {
             if reply.due <= now {
-                let bytes = reply.frame.encode();
-                for _ in 0..times {
-                    self.replies.extend_from_slice(bytes.as_bytes())?;
-                }
+                add(&mut self.replies, reply.frame.encode().as_bytes(), times)?;
+                add(&mut self.replies, &NOISE, noises)?;
             }
         }
         self.later.retain(|reply| now < reply.due);
         if self.replies.is_empty() && self.has(Trouble::Flooding, now) {
-            for _ in 0..20 {
-                self.replies.extend_from_slice(&NOISE)?;
-            }
+            add(&mut self.replies, &NOISE, 20)?;
         }
         Ok(())
     }
