@@ -12,7 +12,7 @@ use std::test::Fail;
 use telling::{Trial, twice};
 
 /// The counter had 2 in slot 103, in which the clock was five seconds ahead.
-const SOON: &[Happens] = &[
+pub(crate) const SOON: &[Happens] = &[
     Open("roof"),
     Ask(1, "m1", 103, (3, 41, 1)),
     Arrive(1, 0, 17, &[3, 2, 0, 2]),

@@ -346,12 +346,12 @@ const ALL_BUT_FAR: &[Spell] = &[
     },
 ];
 
-/// Each dead device costs a time-out, so that the last one has no turn in two slots. Then
-/// it has the first, since the others were silent.
+/// Each dead device costs a time-out, so that the last one has no turn in two slots. Then it has the first, since the
+/// others were silent, and of these the third is next in slot 103, behind the second, which fell silent last.
 const THREE_DEAD: Run = Run {
-    ends: 12_500,
+    ends: 16_500,
     spells: ALL_BUT_FAR,
-    told: "1970-01-01T00:08:22Z office: line roof is up\n1970-01-01T00:08:25Z office: line roof is down: nothing was answered in time\n1970-01-01T00:08:32Z office: line roof is up\n",
+    told: "1970-01-01T00:08:22Z office: line roof is up\n1970-01-01T00:08:25Z office: line roof is down: nothing was answered in time\n1970-01-01T00:08:32Z office: line roof is up\n1970-01-01T00:08:35Z office: the round of line roof in slot 102 was cut\n1970-01-01T00:08:35Z office: device near of line roof is silent\n1970-01-01T00:08:35Z office: device two of line roof is silent\n1970-01-01T00:08:35Z office: device three of line roof is silent\n",
     asked: &[
         (0, 1, 1),
         (2000, 2, 1),
@@ -360,9 +360,12 @@ const THREE_DEAD: Run = Run {
         (10000, 4, 1),
         (10000, 1, 1),
         (12000, 2, 1),
+        (14000, 4, 1),
+        (14000, 3, 1),
+        (16000, 1, 1),
     ],
     near: &[],
-    far: &[(102, 10)],
+    far: &[(102, 10), (103, 14)],
 };
 
 fn three_dead(trial: &Trial<'_>) -> Result<(), OfficeError> {

@@ -9,7 +9,7 @@ use office_core::OfficeError;
 use office_plays::refusing::Refusing;
 use office_plays::steps::Happens::{self, Load, Order};
 use office_plays::steps::push;
-use poll_book::{MemKeeper, StoreFault};
+use poll_book::{Keeper, MemKeeper, StoreFault};
 use std::alloc::Global;
 use std::test::Fail;
 use telling::{Trial, twice};
@@ -267,8 +267,8 @@ fn an_order_is_sent_while_a_round_is_under_way(rt: HostRuntime) -> Result<(), Fa
 /// What the roof was asked, and when.
 pub(crate) struct AskedAt(pub &'static [(u64, u8)]);
 
-impl Look<MemKeeper> for AskedAt {
-    fn look(&self, trial: &Trial<'_>, left: &mut Left<MemKeeper>) -> Result<(), OfficeError> {
+impl<K: Keeper> Look<K> for AskedAt {
+    fn look(&self, trial: &Trial<'_>, left: &mut Left<K>) -> Result<(), OfficeError> {
         let asked = left.world.wires.first().map(|wire| wire.asked.as_slice());
         trial.told(&"asked", &asked, &Some(self.0));
         Ok(())
@@ -360,4 +360,44 @@ fn anew(trial: &Trial<'_>) -> Result<(), OfficeError> {
 #[test]
 fn an_order_has_its_time_though_a_slot_begins(rt: HostRuntime) -> Result<(), Fail> {
     Ok(twice!(rt, anew)?)
+}
+
+/// The roof takes a second from slot 101 on, and is away for a moment.
+const ROOF_LATE_AND_LOST: [Behind; 2] = [
+    Behind {
+        image: IMAGE,
+        spells: &[
+            Spell {
+                trouble: Trouble::Late(1_000),
+                unit: None,
+                from: 3_000,
+                to: u64::MAX,
+            },
+            Spell {
+                trouble: Trouble::Away,
+                unit: None,
+                from: 5_500,
+                to: 5_600,
+            },
+        ],
+    },
+    Behind {
+        image: IMAGE,
+        spells: &[],
+    },
+];
+
+/// The order is sent again as soon as there is a connection.
+const SENT_ANEW: AskedAt = AskedAt(&[(0, 17), (3_000, 17), (5_000, 17), (6_500, 17)]);
+
+/// A connection is lost over which an order was sent.
+fn lost(trial: &Trial<'_>) -> Result<(), OfficeError> {
+    let speeches = [Speech::at_once(5_000, ORDER)];
+    let world = world_of(trial.alloc(), ENDS, &ROOF_LATE_AND_LOST, &speeches)?;
+    look_behind_new(trial, &[], world, &SENT_ANEW)
+}
+
+#[test]
+fn an_order_that_was_lost_is_sent_over_the_next_connection(rt: HostRuntime) -> Result<(), Fail> {
+    Ok(twice!(rt, lost)?)
 }

@@ -1,12 +1,14 @@
 //! Stores that refuse.
+use crate::ahead::SOON;
 use crate::busy;
 use crate::guest::Speech;
-use crate::orders::{ORDER, WAITING};
+use crate::orders::{AskedAt, ORDER, WAITING};
 use crate::scenes::{
     AllTold, Behind, IMAGE, Left, Look, assert_readings, assert_told, keep_up_in, look_behind,
     office_over, world, world_of,
 };
 use crate::wire::{Spell, Trouble};
+use crate::world::Setting;
 use office_core::{Office, OfficeError};
 use office_plays::refusing::Refusing;
 use office_plays::steps::Happens::{self, Load};
@@ -307,4 +309,51 @@ fn refused_as_it_is_silent(trial: &Trial<'_>) -> Result<(), OfficeError> {
 #[test]
 fn a_device_answers_again_though_the_store_refuses_its_answer(rt: HostRuntime) -> Result<(), Fail> {
     Ok(twice!(rt, refused_as_it_is_silent)?)
+}
+
+/// The roof, which waits for slot 103, is sent the order once more, a second later.
+const SENT_AGAIN: AskedAt = AskedAt(&[(5_000, 17), (6_000, 17)]);
+
+/// What a device answers to an order is refused while its line waits for a slot to come.
+fn refused_as_it_waits(trial: &Trial<'_>) -> Result<(), OfficeError> {
+    let alloc = trial.alloc();
+    let keeper = Refusing::changes(alloc, 8, 9, StoreFault::Full);
+    let world = world(alloc, 7_500, &[], &[Speech::at_once(5_000, ORDER)])?;
+    let mut left = keep_up_in(alloc, keeper, SOON, world)?;
+    SENT_AGAIN.look(trial, &mut left)
+}
+
+#[test]
+fn an_order_is_sent_again_a_second_after_its_answer_was_refused(
+    rt: HostRuntime,
+) -> Result<(), Fail> {
+    Ok(twice!(rt, refused_as_it_waits)?)
+}
+
+/// Before slot 101 is begun again the clock is set back by as much.
+const SET_BACK: &[Setting] = &[Setting {
+    at: 3_500,
+    ahead: 0,
+    back: 5_000,
+}];
+
+/// What was answered in slot 101 is refused: it is begun as the clock comes to it once more.
+fn refused_before_the_clock_is_set_back(trial: &Trial<'_>) -> Result<(), OfficeError> {
+    let alloc = trial.alloc();
+    let keeper = Refusing::changes(alloc, 5, 7, StoreFault::Full);
+    let world = world(alloc, 14_000, &[], &[])?.with_settings(SET_BACK);
+    let mut left = keep_up_in(alloc, keeper, &[], world)?;
+    assert_readings(
+        trial,
+        &mut left.office,
+        "e",
+        &[(100, 0), (101, 8), (102, 13)],
+    )
+}
+
+#[test]
+fn a_slot_that_was_refused_is_begun_though_the_clock_was_set_back(
+    rt: HostRuntime,
+) -> Result<(), Fail> {
+    Ok(twice!(rt, refused_before_the_clock_is_set_back)?)
 }
