@@ -1,4 +1,5 @@
 //! Orders: one in the middle of a slot, several that wait, and requests that are no new ones.
+use crate::ahead::SOON;
 use crate::guest::Speech;
 use crate::scenes::{
     AllTold, Behind, IMAGE, Left, Look, keep_up_in, look_behind_new, world, world_of,
@@ -388,13 +389,13 @@ const ROOF_LATE_AND_LOST: [Behind; 2] = [
 ];
 
 /// The order is sent again as soon as there is a connection.
-const SENT_ANEW: AskedAt = AskedAt(&[(0, 17), (3_000, 17), (5_000, 17), (6_500, 17)]);
+const SENT_ANEW: AskedAt = AskedAt(&[(5_000, 17), (6_500, 17)]);
 
-/// A connection is lost over which an order was sent.
+/// A connection is lost over which an order was sent, while the line waits for slot 103.
 fn lost(trial: &Trial<'_>) -> Result<(), OfficeError> {
     let speeches = [Speech::at_once(5_000, ORDER)];
     let world = world_of(trial.alloc(), ENDS, &ROOF_LATE_AND_LOST, &speeches)?;
-    look_behind_new(trial, &[], world, &SENT_ANEW)
+    look_behind_new(trial, SOON, world, &SENT_ANEW)
 }
 
 #[test]
