@@ -1,10 +1,12 @@
 //! Lines that are polled slot by slot, and one whose device is silent or away.
 use crate::scenes::{
-    AllTold, Behind, IMAGE, Left, Look, assert_readings, assert_told, look_behind_new, world,
-    world_of,
+    AllTold, Behind, IMAGE, Left, Look, assert_readings, assert_told, look_behind, look_behind_new,
+    office_over, world, world_of,
 };
 use crate::wire::{Spell, Trouble, Wire};
 use office_core::OfficeError;
+use office_plays::builders::TWO;
+use office_plays::steps::Happens::{self, Load};
 use poll_book::MemKeeper;
 use std::test::Fail;
 use telling::{Trial, twice};
@@ -335,4 +337,31 @@ fn silent_and_away(trial: &Trial<'_>) -> Result<(), OfficeError> {
 #[test]
 fn a_line_that_answered_nothing_is_up_once_it_answers(rt: HostRuntime) -> Result<(), Fail> {
     Ok(twice!(rt, silent_and_away)?)
+}
+
+/// The device on the roof alone has a point.
+const ROOF_ALONE: &[Happens] = &[Load("l1", "e,m1,holding,41,uint16,,,counter,\n")];
+
+/// What is told where the cellar is away for half a second.
+const STANDS: AllTold = AllTold(
+    "1970-01-01T00:08:22Z office: line roof is up\n1970-01-01T00:08:22Z office: line cellar is up\n1970-01-01T00:08:22Z office: line roof polled slot 100: asked 1 recorded 1 excepted 0 refused 0 in 0 ms\n1970-01-01T00:08:25Z office: line roof polled slot 101: asked 1 recorded 1 excepted 0 refused 0 in 0 ms\n1970-01-01T00:08:26Z office: line cellar is down: the connection ended\n1970-01-01T00:08:27Z office: line cellar is up\n",
+);
+
+/// A line is lost that is asked nothing that it could answer.
+fn asked_nothing(trial: &Trial<'_>) -> Result<(), OfficeError> {
+    let alloc = trial.alloc();
+    let office = office_over(alloc, MemKeeper::new(alloc), TWO, ROOF_ALONE)?;
+    let away = &[Spell {
+        trouble: Trouble::Away,
+        unit: None,
+        from: 4_000,
+        to: 4_500,
+    }];
+    let world = world(alloc, 7_500, away, &[])?;
+    look_behind(trial, office, world, &STANDS)
+}
+
+#[test]
+fn a_line_that_is_asked_nothing_is_up_once_it_stands(rt: HostRuntime) -> Result<(), Fail> {
+    Ok(twice!(rt, asked_nothing)?)
 }
