@@ -1,4 +1,4 @@
-//! Lines that send what nobody asked for or what was answered, or take no bytes.
+//! Lines that send what nobody asked for, repeat what they answered, or take no bytes.
 use crate::scenes::{Left, Look, assert_readings, assert_told, look_behind_new, world};
 use crate::wire::{Spell, Trouble};
 use crate::world::World;
@@ -130,7 +130,7 @@ fn a_line_that_takes_no_bytes_is_cut(rt: HostRuntime) -> Result<(), Fail> {
     Ok(twice!(rt, stuck)?)
 }
 
-/// Twice it takes no bytes for a second and a half.
+/// Twice it takes no bytes until a second and a half of a slot are over.
 const BRIEFLY_STUCK: Run = Run {
     cellar: &[
         Spell {

@@ -143,7 +143,7 @@ fn a_refused_connection_is_tried_again(rt: HostRuntime) -> Result<(), Fail> {
     Ok(twice!(rt, refusing)?)
 }
 
-/// For eight seconds a connection that is begun doesn't come to stand: two are waited for, and then it is tried again.
+/// For eight seconds a connection that is begun doesn't come to stand: it is given up after two, and tried again later.
 const UNREADY: Run = Run {
     ends: 13_000,
     cellar: &[Spell {

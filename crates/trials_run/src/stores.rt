@@ -216,6 +216,7 @@ fn a_page_that_the_store_refuses_breaks_off_and_is_told(rt: HostRuntime) -> Resu
 const SITE: &str =
     "[[line]]\nname = \"roof\"\naddress = \"127.0.0.1:502\"\n[[device]]\nname = \"a\"\nline = \"roof\"\nunit = 1\n[[device]]\nname = \"b\"\nline = \"roof\"\nunit = 2\n[[device]]\nname = \"c\"\nline = \"roof\"\nunit = 3\n";
 
+/// Each of the three counts seconds.
 const THREE: &str =
     "[[unit]]\nid = 1\nholding_start = 41\nholding = [0]\n[[unit]]\nid = 2\nholding_start = 41\nholding = [0]\n[[unit]]\nid = 3\nholding_start = 41\nholding = [0]\n";
 
@@ -330,7 +331,7 @@ fn an_order_is_sent_again_a_second_after_its_answer_was_refused(
     Ok(twice!(rt, refused_as_it_waits)?)
 }
 
-/// Before slot 101 is begun again the clock is set back by as much.
+/// Before slot 101 is begun again the clock is set back by the length of a slot.
 const SET_BACK: &[Setting] = &[Setting {
     at: 3_500,
     ahead: 0,
