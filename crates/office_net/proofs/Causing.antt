@@ -5,7 +5,10 @@ use Rattle.poll_book.specs.declared.keeper.Neighbours.{Ghosts}
 use Rattle.mb_mbap.specs.declared.fault.FrameFault.{FrameFault}
 use Rattle.office_core.specs.declared.office.Office.{Office}
 use Rattle.office_core.specs.History.{History}
-use Rattle.office_core.specs.Offices.{CauseFrom, keeper_of}
+use Rattle.office_core.specs.declared.error.OfficeError.{OfficeError}
+use Rattle.office_core.specs.declared.error.OfficeError.TheVariants as error
+use Rattle.office_core.specs.Errors.{IsOfStore}
+use Rattle.office_core.specs.Offices.{CauseFrom, Counts, keeper_of}
 use Rattle.office_net.specs.declared.fault.PollFault.{PollFault}
 use Rattle.office_net.specs.declared.fault.PollFault.TheVariants as fault
 use Rattle.office_net.specs.Faults.{ClosedBy, HasCause, IsCaused, IsOfStream}
@@ -16,6 +19,16 @@ pub cause_since : {K : Type 0} {g : Ghosts K} (old mid new last : Office K g) (f
 cause_since old mid new last f before after (inl memory) = inl memory
 cause_since old mid new last f before after (inr (may, inl rose)) = inr (may, inl (omega (arith, before, after, rose)))
 cause_since old mid new last f before after (inr (may, inr full)) = inr (may, inr (omega (arith, before, after, full)))
+
+-- and where the store refused, no other refusal comes of it
+pub of_store_since : {K : Type 0} {g : Ghosts K} (old mid new : Office K g) (e : OfficeError) → g.refused (keeper_of old) ≤ g.refused (keeper_of mid)
+    → IsOfStore (CauseFrom mid new) e → IsOfStore (CauseFrom old new) e
+of_store_since old mid new (error.Store f) before cause = cause_since old mid new new f before (omega arith) cause
+of_store_since old mid new _ before cause = absurd cause
+
+-- no refusal of the keeper is forgotten by two calls
+pub counts_then : {K : Type 0} {g : Ghosts K} (old mid new : Office K g) → Counts old mid → Counts mid new → Counts old new
+counts_then old mid new first then = (omega (arith, first.0, then.0), λ clean. first.1 (then.1 clean))
 
 -- a fault's cause, where what causes it causes it in all
 pub caused_since : (line line' : Type 0) (store store' : StoreFault → Type 0) (e : PollFault) → (line → line') → ((f : StoreFault) → store f → store' f) → IsCaused line store e → IsCaused line' store' e

@@ -1,6 +1,6 @@
 -- Queries that calls make, call behind call.
 use Rattle.std.proofs.Common.{◌≡◌, ◌⊎◌, inl, inr, Bool, true, false, ℕ, List, [], ◌∷◌, Option, Some, None, Result, Ok, Err, refl, sym, subst}
-use Rattle.std.specs.Prelude.{IsErr, MatchResult}
+use Rattle.std.specs.Prelude.{IfErr, IfOk, IsErr, MatchResult, is_some}
 use Rattle.mb_mbap.specs.declared.frame.Frame.{Frame}
 use Rattle.poll_book.specs.declared.keeper.Neighbours.{Ghosts}
 use Rattle.poll_book.specs.Tables.{Within}
@@ -9,6 +9,8 @@ use Rattle.office_core.specs.declared.error.OfficeError.{OfficeError}
 use Rattle.office_core.specs.declared.event.Arrival.{Arrival}
 use Rattle.office_core.specs.declared.event.EventAnswer.{EventAnswer}
 use Rattle.office_core.specs.declared.event.EventAnswer.TheVariants.{Arrived, Query, Refused}
+use Rattle.office_core.specs.Answers.{answer_of}
+use Rattle.office_core.specs.Errors.{is_of_store}
 use Rattle.office_core.specs.Following.{Fails, Follows, Happens, MayLeave, Went}
 use Rattle.office_core.specs.History.{Happening, History, tables}
 use Rattle.office_core.specs.Leavings.{LeftAfter}
@@ -20,8 +22,8 @@ use Rattle.office_core.proofs.Following.{left_more, left_refused}
 use Rattle.office_core.proofs.Proceeding.{along_then, still}
 use Rattle.office_net.specs.Counting.{Learnt}
 use Rattle.office_net.specs.Kinds.{Hears, Turn}
-use Rattle.office_net.specs.Moves.{turn_of}
-use Rattle.office_net.specs.Querying.{Answered, CameTo, Makes, Misses, Tries}
+use Rattle.office_net.specs.Moves.{is_due, turn_of}
+use Rattle.office_net.specs.Querying.{Answered, CameTo, IsRefusal, Makes, Misses, Tries}
 use Rattle.office_net.specs.Turning.{TurnFails, Turns}
 use Rattle.office_net.specs.declared.job.LineJob.{LineJob}
 use Rattle.office_net.proofs.Proceeding.{turn_is}
@@ -199,6 +201,41 @@ module _ {K : Type 0} {g : Ghosts K} where
           )
         ],
   )
+
+-- why nothing happened
+module _ {K : Type 0} {g : Ghosts K} (kind : History → Happening → Type 0) (old new : Office K g) where
+  by_answer : (event : History → Happening) (e : OfficeError) (now : History) → Follows old now → kind now (event now)
+      → Fails (Follows old) (Follows new) (MayLeave old) (MayLeave new) event (Refused e) → (refused : Bool) → is_of_store e ≡ refused
+      → (is_of_store e ≡ true) ⊎ ((some : Happening) × kind now some × (answer_of now some ≡ Refused e))
+  by_answer event e now follows is fails true store = inl store
+  by_answer event e now follows is fails false store = inr (event now, is, sym (fails.answered store now follows))
+
+  -- of a call of which an event happened, or was refused
+  pub refusal_of : {X : Type 0} (event : History → Happening) (tell : X → EventAnswer) (told : Result X OfficeError)
+      → ((now : History) → kind now (event now)) → (g.is_clean (keeper_of new) → Went old new event tell told) → IfErr told (IsRefusal kind old new)
+  refusal_of event tell (Ok x) is went = tt
+  refusal_of event tell (Err e) is went = λ clean now follows. by_answer event e now follows (is now) (went clean) (is_of_store e) refl
+
+-- whether a job at its turn made a query
+pub turn_due : {K : Type 0} {g : Ghosts K} (old new : Office K g) (conn slot : ℕ) (job : LineJob) (told : Result (Option Frame) OfficeError)
+    → MatchResult told
+    (Turns (Follows old) (Follows new) (MayLeave old) (MayLeave new) conn slot job) (TurnFails (Follows old) (Follows new) (MayLeave old) (MayLeave new) conn slot job)
+    → (now : History) → Follows old now → IfOk told (λ query. is_some query ≡ is_due slot now job)
+turn_due old new conn slot job (Ok None) turned now follows = sym (turned.0 now follows)
+turn_due old new conn slot job (Ok (Some query)) turned now follows = sym (turned.0 now follows)
+turn_due old new conn slot job (Err e) turned now follows = tt
+
+-- why it was refused
+pub turn_refusal : {K : Type 0} {g : Ghosts K} (old new : Office K g) (conn slot : ℕ) (job : LineJob) (told : Result (Option Frame) OfficeError)
+    → (g.is_clean (keeper_of new) → MatchResult told
+    (Turns (Follows old) (Follows new) (MayLeave old) (MayLeave new) conn slot job) (TurnFails (Follows old) (Follows new) (MayLeave old) (MayLeave new) conn slot job))
+    → IfErr told (IsRefusal (Turn conn slot job) old new)
+turn_refusal old new conn slot job (Ok query) turned = tt
+turn_refusal old new conn slot job (Err e) turned = λ clean now follows. elim (turned clean) as (λ _. (is_of_store e ≡ true)
+    ⊎ ((event : Happening) × Turn conn slot job now event × (answer_of now event ≡ Refused e))) [
+      | inl unasked ↦ inl unasked.1
+      | inr asked ↦ by_answer (Turn conn slot job) old new (λ some. turn_of conn slot some job) e now follows (turn_is conn slot now job (asked.0 now follows)) asked.1 (is_of_store e) refl
+    ]
 
 module _ {K : Type 0} {g : Ghosts K} (old new : Office K g) (conn : ℕ) (frame : Frame) where
   came_of : (e : OfficeError) (now : History) → Follows old now → (clean : g.is_clean (keeper_of new)) → Went old new (λ some. arriving some conn frame) Arrived (Err e)

@@ -5,8 +5,10 @@ use Rattle.poll_book.specs.declared.keeper.Neighbours.{Ghosts}
 use Rattle.poll_book.specs.Tables.{Within}
 use Rattle.office_core.specs.declared.office.Office.{Office}
 use Rattle.office_core.specs.declared.event.EventAnswer.{EventAnswer}
-use Rattle.office_core.specs.declared.event.EventAnswer.TheVariants.{Query}
+use Rattle.office_core.specs.declared.event.EventAnswer.TheVariants.{Query, Refused}
+use Rattle.office_core.specs.declared.error.OfficeError.{OfficeError}
 use Rattle.office_core.specs.Answers.{answer_of}
+use Rattle.office_core.specs.Errors.{is_of_store}
 use Rattle.office_core.specs.Following.{Follows, MayLeave}
 use Rattle.office_core.specs.History.{Happening, History, tables}
 use Rattle.office_core.specs.Leavings.{LeftAfter}
@@ -33,6 +35,12 @@ Misses {g = g} kind old new =
     × ((now : History) → Follows old now → Follows new now
     × (Within (MayLeave new) (MayLeave old)
     ⊎ ((event : Happening) × kind now event × Within (MayLeave new) (LeftAfter (MayLeave old) (tables now) (tables (event ∷ now)) true))))
+
+-- why none happened: the store refused to say whether one may, or one is answered by this refusal
+abbrev pub IsRefusal : {K : Type 0} {g : Ghosts K} → (History → Happening → Type 0) → Office K g → Office K g → OfficeError → Type 0
+IsRefusal {g = g} kind old new e =
+    g.is_clean (keeper_of new) → (now : History) → Follows old now
+    → (is_of_store e ≡ true) ⊎ ((event : Happening) × kind now event × (answer_of now event ≡ Refused e))
 
 -- what an event came to: where the store refused it nothing happened, and else it did, and this is its answer
 abbrev pub CameTo : {K : Type 0} {g : Ghosts K} → Office K g → Office K g → History → Happening → EventAnswer → Bool → Type 0

@@ -2,6 +2,8 @@
 ghost use Rattle.std.specs.Prelude.{◌≡◌, ◌<◌, ◌+◌, IfOk};
 ghost use Rattle.office_net.specs.Counting as counting;
 ghost use Rattle.office_net.specs.Counting.{IsLastCounted, Learnt};
+ghost use Rattle.office_core.specs.Errors.{IsOfStore};
+ghost use Rattle.office_core.specs.Offices.{AccountsFor};
 ghost use Rattle.office_core.specs.Proceeding.{GoesAlong, Nothing};
 
 use office_core::{Office, OfficeError};
@@ -15,6 +17,7 @@ fn is_counted_after<K: Keeper>(
 ) -> Result<bool, OfficeError>
     ensures value { IfOk result (λ is. Learnt office.old office.new (λ now. is ≡ counting.is_counted_after now point.now slot)) }
     ensures along { GoesAlong Nothing office.old office.new }
+    ensures accounts { AccountsFor IsOfStore office.old office.new result }
 {
     let value = office.value_after(point, slot)?;
     Ok(value.is_some())
@@ -38,6 +41,7 @@ pub fn last_counted<K: Keeper>(
 ) -> Result<Option<u32>, OfficeError>
     ensures value { IfOk result (λ last. Learnt office.old office.new (λ now. IsLastCounted now point.now after last)) }
     ensures along { GoesAlong Nothing office.old office.new }
+    ensures accounts { AccountsFor IsOfStore office.old office.new result }
 {
     let is_ahead = is_counted_after(office, point, after)?;
     if !is_ahead || after == u32::MAX {

@@ -1,14 +1,15 @@
 //! Calls between which others may have the office: what they promise holds of every history that it follows.
-ghost use Rattle.std.specs.Prelude.{◌≡◌, IfOk, MatchResult};
+ghost use Rattle.std.specs.Prelude.{◌≡◌, IfErr, IfOk, MatchResult, is_some};
 ghost use Rattle.poll_book.specs.Orders as orders;
 ghost use Rattle.office_core.specs.Errors.{IsCaused, IsOfStore};
 ghost use Rattle.office_core.specs.History.{History, settings};
 ghost use Rattle.office_core.specs.Offices.{AccountsFor, arrived, keeper_of};
 ghost use Rattle.office_net.specs.Counting.{Learnt};
 ghost use Rattle.office_core.specs.Following.{Follows};
+ghost use Rattle.office_core.specs.Lacking.{lacks};
 ghost use Rattle.office_core.specs.Proceeding.{GoesAlong, Nothing};
 ghost use Rattle.office_net.specs.Kinds.{Asks, Hears, IsOldest, Opens};
-ghost use Rattle.office_net.specs.Querying.{Answered, Makes, Misses, Tries};
+ghost use Rattle.office_net.specs.Querying.{Answered, IsRefusal, Makes, Misses, Tries};
 ghost use Rattle.office_core.specs.declared.event.EventAnswer.TheVariants as answer;
 
 use crate::turns::ask_lacking;
@@ -21,6 +22,7 @@ use read_planner::Read;
 /// Opens a line by its name, and closes its former connection. It refuses as `Office::open_line` does.
 pub fn open_line<K: Keeper>(office: &mut Office<K>, line: &str) -> Result<Conn, OfficeError>
     ensures made { MatchResult result (λ conn. Answered (Opens line.now) office.old office.new (answer.Opened conn)) (λ _. Misses (Opens line.now) office.old office.new) }
+    ensures refused { IfErr result (IsRefusal (Opens line.now) office.old office.new) }
     ensures accounts { AccountsFor IsCaused office.old office.new result }
 {
     office.open_line(line)
@@ -58,7 +60,11 @@ pub fn ask_among<K: Keeper>(
     device: &str,
     read: &Read,
 ) -> Result<Option<Frame>, OfficeError>
-    ensures { MatchResult result (Makes (Asks conn slot device.now read.now) office.old office.new) (λ _. Misses (Asks conn slot device.now read.now) office.old office.new) }
+    ensures made { MatchResult result (Makes (Asks conn slot device.now read.now) office.old office.new) (λ _. Misses (Asks conn slot device.now read.now) office.old office.new) }
+    ensures due { K.is_clean (keeper_of office.new) → (now : History) → Follows office.old now
+        → IfOk result (λ query. is_some query ≡ lacks now device.now slot read.now) }
+    ensures refused { IfErr result (IsRefusal (Asks conn slot device.now read.now) office.old office.new) }
+    ensures accounts { AccountsFor IsCaused office.old office.new result }
 {
     ask_lacking(office, conn, slot, device, read)
 }
@@ -70,6 +76,7 @@ pub fn oldest_order<K: Keeper>(
 ) -> Result<Option<u32>, OfficeError>
     ensures value { IfOk result (λ number. Learnt office.old office.new (λ now. IsOldest now device.now number)) }
     ensures along { GoesAlong Nothing office.old office.new }
+    ensures accounts { AccountsFor IsOfStore office.old office.new result }
 {
     let found = office.waiting(device)?;
     match found {
