@@ -4,9 +4,10 @@ ghost use Rattle.point_list.specs.Sites.{IsSound};
 use crate::stores::{migrate_on, work_on};
 use office_commands::{
     Failure, Fault, Host, Migration, Stay, Stores, Task, Timed, Why, addresses_of, connect,
-    door_of, serve, stay_up, take_next,
+    door_of, serve, take_next,
 };
 use office_core::Office;
+use office_stay::stay_up;
 use point_list::Site;
 use poll_book::Keeper;
 use run_sockets::System;

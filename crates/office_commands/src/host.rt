@@ -52,7 +52,7 @@ pub trait Host {
         seconds: u16,
     ) -> Result<(), Failure>;
 
-    /// Keeps an office up, by `stay_up`.
+    /// Keeps an office up, by `office_stay::stay_up`.
     fn stay_up<K: Keeper>(
         &mut self,
         office: &mut Office<K>,

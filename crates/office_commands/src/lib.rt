@@ -32,6 +32,6 @@ pub use polling::{connect, poll};
 pub use running::{end_with, run};
 pub use serving::{serve, take_next};
 pub use simulating::{LinesFault, answer_lines, answer_stream};
-pub use staying::{Stay, addresses_of, door_of, stay_up};
+pub use staying::{Stay, addresses_of, door_of};
 pub use timed::Timed;
 pub use voiding::void;

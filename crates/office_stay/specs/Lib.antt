@@ -1,0 +1,2 @@
+-- What contracts say of a run's end.
+pub mod Conversions
