@@ -293,3 +293,63 @@ fn what_a_caller_said_in_time_is_heard_though_others_took_theirs(
 ) -> Result<(), Fail> {
     Ok(twice!(rt, unheard)?)
 }
+
+/// One more than there are places for come at once.
+fn at_once(trial: &Trial<'_>) -> Result<(), OfficeError> {
+    let speeches = [Speech::at_once(4_000, WHOLE); 65];
+    look_at_guests(trial, &speeches, usize::MAX, &AllHeard(ANSWER))
+}
+
+#[test]
+fn nobody_goes_for_another_before_it_was_read(rt: HostRuntime) -> Result<(), Fail> {
+    Ok(twice!(rt, at_once)?)
+}
+
+/// A head, and the same with its body, which is no order.
+const HEAD: &str = "PUT /callers/ann/orders/k1 HTTP/1.1\r\nContent-Length: 4\r\n\r\n";
+
+const NO_ORDER: &str = "PUT /callers/ann/orders/k1 HTTP/1.1\r\nContent-Length: 4\r\n\r\nnone";
+
+/// All places are taken by callers whose body comes some seconds behind the head, and who stay; and one more comes.
+fn staying_crowd(alloc: Global) -> Result<Vec<Speech>, OfficeError> {
+    let mut speeches = Vec::new(alloc);
+    for number in 0..LAST {
+        let speech = Speech {
+            most: HEAD.len(),
+            pause: 5_500,
+            stays: true,
+            ..Speech::at_once(comes(number), NO_ORDER)
+        };
+        push(&mut speeches, speech)?;
+    }
+    push(&mut speeches, Speech::at_once(3_500, WHOLE))?;
+    Ok(speeches)
+}
+
+/// The one more has the place of the first as soon as that one is closed, a second behind its answer.
+struct AfterTheFirst;
+
+impl Look<MemKeeper> for AfterTheFirst {
+    fn look(&self, trial: &Trial<'_>, left: &mut Left<MemKeeper>) -> Result<(), OfficeError> {
+        for (number, guest) in (0u16..).zip(&left.world.guests.all) {
+            match number {
+                LAST => assert_guest(trial, guest, ANSWER, 7_500),
+                _ => {
+                    let gone = comes(number).saturating_add(6_500);
+                    trial.told(&"gone", &guest.gone, &Some(gone));
+                }
+            }
+        }
+        Ok(())
+    }
+}
+
+fn waited_for(trial: &Trial<'_>) -> Result<(), OfficeError> {
+    let speeches = staying_crowd(trial.alloc())?;
+    look_at_guests(trial, &speeches, usize::MAX, &AfterTheFirst)
+}
+
+#[test]
+fn a_place_is_taken_as_soon_as_it_is_free(rt: HostRuntime) -> Result<(), Fail> {
+    Ok(twice!(rt, waited_for)?)
+}

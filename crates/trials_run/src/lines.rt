@@ -1,4 +1,5 @@
 //! Lines that are polled slot by slot, and one whose device is silent or away.
+use crate::busy;
 use crate::scenes::{
     AllTold, Behind, IMAGE, Left, Look, assert_readings, assert_told, look_behind, look_behind_new,
     office_over, world, world_of,
@@ -364,4 +365,32 @@ fn asked_nothing(trial: &Trial<'_>) -> Result<(), OfficeError> {
 #[test]
 fn a_line_that_is_asked_nothing_is_up_once_it_stands(rt: HostRuntime) -> Result<(), Fail> {
     Ok(twice!(rt, asked_nothing)?)
+}
+
+/// The device answers nothing.
+const MUTE: Behind = Behind {
+    image: IMAGE,
+    spells: &[Spell {
+        trouble: Trouble::Silent,
+        unit: None,
+        from: 0,
+        to: 40_000,
+    }],
+};
+
+const DOWN_WITHIN_ITS_SLOT: AllTold = AllTold(
+    "1970-01-01T00:08:22Z office: line roof is up\n1970-01-01T00:08:28Z office: line roof is down: nothing was answered in time\n",
+);
+
+/// A slot has a minute, and an answer two seconds: nothing is waited for beyond three times these.
+fn mute_in_a_long_slot(trial: &Trial<'_>) -> Result<(), OfficeError> {
+    let alloc = trial.alloc();
+    let office = office_over(alloc, MemKeeper::new(alloc), busy::SITE, busy::POINTS)?;
+    let world = world_of(alloc, 6_500, &[MUTE], &[])?.with_slot(60);
+    look_behind(trial, office, world, &DOWN_WITHIN_ITS_SLOT)
+}
+
+#[test]
+fn a_silent_line_is_waited_for_three_time_outs(rt: HostRuntime) -> Result<(), Fail> {
+    Ok(twice!(rt, mute_in_a_long_slot)?)
 }

@@ -16,9 +16,6 @@ use telling::Trial;
 /// The clock shows so many milliseconds as a run begins: three seconds of slot 100 are left.
 const BEGAN: u64 = 502_000;
 
-/// The seconds of a slot.
-const SLOT: u32 = 5;
-
 /// For so many milliseconds a device is waited for.
 const TIMEOUT: u32 = 2_000;
 
@@ -121,7 +118,7 @@ fn ran<K: Keeper>(
     office: &mut Office<K>,
     world: &mut World,
 ) -> Result<(), RunFault> {
-    match Slots::new(SLOT) {
+    match Slots::new(world.slot) {
         Some(slots) => office_run::run(alloc, office, world, slots, TIMEOUT),
         None => Ok(()),
     }

@@ -358,3 +358,45 @@ fn a_slot_that_was_refused_is_begun_though_the_clock_was_set_back(
 ) -> Result<(), Fail> {
     Ok(twice!(rt, refused_before_the_clock_is_set_back)?)
 }
+
+/// The first device lacks the register of its point, and the second has one.
+const LACKING: &[Happens] = &[Load(
+    "l1",
+    "a,a,holding,45,uint16,,,gauge,\nb,b,holding,41,uint16,,,gauge,\n",
+)];
+
+/// The second device answers nothing from the middle of slot 101 to that of slot 102.
+const SECOND_IS_SILENT: Behind = Behind {
+    image: THREE,
+    spells: &[Spell {
+        trouble: Trouble::Silent,
+        unit: Some(2),
+        from: 3_500,
+        to: 12_000,
+    }],
+};
+
+/// Its reading of slot 103 came a second later.
+struct BegunAfterASecond;
+
+impl Look<Refusing> for BegunAfterASecond {
+    fn look(&self, trial: &Trial<'_>, left: &mut Left<Refusing>) -> Result<(), OfficeError> {
+        assert_readings(trial, &mut left.office, "b", &[(100, 0), (103, 14)])
+    }
+}
+
+/// Its answers in slots 101 and 103 are refused, and rounds ended between these.
+fn refused_now_and_then(trial: &Trial<'_>) -> Result<(), OfficeError> {
+    let alloc = trial.alloc();
+    let keeper = Refusing::changes(alloc, 3, 5, StoreFault::Full);
+    let office = office_over(alloc, keeper, SITE, LACKING)?;
+    let world = world_of(alloc, 16_500, &[SECOND_IS_SILENT], &[])?;
+    look_behind(trial, office, world, &BegunAfterASecond)
+}
+
+#[test]
+fn a_slot_is_begun_again_a_second_later_once_a_round_has_ended(
+    rt: HostRuntime,
+) -> Result<(), Fail> {
+    Ok(twice!(rt, refused_now_and_then)?)
+}

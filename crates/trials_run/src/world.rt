@@ -9,6 +9,9 @@ use run_beat::{
 };
 use std::alloc::{AllocError, Global};
 
+/// The seconds of a slot, where nothing else is said.
+const SLOT: u32 = 5;
+
 /// It takes so many milliseconds to look up where a line is.
 const LOOK_UP_MILLIS: u64 = 30;
 
@@ -28,6 +31,8 @@ pub(crate) struct World {
     // The clock showed so many milliseconds as the run began.
     began: u64,
     settings: &'static [Setting],
+    /// The seconds of a slot.
+    pub slot: u32,
     // The run is to end once so many have passed.
     ends: u64,
     is_over: bool,
@@ -80,6 +85,7 @@ impl World {
             now: 0,
             began,
             settings: &[],
+            slot: SLOT,
             ends,
             is_over: false,
             has_news: false,
@@ -107,6 +113,11 @@ impl World {
     /// The same world, where the clock is set.
     pub fn with_settings(self, settings: &'static [Setting]) -> World {
         World { settings, ..self }
+    }
+
+    /// The same world, where a slot has so many seconds.
+    pub fn with_slot(self, slot: u32) -> World {
+        World { slot, ..self }
     }
 
     /// What the clock shows.
