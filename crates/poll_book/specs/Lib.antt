@@ -8,5 +8,6 @@ pub mod RequestTexts
 pub mod Tables
 pub mod Totals
 pub mod Changes
+pub mod Showing
 pub mod Histories
 pub mod Marks

@@ -1,19 +1,21 @@
 //! What keeps the tables of an office.
 ghost use Rattle.poll_book.specs.declared.fault.StoreFault.{StoreFault};
-ghost use Rattle.std.specs.Prelude.{◌≡◌, ◌⊎◌, ◌<◌, ◌≤◌, ◌^◌, ℕ, All, IfSome, IfErr, IfOk, OnOk, OnErr, is_some, length, option_map};
+ghost use Rattle.std.specs.Prelude.{◌≡◌, ◌⊎◌, ◌<◌, ◌≤◌, ◌^◌, ℕ, All, IfSome, IfErr, IfOk, OnOk, OnErr, is_some, length, map, option_map};
 ghost use Rattle.poll_book.specs.Fault.{CountsRefusal, IsCountedOn};
-ghost use Rattle.poll_book.specs.Looks.{CountsRows};
+ghost use Rattle.poll_book.specs.Looks.{CountsShown};
 ghost use Rattle.poll_book.specs.Tables.{Tables, Within, is_void, reading_at, readings_between};
 ghost use Rattle.poll_book.specs.Orders.{as_setting, last_order, oldest_waiting, setting_at};
 ghost use Rattle.poll_book.specs.Requests.{request_at};
-ghost use Rattle.poll_book.specs.Changes.{IsNew, applied, as_rows};
+ghost use Rattle.poll_book.specs.Changes.{IsNew, applied};
+ghost use Rattle.poll_book.specs.Showing.{as_shown, with_marks};
 ghost use Rattle.poll_book.specs.Histories.{end_of};
 ghost use Rattle.poll_book.specs.Totals.{stored_total, value_after, value_before};
 
 use crate::caller::{Caller, Key};
 use crate::fault::StoreFault;
 use crate::requests::KeptRequest;
-use crate::rows::{Change, PointRow, Reading, ReadingRow, Setting, SettingRow};
+use crate::rows::{Change, PointRow, Reading, Setting, SettingRow};
+use crate::shown::ShownReading;
 use std::alloc::Global;
 
 /// A keeper's tables, seen from the points of a reply.
@@ -33,8 +35,8 @@ pub trait Neighbours {
     /// How many of its calls were refused.
     ghost refused: { Self → ℕ };
 
-    /// How many look-ups it made: one for each of the calls of a point here, and one for each row that
-    /// `readings` gives.
+    /// How many look-ups it made: one for each of the calls of a point here; and where `readings` gives
+    /// readings, one for each, and one more for their marks, which are read at once.
     ghost looked: { Self → ℕ };
 
     /// The reading of a point in a slot, if there is one.
@@ -143,19 +145,19 @@ pub trait Keeper: Neighbours {
         ensures crash { Self.is_clean self.new
             → Within (Self.may_leave self.new) (Self.may_leave self.old) };
 
-    /// The readings of a point in the slots `from` to `to`, by slot.
+    /// The readings of a point in the slots `from` to `to`, by slot, each with whether its slot is voided.
     fn readings(
         &mut self,
         alloc: Global,
         point: &PointRow,
         from: u32,
         to: u32,
-    ) -> Result<Vec<ReadingRow>, StoreFault>
+    ) -> Result<Vec<ShownReading>, StoreFault>
         ensures value { Self.is_clean self.new → (kept : Tables) → Self.holds self.old kept
-            → IfOk result (λ rows. as_rows rows.items ≡ readings_between point.now.number from to kept.readings) }
+            → IfOk result (λ shown. map as_shown shown.items ≡ with_marks kept.voids (readings_between point.now.number from to kept.readings)) }
         ensures cause { IfErr result (λ fault. Self.may_refuse fault) }
         ensures counted { CountsRefusal (Self.refused self.old) (Self.refused self.new) result }
-        ensures looked { CountsRows (Self.looked self.old) (Self.looked self.new) result }
+        ensures looked { CountsShown (Self.looked self.old) (Self.looked self.new) result }
         ensures same { Within (Self.holds self.old) (Self.holds self.new) }
         ensures clean { Self.is_clean self.new → Self.is_clean self.old }
         ensures crash { Self.is_clean self.new

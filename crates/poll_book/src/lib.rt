@@ -23,6 +23,7 @@ mod points;
 mod recording;
 mod requests;
 mod rows;
+mod shown;
 mod totals;
 mod voiding;
 mod voids;
@@ -38,5 +39,6 @@ pub use requests::{Body, KeptRequest, MOST_APART, Outcome, Reason, RequestFault,
 pub use rows::{
     Change, OrderState, PointRow, Reading, ReadingRow, Setting, SettingRow, TotalRow, VoidRow,
 };
+pub use shown::ShownReading;
 pub use voiding::void_one;
 pub use words::Words;

@@ -2,14 +2,15 @@
 ghost use Rattle.std.specs.Prelude.{◌≡◌, IsErr, MatchResult, Ok};
 ghost use Rattle.poll_book.specs.Tables.{no_tables};
 ghost use Rattle.poll_book.specs.Fault.{CountsRefusal, IsCountedOn};
-ghost use Rattle.poll_book.specs.Looks.{CountsRows};
+ghost use Rattle.poll_book.specs.Looks.{CountsShown};
 
 use crate::caller::{Caller, Key};
 use crate::fault::StoreFault;
 use crate::keeper::{Keeper, Neighbours};
 use crate::mem_tables::MemTables;
 use crate::requests::KeptRequest;
-use crate::rows::{Change, PointRow, Reading, ReadingRow, Setting, SettingRow};
+use crate::rows::{Change, PointRow, Reading, Setting, SettingRow};
+use crate::shown::ShownReading;
 use std::alloc::{AllocError, Global};
 use std::marker::Model;
 
@@ -67,13 +68,15 @@ fn count_look(lookups: &mut u64)
     *lookups = lookups.saturating_add(1);
 }
 
-/// An answer, whose rows are counted as look-ups.
+/// An answer, whose readings are counted as look-ups, with one more for their marks.
 fn looked<T>(lookups: &mut u64, answer: Result<Vec<T>, StoreFault>) -> Result<Vec<T>, StoreFault>
     ensures answer { result ≡ answer }
-    ensures looked { CountsRows lookups.old lookups.new result }
+    ensures looked { CountsShown lookups.old lookups.new result }
 {
-    if let Ok(rows) = &answer {
-        *lookups = lookups.saturating_add(rows.len() as u64);
+    if let Ok(shown) = &answer
+        && !shown.is_empty()
+    {
+        *lookups = lookups.saturating_add(1).saturating_add(shown.len() as u64);
     }
     answer
 }
@@ -151,9 +154,9 @@ impl Keeper for MemKeeper {
         point: &PointRow,
         from: u32,
         to: u32,
-    ) -> Result<Vec<ReadingRow>, StoreFault> {
-        let rows = self.tables.readings(alloc, point.number, from, to);
-        let told = counted(&mut self.refusals, rows);
+    ) -> Result<Vec<ShownReading>, StoreFault> {
+        let shown = self.tables.readings(alloc, point.number, from, to);
+        let told = counted(&mut self.refusals, shown);
         looked(&mut self.lookups, told)
     }
 

@@ -1,8 +1,9 @@
 //! Tables in memory.
-ghost use Rattle.std.specs.Prelude.{◌≡◌, ◌+◌, ◌≤◌, ◌<◌, ◌^◌, ℕ, All, IfOk, IfSome, OnErr, OnOk, is_some, length, option_map};
+ghost use Rattle.std.specs.Prelude.{◌≡◌, ◌+◌, ◌≤◌, ◌<◌, ◌^◌, ℕ, All, IfOk, IfSome, OnErr, OnOk, is_some, length, map, option_map};
 ghost use Rattle.poll_book.specs.Tables as table;
 ghost use Rattle.poll_book.specs.Tables.{no_tables, readings_between};
-ghost use Rattle.poll_book.specs.Changes.{applied, as_rows};
+ghost use Rattle.poll_book.specs.Changes.{applied};
+ghost use Rattle.poll_book.specs.Showing.{as_shown, with_marks};
 ghost use Rattle.poll_book.specs.Histories.{IsRising, end_of, slot_of, slots_of};
 ghost use Rattle.poll_book.specs.Orders as book;
 ghost use Rattle.poll_book.specs.Orders.{as_setting, last_order, oldest_waiting};
@@ -20,6 +21,7 @@ use crate::orders::{copy_of_setting, last_number, order_at, put_order, setting_a
 use crate::points::add_points;
 use crate::requests::KeptRequest;
 use crate::rows::{Change, PointRow, Reading, ReadingRow, Setting, SettingRow, TotalRow};
+use crate::shown::ShownReading;
 use crate::totals::{begin_totals, put_totals, stored_total};
 use crate::voids::{Voids, is_void, put_void, take_void};
 use std::alloc::{AllocError, Global};
@@ -155,18 +157,18 @@ impl MemTables {
         Vec::from_slice(alloc, &self.points)
     }
 
-    /// The readings of a point in the slots `from` to `to`, by slot.
+    /// The readings of a point in the slots `from` to `to`, by slot, each with whether its slot is voided.
     pub(crate) fn readings(
         &self,
         alloc: Global,
         point: u32,
         from: u32,
         to: u32,
-    ) -> Result<Vec<ReadingRow>, AllocError>
-        ensures { IfOk result (λ rows. as_rows rows.items ≡ readings_between point from to self.now.readings) }
+    ) -> Result<Vec<ShownReading>, AllocError>
+        ensures { IfOk result (λ shown. map as_shown shown.items ≡ with_marks self.now.voids (readings_between point from to self.now.readings)) }
     {
         let slots = slots_in(&self.histories, point);
-        rows_between(alloc, point, slots, from, to)
+        shown_between(alloc, point, &self.voids, slots, from, to)
     }
 
     /// The request of a caller under a key, if there is one.
@@ -284,25 +286,28 @@ fn slots_end(slots: &[SlotRow]) -> u64
     }
 }
 
-fn rows_between(
+fn shown_between(
     alloc: Global,
     point: u32,
+    voids: &Voids,
     slots: &[SlotRow],
     from: u32,
     to: u32,
-) -> Result<Vec<ReadingRow>, AllocError>
-    ensures { IfOk result (λ rows. as_rows rows.items ≡ readings_between point from to (slots_of point slots.now)) }
+) -> Result<Vec<ShownReading>, AllocError>
+    ensures { IfOk result (λ shown. map as_shown shown.items ≡ with_marks voids.now.entries (readings_between point from to (slots_of point slots.now))) }
 {
-    let mut rows = Vec::new(alloc);
+    let mut shown = Vec::new(alloc);
     for row in slots {
         if from <= row.slot && row.slot <= to {
-            rows.push(ReadingRow {
+            let reading = ReadingRow {
                 point,
                 slot: row.slot,
                 words: row.reading.words.clone()?,
                 counted: row.reading.counted,
-            })?;
+            };
+            let voided = is_void(voids, point, row.slot);
+            shown.push(ShownReading { reading, voided })?;
         }
     }
-    Ok(rows)
+    Ok(shown)
 }
