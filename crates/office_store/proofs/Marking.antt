@@ -1,68 +1,92 @@
--- Readings that are judged by the slots that an answer showed are judged by the voids.
-use Rattle.std.proofs.Common.{◌≡◌, ◌≤◌, ℕ, List, [], ◌∷◌, Bool, true, false, ◌&&◌, not, Result, Ok, Err, Vec, Global, IfOk, All, ap, refl, ◌∙◌, arith}
+-- Readings that are marked by the slots that an answer showed are marked by the voids.
+use Rattle.std.proofs.Common.{◌≡◌, ℕ, List, [], ◌∷◌, map, Bool, true, ◌&&◌, not, eqb, leb, Result, Ok, Err, Vec, Global, IfOk, All, ap, ap₂, refl, subst, sym, ◌∙◌}
 use Rattle.std.specs.BTreeSet.{BTreeSet, contains}
 use Rattle.std.specs.List.{AllByRecursion}
 use Rattle.std.specs.Ordering.{nat_cmp}
-use Rattle.std.proofs.lemmas.Bool.Decides.{nat_tests}
-use Rattle.std.proofs.lemmas.List.Elements.{All-from_recursion, All-same, filter_passes, recursion_from_All}
+use Rattle.std.proofs.lemmas.Bool.{and_parts, eqb-true}
+use Rattle.std.proofs.lemmas.List.Elements.{All-from_recursion, All-same, All-weaker, filter_passes, recursion_from_All}
 use Rattle.point_list.specs.declared.point.Point.{Point}
 use Rattle.poll_book.specs.declared.rows.PointRow.{PointRow}
 use Rattle.poll_book.specs.declared.rows.Reading.{Reading}
 use Rattle.poll_book.specs.declared.rows.ReadingRow.{ReadingRow}
-use Rattle.poll_book.specs.Changes.{as_rows}
+use Rattle.poll_book.specs.declared.shown.ShownReading.{ShownReading}
+use Rattle.poll_book.specs.Changes.{as_row, as_rows}
+use Rattle.poll_book.specs.Showing.{Shown, as_shown, with_marks}
 use Rattle.poll_book.specs.Tables.{Key, Readings, Voids, is_between, is_void, readings_between}
-use Rattle.poll_book.specs.Totals.{is_counted, is_counter}
-use Rattle.office_store.specs.Counting.{MayBeOf}
+use Rattle.poll_book.specs.Totals.{is_counted}
+use Rattle.office_store.specs.Counting.{IsShownOf, MayBeOf, StandsBetween, marked_by}
 use Rattle.office_store.specs.Voids.{AreVoidsOf}
 
-module _ (known : PointRow) (from to : ℕ) (voids : Voids) (slots : BTreeSet ℕ) (are : is_counter known.point.role ≡ true → AreVoidsOf known.number from to voids slots) where
-  abbrev IsWithin : Key → Type 0
-  IsWithin key = is_between known.number from to key ≡ true
+abbrev IsOf : ℕ → Key × Reading → Type 0
+IsOf number e = e.0.0 ≡ number
+
+-- readings between two slots are of their point
+own_rows : (number from to : ℕ) (table : Readings) (rows : List ReadingRow) → as_rows rows ≡ readings_between number from to table → AllByRecursion (IsOf number) (as_rows rows)
+own_rows number from to table rows is =
+    recursion_from_All (IsOf number) (as_rows rows)
+    (All-same (IsOf number) (as_rows rows) (readings_between number from to table) is
+    (All-weaker (λ (e : Key × Reading). is_between number from to e.0 ≡ true) (IsOf number) own (readings_between number from to table)
+    (filter_passes (λ (e : Key × Reading). is_between number from to e.0) table)))
+  where
+    own : (e : Key × Reading) → is_between number from to e.0 ≡ true → IsOf number e
+    own e within =
+        let a = and_parts (eqb e.0.0 number && leb from e.0.1) (leb e.0.1 to) within in
+        eqb-true e.0.0 number (and_parts (eqb e.0.0 number) (leb from e.0.1) a.0).0
+
+module _ (known : PointRow) (first last : ℕ) (voids : Voids) (slots : BTreeSet ℕ) (are : AreVoidsOf known.number first last voids slots) where
+  abbrev shows : ℕ → Bool
+  shows = contains nat_cmp slots
 
   abbrev is_voided : ℕ → Bool
   is_voided slot = is_void voids (known.number, slot)
 
-  low : (key : Key) → IsWithin key → from ≤ key.1
-  low key within = grind (arith, nat_tests)
+  values : (rows : List ReadingRow) → AllByRecursion (IsOf known.number) (as_rows rows) → AllByRecursion (StandsBetween first last) rows → map as_shown (map (marked_by shows) rows) ≡ with_marks voids (as_rows rows)
+  values [] own stand = refl
+  values (row ∷ rows) own stand =
+      let same : shows row.slot ≡ is_void voids (row.point, row.slot) = are row.slot stand.0.0 stand.0.1 ∙ ap (λ n. is_void voids (n, row.slot)) (sym own.0) in
+      ap₂ (λ (b : Bool) (l : List Shown). (as_row row, b) ∷ l) same (values rows own.1 stand.1)
 
-  high : (key : Key) → IsWithin key → key.1 ≤ to
-  high key within = grind (arith, nat_tests)
+  one : (row : ReadingRow) → StandsBetween first last row → MayBeOf known.point shows row → IsShownOf known.point is_voided (marked_by shows row)
+  one row stand may =
+      let same : shows row.slot ≡ is_voided row.slot = are row.slot stand.0 stand.1 in
+      record {
+        may_be = record {
+          registers = may.registers;
+          counts = may.counts ∙ ap (λ (b : Bool). is_counted known.point row.words && not b) same;
+        };
+        voided = same;
+      }
 
-  -- a number of a point that is no counter doesn't count, wherever it stands
-  alike : (words : List ℕ) (slot : ℕ) → IsWithin (known.number, slot) → (is_counted known.point words && not (contains nat_cmp slots slot)) ≡ (is_counted known.point words && not (is_voided slot))
-  alike words slot within = by (is_counter known.point.role) refl
-    where
-      by : (counts : Bool) → is_counter known.point.role ≡ counts → (is_counted known.point words && not (contains nat_cmp slots slot)) ≡ (is_counted known.point words && not (is_voided slot))
-      by true is = ap (λ b. is_counted known.point words && not b) (are is slot (low (known.number, slot) within) (high (known.number, slot) within))
-      by false is = rw is refl
+  each : (rows : List ReadingRow) → AllByRecursion (StandsBetween first last) rows → AllByRecursion (MayBeOf known.point shows) rows → AllByRecursion (IsShownOf known.point is_voided) (map (marked_by shows) rows)
+  each [] stand may = tt
+  each (row ∷ rows) stand may = (one row stand.0 may.0, each rows stand.1 may.1)
 
-  one : (row : ReadingRow) → IsWithin (row.point, row.slot) → MayBeOf known.point (contains nat_cmp slots) row → MayBeOf known.point is_voided row
-  one row within may = record {
-    registers = may.registers;
-    counts = may.counts ∙ alike row.words row.slot (own row within);
-  }
-    where
-      own : (row : ReadingRow) → IsWithin (row.point, row.slot) → IsWithin (known.number, row.slot)
-      own row within = grind (arith, nat_tests)
+  -- the readings that a call gives, with their marks
+  pub all_shown : {E : Type 0} (from to : ℕ) (table : Readings) (rows : List ReadingRow) (made : Result (Vec ShownReading Global) E) → as_rows rows ≡ readings_between known.number from to table
+      → All (StandsBetween first last) rows → IfOk made (λ shown. shown.items ≡ map (marked_by shows) rows)
+      → IfOk made (λ shown. map as_shown shown.items ≡ with_marks voids (readings_between known.number from to table))
+  all_shown from to table rows (Ok shown) are_rows stand is =
+      ap (map as_shown) is
+      ∙ values rows (own_rows known.number from to table rows are_rows) (recursion_from_All (StandsBetween first last) rows stand)
+      ∙ ap (with_marks voids) are_rows
+  all_shown from to table rows (Err e) are_rows stand is = tt
 
-  each : (rows : List ReadingRow) → AllByRecursion (λ (e : Key × Reading). IsWithin e.0) (as_rows rows) → AllByRecursion (MayBeOf known.point (contains nat_cmp slots)) rows → AllByRecursion (MayBeOf known.point is_voided) rows
-  each [] within may = tt
-  each (row ∷ rows) within may = (one row within.0 may.0, each rows within.1 may.1)
+  -- each may be one of the point
+  pub all_marked : {E : Type 0} (rows : List ReadingRow) (made : Result (Vec ShownReading Global) E) → All (StandsBetween first last) rows → All (MayBeOf known.point shows) rows
+      → IfOk made (λ shown. shown.items ≡ map (marked_by shows) rows) → IfOk made (λ shown. All (IsShownOf known.point is_voided) shown.items)
+  all_marked rows (Ok shown) stand may is =
+      let marked = each rows (recursion_from_All (StandsBetween first last) rows stand) (recursion_from_All (MayBeOf known.point shows) rows may) in
+      subst (All (IsShownOf known.point is_voided)) (sym is) (All-from_recursion (IsShownOf known.point is_voided) (map (marked_by shows) rows) marked)
+  all_marked rows (Err e) stand may is = tt
 
-  marked : (table : Readings) (rows : List ReadingRow) → as_rows rows ≡ readings_between known.number from to table → All (MayBeOf known.point (contains nat_cmp slots)) rows → All (MayBeOf known.point is_voided) rows
-  marked table rows are_rows may =
-      let Within : Key × Reading → Type 0 = λ e. IsWithin e.0 in
-      let passed = All-same Within (as_rows rows) (readings_between known.number from to table) are_rows (filter_passes (λ (e : Key × Reading). is_between known.number from to e.0) table) in
-      All-from_recursion (MayBeOf known.point is_voided) rows (each rows (recursion_from_All Within (as_rows rows) passed) (recursion_from_All (MayBeOf known.point (contains nat_cmp slots)) rows may))
+-- some slots judge them, whatever is voided
+judge : (point : Point) (slots : ℕ → Bool) (rows : List ReadingRow) → AllByRecursion (MayBeOf point slots) rows → AllByRecursion (IsShownOf point slots) (map (marked_by slots) rows)
+judge point slots [] may = tt
+judge point slots (row ∷ rows) may = (record { may_be = may.0; voided = refl }, judge point slots rows may.1)
 
-  -- and so are those that a call gives
-  pub all_marked : {E : Type 0} (table : Readings) (made : Result (Vec ReadingRow Global) E) → IfOk made (λ rows. as_rows rows.items ≡ readings_between known.number from to table)
-      → IfOk made (λ rows. All (MayBeOf known.point (contains nat_cmp slots)) rows.items) → IfOk made (λ rows. All (MayBeOf known.point is_voided) rows.items)
-  all_marked table (Ok rows) are_rows may = marked table rows.items are_rows may
-  all_marked table (Err e) are_rows may = tt
-
--- some slots judge the readings that a call gives
-pub some_judge : {E : Type 0} (point : Point) (voids : ℕ → Bool) (made : Result (Vec ReadingRow Global) E) → IfOk made (λ rows. All (MayBeOf point voids) rows.items)
-    → IfOk made (λ rows. (some : ℕ → Bool) × All (MayBeOf point some) rows.items)
-some_judge point voids (Ok rows) may = (voids, may)
-some_judge point voids (Err e) may = tt
+pub some_judge : {E : Type 0} (point : Point) (slots : ℕ → Bool) (rows : List ReadingRow) (made : Result (Vec ShownReading Global) E) → All (MayBeOf point slots) rows
+    → IfOk made (λ shown. shown.items ≡ map (marked_by slots) rows) → IfOk made (λ shown. (some : ℕ → Bool) × All (IsShownOf point some) shown.items)
+some_judge point slots rows (Ok shown) may is =
+    let judged = judge point slots rows (recursion_from_All (MayBeOf point slots) rows may) in
+    (slots, subst (All (IsShownOf point slots)) (sym is) (All-from_recursion (IsShownOf point slots) (map (marked_by slots) rows) judged))
+some_judge point slots rows (Err e) may is = tt

@@ -12,7 +12,7 @@ ghost use Rattle.poll_book.specs.Tables.{Tables};
 ghost use Rattle.office_store.specs.Rows.{number_of};
 ghost use Rattle.office_store.specs.Texts.{version_text};
 ghost use Rattle.poll_book.specs.Fault.{CountsRefusal, IsCountedOn};
-ghost use Rattle.poll_book.specs.Looks.{CountsRows};
+ghost use Rattle.poll_book.specs.Looks.{CountsShown};
 
 use crate::apply::apply;
 use crate::ask::ask;
@@ -20,10 +20,10 @@ use crate::ends::{self, Ends};
 use crate::error::{StoreError, fault_of};
 use crate::values::{number_of, value_at};
 use crate::waiting::{self, WaitingOrder};
-use crate::{numbers, points, readings, requests, settings, totals, voids};
+use crate::{numbers, points, readings, requests, settings, shown, totals, voids};
 use poll_book::{
-    Caller, Change, Keeper, KeptRequest, Key, Neighbours, PointRow, Reading, ReadingRow, Setting,
-    SettingRow, StoreFault,
+    Caller, Change, Keeper, KeptRequest, Key, Neighbours, PointRow, Reading, Setting, SettingRow,
+    ShownReading, StoreFault,
 };
 use sqlite::{Alter, Connection};
 use std::alloc::Global;
@@ -141,13 +141,15 @@ fn count_look(lookups: &mut u64)
     *lookups = lookups.saturating_add(1);
 }
 
-/// An answer, whose rows are counted as look-ups.
+/// An answer, whose readings are counted as look-ups, with one more for their marks.
 fn looked<T>(lookups: &mut u64, answer: Result<Vec<T>, StoreFault>) -> Result<Vec<T>, StoreFault>
     ensures answer { result ≡ answer }
-    ensures looked { CountsRows lookups.old lookups.new result }
+    ensures looked { CountsShown lookups.old lookups.new result }
 {
-    if let Ok(rows) = &answer {
-        *lookups = lookups.saturating_add(rows.len() as u64);
+    if let Ok(shown) = &answer
+        && !shown.is_empty()
+    {
+        *lookups = lookups.saturating_add(1).saturating_add(shown.len() as u64);
     }
     answer
 }
@@ -242,8 +244,8 @@ impl<S: Alter> Keeper for SqlKeeper<S> {
         point: &PointRow,
         from: u32,
         to: u32,
-    ) -> Result<Vec<ReadingRow>, StoreFault> {
-        let found = readings::readings_between(alloc, &mut self.connection, point, from, to);
+    ) -> Result<Vec<ShownReading>, StoreFault> {
+        let found = shown::shown_between(alloc, &mut self.connection, point, from, to);
         let told = counted(&mut self.refusals, found);
         looked(&mut self.lookups, told)
     }

@@ -19,6 +19,7 @@ mod readings;
 mod requests;
 mod run;
 mod settings;
+mod shown;
 mod swaps;
 mod totals;
 mod values;

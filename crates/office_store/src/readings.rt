@@ -1,29 +1,25 @@
 //! The table of readings.
 
-ghost use Rattle.std.specs.Prelude.{◌≡◌, ◌≤◌, ◌^◌, ◌↔◌, ℕ, Bool, false, All, IfOk, IfSome, IsTrue, OnOk, Some, is_some, map};
-ghost use Rattle.std.specs.Ordering.{nat_cmp};
-ghost use Rattle.std.specs.BTreeSet.{contains};
+ghost use Rattle.std.specs.Prelude.{◌≡◌, ◌≤◌, ◌^◌, false, IfOk, IfSome, IsTrue, OnOk, is_some};
 ghost use Rattle.sqlite.specs.Held.{state};
 ghost use Rattle.sqlite.specs.State.{HasCleanDisk};
-ghost use Rattle.poll_book.specs.Tables.{Tables, is_void, reading_at, readings_between};
+ghost use Rattle.poll_book.specs.Tables.{Tables, reading_at, readings_between};
 ghost use Rattle.poll_book.specs.Totals.{value_after, value_before};
 ghost use Rattle.poll_book.specs.Histories.{end_of};
 ghost use Rattle.poll_book.specs.Changes.{as_rows};
 ghost use Rattle.office_store.specs.Kept.{Holds, Keeps};
 ghost use Rattle.office_store.specs.Ends.{IsEndOf, ShowEnd};
-ghost use Rattle.office_store.specs.Counting.{MayBeOf, ShowValue, number_in};
+ghost use Rattle.office_store.specs.Counting.{CanBeOf, ShowValue, number_in};
 ghost use Rattle.office_store.specs.Rows.{shown_reading};
 
 use crate::ask::ask;
 use crate::error::fault_of;
 use crate::from_row::{FromRow, all_of};
 use crate::values::{flag_of, number_of, value_at, words_of};
-use crate::voids::voids_of;
 use point_list::Point;
 use poll_book::{PointRow, Reading, ReadingRow, StoreFault, counted_number};
 use sqlite::{Alter, Connection, Row, params};
 use std::alloc::Global;
-use std::collections::BTreeSet;
 
 impl FromRow for ReadingRow {
     ghost use Rattle.poll_book.specs.declared.rows.Reading.{Reading};
@@ -50,61 +46,17 @@ impl FromRow for ReadingRow {
     }
 }
 
-/// Whether a reading may be one of the point, of which these slots are voided: it has the registers of the point's
-/// type, and it is marked as counted just where it has a number from 0 to the roll and its slot isn't voided.
-fn may_be_of(point: &Point, voids: &BTreeSet<u32>, reading: &ReadingRow) -> bool
-    ensures { IsTrue result ↔ MayBeOf point.now (contains nat_cmp voids.now) reading.now }
-{
-    let words = reading.words.as_slice();
-    let counts = counted_number(point, words).is_some() && !voids.contains(&reading.slot);
-    point.kind.has_registers(words) && reading.counted == counts
-}
-
-/// The readings, if each may be one of the point. No office keeps another.
-fn judged(
-    point: &Point,
-    voids: &BTreeSet<u32>,
-    readings: Vec<ReadingRow>,
-) -> Result<Vec<ReadingRow>, StoreFault>
-    ensures same { IfOk result (λ rows. rows.items ≡ readings.items) }
-    ensures judged { IfOk result (λ rows. All (MayBeOf point.now (contains nat_cmp voids.now)) rows.items) }
-{
-    if !readings
-        .iter()
-        .all(|reading| may_be_of(point, voids, reading))
-    {
-        return Err(StoreFault::Other);
-    }
-    Ok(readings)
-}
-
-/// The readings that the rows of an answer show of a point.
-fn readings_shown(
-    alloc: Global,
-    point: &Point,
-    voids: &BTreeSet<u32>,
-    rows: &[Row],
-) -> Result<Vec<ReadingRow>, StoreFault>
-    ensures shown { IfOk result (λ readings. map shown_reading rows.now ≡ map Some (as_rows readings.items)) }
-    ensures judged { IfOk result (λ readings. All (MayBeOf point.now (contains nat_cmp voids.now)) readings.items) }
-{
-    let readings = all_of(alloc, rows)?;
-    judged(point, voids, readings)
-}
-
-/// The readings of a point in the slots from the one to the other, by slot, of which these are voided.
-fn rows_between<S: Alter>(
+/// The readings of a point in the slots from the one to the other, by slot.
+pub(crate) fn rows_between<S: Alter>(
     alloc: Global,
     connection: &mut Connection<S>,
-    point: &PointRow,
-    voids: &BTreeSet<u32>,
+    point: u32,
     from: u32,
     to: u32,
 ) -> Result<Vec<ReadingRow>, StoreFault>
     requires { connection.old.in_transaction ≡ false }
     ensures value { HasCleanDisk (state S.Store connection.new) → (kept : Tables) → Holds (state S.Store connection.old) kept
-        → IfOk result (λ rows. as_rows rows.items ≡ readings_between point.now.number from to kept.readings) }
-    ensures judged { IfOk result (λ rows. All (MayBeOf point.now.point (contains nat_cmp voids.now)) rows.items) }
+        → IfOk result (λ rows. as_rows rows.items ≡ readings_between point from to kept.readings) }
     ensures open { HasCleanDisk (state S.Store connection.new) → OnOk result (IsTrue (state S.Store connection.old).is_open) }
     ensures keeps { Keeps (state S.Store connection.old) (state S.Store connection.new) }
     ensures idle { connection.new.in_transaction ≡ false }
@@ -112,36 +64,28 @@ fn rows_between<S: Alter>(
     match ask(
         connection,
         "SELECT point, slot, words, counted FROM reading WHERE point = ?1 AND slot >= ?2 AND slot <= ?3 ORDER BY slot",
-        params![point.number, from, to],
+        params![point, from, to],
     ) {
-        Ok(rows) => readings_shown(alloc, &point.point, voids, &rows),
+        Ok(rows) => all_of(alloc, &rows),
         Err(error) => Err(fault_of(error)),
     }
 }
 
-/// The readings of a point in the slots from the one to the other, by slot. Each is marked as the voids have it.
-pub(crate) fn readings_between<S: Alter>(
-    alloc: Global,
-    connection: &mut Connection<S>,
-    point: &PointRow,
-    from: u32,
-    to: u32,
-) -> Result<Vec<ReadingRow>, StoreFault>
-    requires { connection.old.in_transaction ≡ false }
-    ensures value { HasCleanDisk (state S.Store connection.new) → (kept : Tables) → Holds (state S.Store connection.old) kept
-        → IfOk result (λ rows. as_rows rows.items ≡ readings_between point.now.number from to kept.readings) }
-    ensures judged { IfOk result (λ rows. (voids : ℕ → Bool) × All (MayBeOf point.now.point voids) rows.items) }
-    ensures marked { HasCleanDisk (state S.Store connection.new) → (kept : Tables) → Holds (state S.Store connection.old) kept
-        → IfOk result (λ rows. All (MayBeOf point.now.point (λ slot. is_void kept.voids (point.now.number, slot))) rows.items) }
-    ensures open { HasCleanDisk (state S.Store connection.new) → OnOk result (IsTrue (state S.Store connection.old).is_open) }
-    ensures keeps { Keeps (state S.Store connection.old) (state S.Store connection.new) }
-    ensures idle { connection.new.in_transaction ≡ false }
+/// A reading, if it may be one of the point: it has the registers of the point's type, and one that is marked as
+/// counted has a number from 0 to the roll.
+fn judged(point: &Point, reading: Reading) -> Result<Reading, StoreFault>
+    ensures same { IfOk result (λ told. told ≡ reading) }
+    ensures judged { IfOk result (CanBeOf point.now) }
 {
-    let voids = voids_of(alloc, connection, point, from, to)?;
-    rows_between(alloc, connection, point, &voids, from, to)
+    let words = reading.words.as_slice();
+    let can_count = counted_number(point, words).is_some();
+    if !point.kind.has_registers(words) || (reading.counted && !can_count) {
+        return Err(StoreFault::Other);
+    }
+    Ok(reading)
 }
 
-/// The reading of a point in a slot, if there is one.
+/// The reading of a point in a slot, if there is one. It is judged by the point alone, since no void is read.
 pub(crate) fn reading_at<S: Alter>(
     alloc: Global,
     connection: &mut Connection<S>,
@@ -151,18 +95,22 @@ pub(crate) fn reading_at<S: Alter>(
     requires { connection.old.in_transaction ≡ false }
     ensures value { HasCleanDisk (state S.Store connection.new) → (kept : Tables) → Holds (state S.Store connection.old) kept
         → IfOk result (λ found. found ≡ reading_at kept.readings (point.now.number, slot)) }
+    ensures judged { IfOk result (λ found. IfSome found (CanBeOf point.now.point)) }
     ensures keeps { Keeps (state S.Store connection.old) (state S.Store connection.new) }
     ensures idle { connection.new.in_transaction ≡ false }
 {
-    let mut rows = readings_between(alloc, connection, point, slot, slot)?;
+    let mut rows = rows_between(alloc, connection, point.number, slot, slot)?;
     rows.truncate(1);
-    Ok(match rows.pop() {
-        Some(row) => Some(Reading {
-            words: row.words,
-            counted: row.counted,
-        }),
-        None => None,
-    })
+    match rows.pop() {
+        Some(row) => {
+            let reading = Reading {
+                words: row.words,
+                counted: row.counted,
+            };
+            Ok(Some(judged(&point.point, reading)?))
+        }
+        None => Ok(None),
+    }
 }
 
 /// Whether a point has a reading in a slot.

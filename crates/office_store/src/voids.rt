@@ -1,6 +1,6 @@
 //! The table of voided slots.
 
-ghost use Rattle.std.specs.Prelude.{◌≡◌, ◌-◌, ◌^◌, ℕ, true, false, IfErr, IfOk, length};
+ghost use Rattle.std.specs.Prelude.{◌≡◌, ◌-◌, ◌^◌, ℕ, false, IfErr, IfOk, length};
 ghost use Rattle.std.specs.List.{list_any};
 ghost use Rattle.std.specs.Ordering.{nat_cmp};
 ghost use Rattle.std.specs.BTreeSet.{contains};
@@ -11,14 +11,12 @@ ghost use Rattle.office_store.specs.Kept.{Holds, Keeps};
 ghost use Rattle.office_store.specs.Ends.{FailsToTell, ShowFrom, TellsFrom};
 ghost use Rattle.office_store.specs.Rows.{number_below};
 ghost use Rattle.office_store.specs.Voids.{AreVoidsOf, shows_slot};
-ghost use Rattle.poll_book.specs.Totals.{is_counter};
 ghost use Rattle.sqlite_value.specs.Value.{owned};
 
 use crate::ask::ask;
 use crate::error::fault_of;
 use crate::values::{number_of, value_at};
-use point_list::Role;
-use poll_book::{PointRow, StoreFault};
+use poll_book::StoreFault;
 use sqlite::types::ValueRef;
 use sqlite::{Alter, Connection, Row, params};
 use std::alloc::Global;
@@ -88,7 +86,7 @@ fn slots_shown(alloc: Global, rows: &[Row]) -> Result<BTreeSet<u32>, StoreFault>
 }
 
 /// The voided slots of a point from the one to the other.
-fn slots_between<S: Alter>(
+pub(crate) fn slots_between<S: Alter>(
     alloc: Global,
     connection: &mut Connection<S>,
     point: u32,
@@ -108,26 +106,6 @@ fn slots_between<S: Alter>(
     ) {
         Ok(rows) => slots_shown(alloc, &rows),
         Err(error) => Err(fault_of(error)),
-    }
-}
-
-/// The voided slots of a counter from the one to the other. No reading of another point counts, so none is looked for.
-pub(crate) fn voids_of<S: Alter>(
-    alloc: Global,
-    connection: &mut Connection<S>,
-    point: &PointRow,
-    from: u32,
-    to: u32,
-) -> Result<BTreeSet<u32>, StoreFault>
-    requires { connection.old.in_transaction ≡ false }
-    ensures value { HasCleanDisk (state S.Store connection.new) → (kept : Tables) → Holds (state S.Store connection.old) kept
-        → IfOk result (λ slots. is_counter point.now.point.role ≡ true → AreVoidsOf point.now.number from to kept.voids slots) }
-    ensures keeps { Keeps (state S.Store connection.old) (state S.Store connection.new) }
-    ensures idle { connection.new.in_transaction ≡ false }
-{
-    match point.point.role {
-        Role::Counter => slots_between(alloc, connection, point.number, from, to),
-        Role::Gauge | Role::Setting => Ok(BTreeSet::new(alloc)),
     }
 }
 

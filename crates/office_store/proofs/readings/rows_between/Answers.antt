@@ -15,9 +15,9 @@ returns-in-Ok-clause-value g c clean kept holds =
     let new = state g.S.Store c.ask.new.connection in
     let rows = c.in-Ok.rows.items in
     let shown = rw (c.params-to_sql.ensures, c.params-to_sql-2.ensures, c.params-to_sql-3.ensures) at (c.in-Ok.ensures.rows clean) in
-    let keys = given c.args.point.now.number c.args.from c.args.to in
+    let keys = given c.args.point c.args.from c.args.to in
     let held = holds (c.ask.ensures.keeps.clean clean) (after_ok readings_text keys old new readings_is_query rows shown).0.was_open in
-    all_between c.args.point.now.number c.args.from c.args.to old new kept held rows shown c.readings_shown.result (rw c.deref.ensures.value at c.readings_shown.ensures.shown)
+    all_between c.args.point c.args.from c.args.to old new kept held rows shown c.all_of.result (rw c.deref.ensures.value at c.all_of.ensures.shown)
 
 pub returns-in-Ok-clause-open : goal.returns-in-Ok-clause-open
 returns-in-Ok-clause-open g c clean =
@@ -25,7 +25,7 @@ returns-in-Ok-clause-open g c clean =
     let new = state g.S.Store c.ask.new.connection in
     let rows = c.in-Ok.rows.items in
     let shown = rw (c.params-to_sql.ensures, c.params-to_sql-2.ensures, c.params-to_sql-3.ensures) at (c.in-Ok.ensures.rows clean) in
-    either c.readings_shown.result (after_ok readings_text (given c.args.point.now.number c.args.from c.args.to) old new readings_is_query rows shown).0.was_open
+    either c.all_of.result (after_ok readings_text (given c.args.point c.args.from c.args.to) old new readings_is_query rows shown).0.was_open
   where
     either : {T E P : Type 0} (r : Result T E) → P → OnOk r P
     either (Ok x) p = p
