@@ -1,7 +1,6 @@
 //! A list at an office that was opened over 300 points, of which some stand in its map of names: what became of it, and
 //! what becomes of it under another key. `.ci/refused` runs this and refuses each of the first list's requests for memory
 //! in turn, which stand between the first and the second line that is printed.
-use crate::office::load;
 use crate::pace::granted;
 use office_core::{Office, OfficeError, RequestAnswer};
 use office_plays::builders::{HEADER, MEMORY, begun, named};
@@ -19,6 +18,17 @@ fn list(alloc: Global, from: u32, to: u32) -> Result<String, AllocError> {
         writeln!(text, "p{number},m1,holding,{number},uint16,,,setting,")?;
     }
     Ok(text)
+}
+
+// The calls of an office stand in functions that promise nothing of them: a search needs nothing.
+
+fn load<K: Keeper>(
+    office: &mut Office<K>,
+    key: &str,
+    list: &str,
+) -> Result<RequestAnswer, OfficeError> {
+    let (caller, key) = named(key)?;
+    office.load(&caller, &key, list.as_bytes())
 }
 
 /// An order, behind which one name more stands in the office's map.
@@ -44,28 +54,41 @@ fn opened(alloc: Global, orders: u32) -> Option<Office<MemKeeper>> {
     Some(office)
 }
 
-fn told(answer: Result<RequestAnswer, OfficeError>) -> &'static str {
+/// What becomes of a list, so that all of its rows are loaded or not.
+fn told(answer: Result<RequestAnswer, OfficeError>, rows: u32) -> &'static str {
     match answer {
         Ok(
             RequestAnswer::Kept {
-                outcome: Outcome::Loaded(40),
+                outcome: Outcome::Loaded(count),
                 ..
             },
-        ) => "loaded",
+        ) if count == rows => "loaded",
         Err(error) if error == MEMORY => "memory",
         _ => "otherwise",
     }
 }
 
-fn print_lists<K: Keeper>(rt: &HostRuntime, office: &mut Office<K>, list: &str) -> io::Result<()> {
+fn print_lists<K: Keeper>(
+    rt: &HostRuntime,
+    office: &mut Office<K>,
+    list: &str,
+    rows: u32,
+) -> io::Result<()> {
     println!(rt; "opened over {}", office.points().len())?;
-    let first = told(load(office, "second", list));
+    let first = told(load(office, "second", list), rows);
     println!(rt; "{first}")?;
-    let again = told(load(office, "third", list));
+    let again = told(load(office, "third", list), rows);
     println!(rt; "{again}, {} known", office.points().len())
 }
 
-pub fn run(rt: &HostRuntime, orders: u32) -> io::Result<()> {
+/// Forty rows, of which twenty are known: all names are put into a map for them.
+pub fn long(rt: &HostRuntime, orders: u32) -> io::Result<()> {
     let mut office = granted(opened(rt.alloc(), orders))?;
-    print_lists(rt, &mut office, list(rt.alloc(), 280, 320)?.as_str())
+    print_lists(rt, &mut office, list(rt.alloc(), 280, 320)?.as_str(), 40)
+}
+
+/// Twelve rows, of which six are known: they are looked for by what there is.
+pub fn short(rt: &HostRuntime, orders: u32) -> io::Result<()> {
+    let mut office = granted(opened(rt.alloc(), orders))?;
+    print_lists(rt, &mut office, list(rt.alloc(), 294, 306)?.as_str(), 12)
 }

@@ -1,11 +1,10 @@
 //! Worked examples, each lived through twice, where a call whose memory is refused is made once more. Under
 //! `rt try --fail-alloc 1..` each allocation in turn is refused, once: both lives end in the same.
 use crate::pace::{granted, refused};
-use crate::serving::office_of;
 use mb_mbap::Counted;
 use office_core::{Office, OfficeError};
 use office_net::{poll_round, serve_one};
-use office_plays::builders::{MEMORY, office_over, shown};
+use office_plays::builders::{MEMORY, office_after, office_over, shown};
 use office_plays::steps::Happens::{self, Arrive, Ask, Load, Open, Order, Send};
 use office_plays::steps::take_happening;
 use office_script::replay;
@@ -51,6 +50,17 @@ const ORDERS: &[Happens] = &[
     Send(1, 2),
 ];
 
+/// A counter with a reading, and a setting.
+const KNOWN: &[Happens] = &[
+    Load(
+        "list",
+        "e,m1,holding,107,uint16,,,counter,\nlim,m1,holding,40,uint16,,,setting,\n",
+    ),
+    Open("roof"),
+    Ask(1, "m1", 0, (3, 107, 1)),
+    Arrive(1, 0, 17, &[3, 2, 0, 80]),
+];
+
 /// Requests for an order, the same again, with another value, out of range, and for a point that is unknown.
 const REQUESTS: &[&str] = &[
     "PUT /callers/ann/orders/k1 HTTP/1.1\r\nContent-Length: 26\r\n\r\n{\"point\":\"lim\",\"value\":80}",
@@ -90,7 +100,7 @@ fn served<K: Keeper>(
 }
 
 fn asked(alloc: Global) -> Result<String, OfficeError> {
-    let mut office = again!(office_of(alloc))?;
+    let mut office = again!(office_after(alloc, MemKeeper::new(alloc), KNOWN))?;
     for request in REQUESTS {
         again!(served(alloc, &mut office, request))?;
     }
