@@ -42,7 +42,8 @@ impl Count {
     /// What it counts, in words.
     fn help(self) -> &'static str {
         match self {
-            Count::Rounds => "Rounds that ended whole.",
+            Count::Rounds =>
+                "Rounds that ended uncut, with or without the readings of a silent device.",
             Count::Cut => "Rounds that were cut.",
             Count::Queries => "Queries that were sent.",
             Count::Readings => "Readings that were recorded.",
@@ -109,7 +110,7 @@ fn push_count(out: &mut String, count: Count, lines: &[LineSeen<'_>]) -> Result<
     Ok(())
 }
 
-/// Adds how long a line's last whole round took, where one did.
+/// Adds how long a line's last round that ended uncut took, where one did.
 fn push_last_round(out: &mut String, line: &LineSeen<'_>) -> Result<(), AllocError>
     ensures { OnOk result (Grows (string_bytes out.old) (string_bytes out.new)) }
 {
@@ -127,7 +128,9 @@ fn push_last_rounds(out: &mut String, lines: &[LineSeen<'_>]) -> Result<(), Allo
 {
     out.push_str("# TYPE kimjolde_line_last_round_seconds gauge\n")?;
     out.push_str("# UNIT kimjolde_line_last_round_seconds seconds\n")?;
-    out.push_str("# HELP kimjolde_line_last_round_seconds How long the last whole round took.\n")?;
+    out.push_str(
+        "# HELP kimjolde_line_last_round_seconds How long the last round that ended uncut took.\n",
+    )?;
     for line in lines {
         push_last_round(out, line)?;
     }

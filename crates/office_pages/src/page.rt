@@ -95,7 +95,7 @@ fn push_number(out: &mut String, number: u64) -> Result<(), AllocError>
     write!(out, "<td class=\"number\">{number}</td>")
 }
 
-/// Adds how long a line's last whole round took.
+/// Adds how long a line's last round that ended uncut took.
 fn push_last_round(out: &mut String, millis: Option<u64>) -> Result<(), AllocError>
     ensures { OnOk result (Grows (string_bytes out.old) (string_bytes out.new)) }
 {

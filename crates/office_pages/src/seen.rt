@@ -13,7 +13,7 @@ pub struct Seen {
 /// What a line's rounds came to since the run began.
 #[derive(Clone, Copy, Debug, PartialEq, Eq, Default)]
 pub struct Tally {
-    /// Rounds that ended whole.
+    /// Rounds that ended uncut, with or without the readings of a silent device.
     pub rounds: u64,
     /// Rounds that the end of their slot, or of their line's connection, cut.
     pub cut: u64,
@@ -22,7 +22,7 @@ pub struct Tally {
     pub exceptions: u64,
     /// Frames that answered nothing, or what was answered.
     pub refused: u64,
-    /// How many milliseconds the last whole round took.
+    /// How many milliseconds the last round that ended uncut took.
     pub last_round: Option<u64>,
 }
 

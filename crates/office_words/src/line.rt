@@ -184,7 +184,7 @@ fn order<'a>(alloc: Global) -> Result<Command<'a>, AllocError>
         command,
         "value",
         "VALUE",
-        "The registers' number, as 80; a negative one follows --, as -- -5",
+        "The registers' number, which no scale changes: 80 sets 8.0 where the scale is -1; a negative one follows --, as -- -5",
     )?;
     Ok(command)
 }

@@ -30,7 +30,7 @@ const METRICS: &str = "HTTP/1.1 200 OK\r\n\
     kimjolde_line_up{line=\"roof\"} 1\n\
     kimjolde_line_up{line=\"cellar\"} 1\n\
     # TYPE kimjolde_line_rounds counter\n\
-    # HELP kimjolde_line_rounds Rounds that ended whole.\n\
+    # HELP kimjolde_line_rounds Rounds that ended uncut, with or without the readings of a silent device.\n\
     kimjolde_line_rounds_total{line=\"roof\"} 2\n\
     kimjolde_line_rounds_total{line=\"cellar\"} 2\n\
     # TYPE kimjolde_line_rounds_cut counter\n\
@@ -55,7 +55,7 @@ const METRICS: &str = "HTTP/1.1 200 OK\r\n\
     kimjolde_line_refused_frames_total{line=\"cellar\"} 0\n\
     # TYPE kimjolde_line_last_round_seconds gauge\n\
     # UNIT kimjolde_line_last_round_seconds seconds\n\
-    # HELP kimjolde_line_last_round_seconds How long the last whole round took.\n\
+    # HELP kimjolde_line_last_round_seconds How long the last round that ended uncut took.\n\
     kimjolde_line_last_round_seconds{line=\"roof\"} 0.000\n\
     kimjolde_line_last_round_seconds{line=\"cellar\"} 0.000\n\
     # TYPE kimjolde_store_faults counter\n\

@@ -12,7 +12,7 @@ const METRICS: &str = "# TYPE kimjolde_line_up gauge
 kimjolde_line_up{line=\"a\\\\b\\\"c\\nö\"} 1
 kimjolde_line_up{line=\"d\"} 0
 # TYPE kimjolde_line_rounds counter
-# HELP kimjolde_line_rounds Rounds that ended whole.
+# HELP kimjolde_line_rounds Rounds that ended uncut, with or without the readings of a silent device.
 kimjolde_line_rounds_total{line=\"a\\\\b\\\"c\\nö\"} 1
 kimjolde_line_rounds_total{line=\"d\"} 0
 # TYPE kimjolde_line_rounds_cut counter
@@ -37,7 +37,7 @@ kimjolde_line_refused_frames_total{line=\"a\\\\b\\\"c\\nö\"} 6
 kimjolde_line_refused_frames_total{line=\"d\"} 0
 # TYPE kimjolde_line_last_round_seconds gauge
 # UNIT kimjolde_line_last_round_seconds seconds
-# HELP kimjolde_line_last_round_seconds How long the last whole round took.
+# HELP kimjolde_line_last_round_seconds How long the last round that ended uncut took.
 kimjolde_line_last_round_seconds{line=\"a\\\\b\\\"c\\nö\"} 7.089
 # TYPE kimjolde_store_faults counter
 # HELP kimjolde_store_faults Calls that the store refused.
