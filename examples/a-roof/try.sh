@@ -30,8 +30,8 @@ play_built() {
 quick() {
     local page=examples/a-roof/roof.md told=$room/told player
     if [[ $# -gt 0 ]]; then
+        [[ -f $1 && -x $1 ]] || stop "$1 is no program"
         player=$(realpath "$1")
-        [[ -f $player && -x $player ]] || stop "$1 is no program"
         (play_built "$page" "$player") > "$told" ||
             { cat "$told" >&2; stop "the office doesn't say what $page has: see above"; }
     else
