@@ -1,11 +1,11 @@
 //! A keeper in memory that refuses some of its calls.
 ghost use Rattle.std.specs.Prelude.{◌≡◌};
 ghost use Rattle.poll_book.specs.Fault.{CountsRefusal, IsCountedOn};
-ghost use Rattle.poll_book.specs.Looks.{CountsRows};
+ghost use Rattle.poll_book.specs.Looks.{CountsShown};
 
 use poll_book::{
-    Caller, Change, Keeper, KeptRequest, Key, MemKeeper, Neighbours, PointRow, Reading, ReadingRow,
-    Setting, SettingRow, StoreFault,
+    Caller, Change, Keeper, KeptRequest, Key, MemKeeper, Neighbours, PointRow, Reading, Setting,
+    SettingRow, ShownReading, StoreFault,
 };
 use std::alloc::Global;
 
@@ -50,13 +50,15 @@ fn count_look(lookups: &mut u64)
     *lookups = lookups.saturating_add(1);
 }
 
-/// An answer, whose rows are counted as look-ups.
+/// An answer, whose readings are counted as look-ups, with one more for their marks.
 fn looked<T>(lookups: &mut u64, answer: Result<Vec<T>, StoreFault>) -> Result<Vec<T>, StoreFault>
     ensures same { result ≡ answer }
-    ensures looked { CountsRows lookups.old lookups.new result }
+    ensures looked { CountsShown lookups.old lookups.new result }
 {
-    if let Ok(rows) = &answer {
-        *lookups = lookups.saturating_add(rows.len() as u64);
+    if let Ok(shown) = &answer
+        && !shown.is_empty()
+    {
+        *lookups = lookups.saturating_add(1).saturating_add(shown.len() as u64);
     }
     answer
 }
@@ -216,7 +218,7 @@ impl Keeper for Refusing {
         point: &PointRow,
         from: u32,
         to: u32,
-    ) -> Result<Vec<ReadingRow>, StoreFault> {
+    ) -> Result<Vec<ShownReading>, StoreFault> {
         self.count()?;
         let answer = self.kept.readings(alloc, point, from, to);
         let told = counted(&mut self.refusals, answer);

@@ -1,7 +1,7 @@
 //! What happens to an office, as a constant can say it, and the office's calls.
 use crate::builders::{MEMORY, event_of};
-use office_core::{Event, EventAnswer, Office, OfficeError, ShownReading};
-use poll_book::{Keeper, OrderState, StoreFault};
+use office_core::{Event, EventAnswer, Office, OfficeError};
+use poll_book::{Keeper, OrderState, ShownReading, StoreFault};
 use std::alloc::Global;
 
 /// What happens to an office, as a constant can say it.

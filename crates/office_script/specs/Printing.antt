@@ -1,11 +1,13 @@
 -- What is printed of answers, and of an office's tables at the end.
-use Rattle.std.specs.Prelude.{ℕ, zero, suc, List, [], ◌∷◌, ◌++◌, Option, Some, None, if◌then◌else◌, flat_map, codes, decimal, pos, unwrap_or}
+use Rattle.std.specs.Prelude.{ℕ, zero, suc, List, [], ◌∷◌, ◌++◌, Option, Some, None, if◌then◌else◌, flat_map, map, codes, decimal, pos, unwrap_or}
 use Rattle.hex.specs.Hex.{encode_upper}
 use Rattle.sunspec.specs.Text.{scaled}
 use Rattle.point_list.specs.declared.point.Point.{Point}
 use Rattle.mb_mbap.specs.Stream.{spelled}
 use Rattle.poll_book.specs.declared.rows.PointRow.{PointRow}
 use Rattle.poll_book.specs.declared.rows.Reading.{Reading}
+use Rattle.poll_book.specs.declared.shown.ShownReading.{ShownReading}
+use Rattle.poll_book.specs.Changes.{as_row}
 use Rattle.poll_book.specs.Tables.{Key, Readings, Sums, Tables, readings_between}
 use Rattle.poll_book.specs.Totals.{is_counter, stored_total}
 use Rattle.poll_book.specs.declared.rows.OrderState.{OrderState}
@@ -87,6 +89,10 @@ reading_text point reading = unwrap_or (point_text point reading.words) (45 ∷ 
 abbrev pub reading_line : PointRow → Key × Reading → List ℕ
 reading_line known row =
     codes "reading " ++ known.point.name ++ 32 ∷ decimal row.0.1 ++ 32 ∷ reading_text known.point row.1 ++ line_end
+
+-- the readings that are shown with their marks
+abbrev pub readings_in : List ShownReading → Readings
+readings_in shown = map (λ (one : ShownReading). as_row one.reading) shown
 
 -- all readings of a point, by slot
 abbrev pub reading_lines : Readings → PointRow → List ℕ

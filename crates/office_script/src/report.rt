@@ -4,14 +4,14 @@ ghost use Rattle.sunspec.specs.Value.{AreRegistersOf};
 ghost use Rattle.sunspec.specs.Text.{scaled};
 ghost use Rattle.poll_book.specs.Orders.{setting_at};
 ghost use Rattle.poll_book.specs.Tables.{readings_between};
-ghost use Rattle.poll_book.specs.Changes.{as_row, as_rows};
+ghost use Rattle.poll_book.specs.Changes.{as_row};
 ghost use Rattle.office_core.specs.Fitting.{AreOf, HasForm, IsFitting, point_text};
-ghost use Rattle.office_script.specs.Printing.{line_end, order_line, order_line_of, order_lines, reading_line, reading_lines, report_of, state_text, total_line};
+ghost use Rattle.office_script.specs.Printing.{line_end, order_line, order_line_of, order_lines, reading_line, reading_lines, readings_in, report_of, state_text, total_line};
 
 use crate::printing::push_number;
 use office_report::{reading_text, total_text};
 use point_list::{Point, Role};
-use poll_book::{Keeper, MemKeeper, Neighbours, OrderState, PointRow, ReadingRow};
+use poll_book::{Keeper, MemKeeper, Neighbours, OrderState, PointRow, ReadingRow, ShownReading};
 use std::alloc::{AllocError, Global};
 
 /// Writes what registers of a point show, or a dash where it is not implemented.
@@ -54,14 +54,14 @@ fn push_rows(
     alloc: Global,
     out: &mut Vec<u8>,
     known: &PointRow,
-    rows: &[ReadingRow],
+    rows: &[ShownReading],
 ) -> Result<(), AllocError>
     requires form { HasForm known.now.point }
-    requires registers { AreOf known.now.point (as_rows rows.now) }
-    ensures { OnOk result (out.new.items ≡ out.old.items ++ flat_map (reading_line known.now) (as_rows rows.now)) }
+    requires registers { AreOf known.now.point (readings_in rows.now) }
+    ensures { OnOk result (out.new.items ≡ out.old.items ++ flat_map (reading_line known.now) (readings_in rows.now)) }
 {
     for row in rows {
-        push_reading(alloc, out, known, row)?;
+        push_reading(alloc, out, known, &row.reading)?;
     }
     Ok(())
 }
