@@ -4,7 +4,7 @@ use Rattle.serde_json.specs.Data.{Data}
 use Rattle.serde_json.specs.Written.{has_float}
 use Rattle.sunspec.specs.Value.{AreRegistersOf}
 use Rattle.point_list.specs.declared.point.Point.{Point}
-use Rattle.office_core.specs.declared.showing.ShownReading.{ShownReading}
+use Rattle.poll_book.specs.declared.shown.ShownReading.{ShownReading}
 use Rattle.office_core.specs.Fitting.{HasForm, point_text}
 use Rattle.office_pages.specs.Moments.{IsTimeText}
 use Rattle.office_pages.specs.PointRows.{IsFitting, IsLast, IsReading, members_of, reading_data, row_data, text_data, total_data}

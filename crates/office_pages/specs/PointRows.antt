@@ -6,7 +6,7 @@ use Rattle.sunspec.specs.Text.{scaled}
 use Rattle.sunspec.specs.Value.{AreRegistersOf}
 use Rattle.point_list.specs.Columns.{role_name}
 use Rattle.point_list.specs.declared.point.Point.{Point}
-use Rattle.office_core.specs.declared.showing.ShownReading.{ShownReading}
+use Rattle.poll_book.specs.declared.shown.ShownReading.{ShownReading}
 use Rattle.office_core.specs.Fitting.{HasForm, point_text}
 use Rattle.office_pages.specs.Moments.{IsTimeText}
 use Rattle.office_pages.specs.declared.seen.Seen.{Seen}

@@ -6,7 +6,7 @@ use Rattle.sunspec.specs.WordOrder.{number_read}
 use Rattle.sunspec.specs.declared.point_type.Content.{Content}
 use Rattle.sunspec.specs.declared.point_type.Content.TheVariants.{Address}
 use Rattle.point_list.specs.declared.point.Point.{Point}
-use Rattle.office_core.specs.declared.showing.ShownReading.{ShownReading}
+use Rattle.poll_book.specs.declared.shown.ShownReading.{ShownReading}
 use Rattle.office_pages.specs.Escapes.{label_text}
 use Rattle.office_pages.specs.declared.seen.Seen.{Seen}
 

@@ -4,8 +4,8 @@ ghost use Rattle.office_pages.specs.Pieces.{Grows};
 
 use crate::escape::escape;
 use crate::words::number_of;
-use office_core::ShownReading;
 use point_list::Point;
+use poll_book::ShownReading;
 use std::alloc::{AllocError, Global};
 use sunspec::scaled_text;
 

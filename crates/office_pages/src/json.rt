@@ -7,9 +7,9 @@ ghost use Rattle.office_pages.specs.PointRows.{AddsRow, IsFitting, IsFittingIfAn
 use crate::moment::{beginning, time_text};
 use crate::seen::Seen;
 use crate::words::role_word;
-use office_core::ShownReading;
 use office_report::{reading_text, total_text};
 use point_list::Point;
+use poll_book::ShownReading;
 use run_beat::Slots;
 use serde_json::{Value, json};
 use std::alloc::{AllocError, Global};

@@ -7,9 +7,9 @@ use crate::moment::beginning;
 use crate::page::{push_cell, push_moment, push_name};
 use crate::seen::Seen;
 use crate::words::role_word;
-use office_core::ShownReading;
 use office_report::{reading_text, total_text};
 use point_list::Point;
+use poll_book::ShownReading;
 use run_beat::Slots;
 use std::alloc::{AllocError, Global};
 

@@ -1,6 +1,6 @@
 //! What is shown: points, lines and orders.
-use office_core::ShownReading;
 use point_list::Point;
+use poll_book::ShownReading;
 
 /// A point as it is shown: its last reading, and of a counter the total.
 #[derive(Debug, Drop)]

@@ -7,7 +7,7 @@ use Rattle.std.proofs.lemmas.Str.{encode_ascii}
 use Rattle.sunspec.specs.Value.{AreRegistersOf}
 use Rattle.point_list.specs.declared.point.Point.{Point}
 use Rattle.office_core.specs.Fitting.{point_text}
-use Rattle.office_core.specs.Showing.{Shown}
+use Rattle.poll_book.specs.Showing.{Shown}
 use Rattle.office_report.specs.Reports.{line_end, mark_text, slot_text, reading_line}
 
 repeat_spaces : (n : ℕ) → repeat n (encode_utf8 32) ≡ replicate n 32

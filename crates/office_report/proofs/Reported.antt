@@ -3,7 +3,7 @@ use Rattle.std.proofs.Common.{◌≡◌, ℕ, suc, Bool, true, false, cond, List
 use Rattle.std.specs.Global.{Global}
 use Rattle.std.specs.Str.{bytes_eq}
 use Rattle.poll_book.specs.declared.rows.PointRow.{PointRow}
-use Rattle.office_core.specs.declared.showing.ShownReading.{ShownReading}
+use Rattle.poll_book.specs.declared.shown.ShownReading.{ShownReading}
 use Rattle.poll_book.specs.declared.keeper.Neighbours.{Ghosts}
 use Rattle.poll_book.specs.Tables.{Readings, Voids, readings_between}
 use Rattle.office_core.specs.declared.office.Office.{Office}
@@ -11,7 +11,7 @@ use Rattle.office_core.specs.Fitting.{AreOf, HasForm, IsFitting}
 use Rattle.office_core.specs.History.{History, kept_readings, points, tables, voids}
 use Rattle.office_core.specs.Loads.{known_named}
 use Rattle.office_core.specs.Offices.{IsAlike, Shows, Stands, readings_at, readings_of, total_at, total_of}
-use Rattle.office_core.specs.Showing.{Shown, as_shown, with_mark, with_marks}
+use Rattle.poll_book.specs.Showing.{Shown, as_shown, with_mark, with_marks}
 use Rattle.office_report.specs.Reports.{report_at, report_lines, report_text, rows_of}
 
 -- what holds of all holds of the one that is found

@@ -3,9 +3,9 @@ use Rattle.std.proofs.Common.{◌<◌, ℕ, zero, suc, List, [], ◌∷◌, leng
 use Rattle.sunspec.specs.Value.{AreRegistersOf}
 use Rattle.point_list.specs.declared.point.Point.{Point}
 use Rattle.poll_book.specs.Changes.{as_row}
-use Rattle.office_core.specs.declared.showing.ShownReading.{ShownReading}
+use Rattle.poll_book.specs.declared.shown.ShownReading.{ShownReading}
 use Rattle.office_core.specs.Fitting.{AreOf}
-use Rattle.office_core.specs.Showing.{as_shown}
+use Rattle.poll_book.specs.Showing.{as_shown}
 use Rattle.office_report.specs.Reports.{rows_of}
 
 -- the registers of one of a point's readings

@@ -10,7 +10,7 @@ use Rattle.office_core.specs.Fitting.{point_text}
 use Rattle.office_core.specs.History.{History, kept_readings, points, voids}
 use Rattle.office_core.specs.Loads.{known_named}
 use Rattle.office_core.specs.Offices.{total_at}
-use Rattle.office_core.specs.Showing.{Shown, with_marks}
+use Rattle.poll_book.specs.Showing.{Shown, with_marks}
 
 abbrev pub line_end : List ℕ
 line_end = 10 ∷ []

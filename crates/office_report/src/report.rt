@@ -2,12 +2,12 @@
 ghost use Rattle.std.specs.Prelude.{◌≡◌, ◌++◌, IfOk, OnOk, flat_map, map, string_bytes};
 ghost use Rattle.sunspec.specs.Value.{AreRegistersOf};
 ghost use Rattle.office_core.specs.Fitting.{AreOf, HasForm};
-ghost use Rattle.office_core.specs.Showing.{as_shown};
+ghost use Rattle.poll_book.specs.Showing.{as_shown};
 ghost use Rattle.office_report.specs.Reports.{mark_text, reading_line, report_lines, rows_of, total_line};
 
 use crate::texts::{reading_text, total_text};
-use office_core::ShownReading;
 use point_list::Point;
+use poll_book::ShownReading;
 use std::alloc::{AllocError, Global};
 
 /// What follows the reading of a voided slot.

@@ -1,9 +1,8 @@
 //! `office_pages`: a point and its last reading, as a row of JSON and as a sample of OpenMetrics.
 use crate::lists::points;
 use anyhow::{Result, bail};
-use office_core::ShownReading;
 use office_pages::{Seen, json, metrics};
-use poll_book::{ReadingRow, Words};
+use poll_book::{ReadingRow, ShownReading, Words};
 use run_beat::Slots;
 use std::alloc::Global;
 

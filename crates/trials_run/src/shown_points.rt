@@ -1,9 +1,8 @@
 //! Points with readings, as tests show them.
 use mb_pdu::Table;
-use office_core::ShownReading;
 use office_pages::Seen;
 use point_list::{Label, Name, Point, Role};
-use poll_book::{ReadingRow, Words};
+use poll_book::{ReadingRow, ShownReading, Words};
 use std::alloc::{AllocError, Global};
 use sunspec::{PointType, WordOrder};
 

@@ -1,7 +1,7 @@
 use Rattle.std.proofs.Common.{◌≡◌, ◌++◌, ◌∷◌, [], ap, ◌∙◌, subst}
 use Rattle.std.specs.Prelude.{OnOk, option_map, string_bytes, unwrap_or}
 use Rattle.std.specs.Fmt.{styled_decimal}
-use Rattle.office_core.specs.Showing.{as_shown}
+use Rattle.poll_book.specs.Showing.{as_shown}
 use Rattle.office_report.proofs.Lines.{line_of, slot_in_ten}
 use Rattle.office_report.proofs.report.push_reading.Goals as goal
 

@@ -1,7 +1,7 @@
 use Rattle.std.proofs.Common.{◌≡◌, ◌++◌, take}
 use Rattle.std.specs.Prelude.{flat_map, map, string_bytes}
 use Rattle.office_core.specs.Fitting.{AreOf, HasForm}
-use Rattle.office_core.specs.Showing.{as_shown}
+use Rattle.poll_book.specs.Showing.{as_shown}
 use Rattle.office_report.specs.Reports.{reading_line, rows_of}
 use Rattle.office_report.proofs.report.push_readings.Given as goal
 

@@ -2,7 +2,7 @@ use Rattle.std.proofs.Common.{ap, ◌∙◌, sym, subst}
 use Rattle.std.specs.Prelude.{map, string_bytes}
 use Rattle.office_core.specs.Fitting.{AreOf}
 use Rattle.office_core.specs.Offices.{Shows, readings_of}
-use Rattle.office_core.specs.Showing.{as_shown}
+use Rattle.poll_book.specs.Showing.{as_shown}
 use Rattle.office_report.specs.Reports.{report_lines, rows_of}
 use Rattle.office_core.proofs.Following.{stands_alike}
 use Rattle.office_report.proofs.Reported.{report_is}
