@@ -3,7 +3,7 @@
 use mb_pdu::{Registers, Table};
 use point_list::{Label, Name, Point, Role};
 use poll_book::{
-    Change, Keeper, MemKeeper, Neighbours, PointRow, ReadingRow, StoreFault, Words, reply_change,
+    Change, Keeper, MemKeeper, Neighbours, PointRow, ShownReading, StoreFault, Words, reply_change,
     void_one,
 };
 use std::alloc::{AllocError, Global};
@@ -68,7 +68,7 @@ pub(crate) fn readings(
     point: &PointRow,
     from: u32,
     to: u32,
-) -> Result<Vec<ReadingRow>, StoreFault> {
+) -> Result<Vec<ShownReading>, StoreFault> {
     keeper.readings(alloc, point, from, to)
 }
 

@@ -94,8 +94,8 @@ fn is_told_again(
     is_reported(trial, office, Ok(true), REPORT)
 }
 
-/// Refuses the call of this number, which a report makes: for the readings, for whether each of the two is voided, or
-/// for the total. Then asks for the report again.
+/// Refuses the call of this number, which a report makes: for the readings with their marks, or for the total. Then
+/// asks for the report again.
 fn is_refused(trial: &Trial<'_>, at: u32, fault: StoreFault) -> Result<(), OfficeError> {
     let alloc = trial.alloc();
     let mut office = read_office(alloc, Refusing::new(alloc, at, fault))?;
@@ -105,7 +105,7 @@ fn is_refused(trial: &Trial<'_>, at: u32, fault: StoreFault) -> Result<(), Offic
 fn stores_refuse(trial: &Trial<'_>) -> Result<(), OfficeError> {
     let before = calls(trial.alloc())?;
     for fault in [StoreFault::Full, StoreFault::Disk, StoreFault::Other] {
-        for at in before..before.saturating_add(4) {
+        for at in before..before.saturating_add(2) {
             is_refused(trial, at, fault)?;
         }
     }

@@ -2,12 +2,12 @@
 use crate::draws::{Chance, SLOTS, draw};
 use crate::events::event_of;
 use crate::model::{Book, Happened, Placed, Row};
-use office_core::{Arrival, EventAnswer, Office, OfficeError, RequestAnswer, ShownReading};
+use office_core::{Arrival, EventAnswer, Office, OfficeError, RequestAnswer};
 use office_plays::builders::office_over;
 use office_plays::steps::{last, rows, state, take, total as total_of};
 use office_plays::tables::text_of;
 use point_list::Role;
-use poll_book::{Keeper, MemKeeper, Outcome, PointRow};
+use poll_book::{Keeper, MemKeeper, Outcome, PointRow, ShownReading};
 use std::test::Fail;
 use store_plays::stored;
 use telling::{Trial, twice};

@@ -131,7 +131,7 @@ const CASES: &[(&str, &str, &[Comes])] = &[
     (
         "UPDATE reading SET counted = 0 WHERE point = 1",
         "UPDATE reading SET counted = 1 WHERE point = 1",
-        &[Readings("e"), Voiding],
+        &[Readings("e")],
     ),
     (
         "INSERT INTO void(point, slot) VALUES (1, 1)",
@@ -141,12 +141,12 @@ const CASES: &[(&str, &str, &[Comes])] = &[
     (
         "UPDATE reading SET words = x'FFFF' WHERE point = 1",
         "UPDATE reading SET words = x'0007' WHERE point = 1",
-        &[Readings("e"), Reply],
+        &[Readings("e"), Reply, Voiding],
     ),
     (
         "UPDATE reading SET words = x'00070000' WHERE point = 1",
         "UPDATE reading SET words = x'0007' WHERE point = 1",
-        &[Readings("e"), Reply],
+        &[Readings("e"), Reply, Voiding],
     ),
     (
         "UPDATE reading SET words = x'4142' WHERE point = 3",

@@ -1,7 +1,7 @@
 //! What an office over a database keeps: which databases and sites open, what a stop at each write leaves, also where
 //! tables of version 1 are moved; files that are full, that fail once, and that have a damaged byte or several places
 //! that are drawn; rows that no office writes; readings that are written together; the totals that are stored; voids
-//! behind a change that is refused, and the questions for voids.
+//! behind a change that is refused, the questions for voids, and the look-ups that are counted.
 #![tactic(auto)]
 
 #[cfg(test)]
@@ -12,6 +12,8 @@ mod damage;
 mod disks;
 #[cfg(test)]
 mod drawn_damage;
+#[cfg(test)]
+mod look_ups;
 #[cfg(test)]
 mod migrating;
 #[cfg(test)]

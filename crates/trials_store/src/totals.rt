@@ -165,7 +165,7 @@ fn told_over<K: Keeper + Drop>(alloc: Global, keeper: K) -> Result<String, Offic
 }
 
 const WITHOUT: &str =
-    "Some(90) Some(95) [ReadingRow { point: 1, slot: 2, words: [0, 10], counted: false }] 30";
+    "Some(90) Some(95) [ShownReading { reading: ReadingRow { point: 1, slot: 2, words: [0, 10], counted: false }, voided: true }] 30";
 
 fn without(trial: &Trial<'_>) -> Result<(), OfficeError> {
     let alloc = trial.alloc();

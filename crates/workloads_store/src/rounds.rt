@@ -5,7 +5,7 @@ use mb_mbap::Counted;
 use office_core::{Office, RequestAnswer};
 use office_net::{LineJob, jobs_of, poll_round};
 use office_plays::builders::{HEADER, begun, named};
-use poll_book::{Keeper, PointRow, ReadingRow};
+use poll_book::{Keeper, PointRow, ReadingRow, ShownReading};
 use poll_match::Conn;
 use std::alloc::{AllocError, Global};
 use std::io;
@@ -66,7 +66,7 @@ fn kept_readings<K: Keeper>(
     alloc: Global,
     keeper: &mut K,
     point: &PointRow,
-) -> Option<Vec<ReadingRow>> {
+) -> Option<Vec<ShownReading>> {
     keeper.readings(alloc, point, 0, u32::MAX).ok()
 }
 
@@ -253,8 +253,8 @@ fn add_reading(digest: &mut Digest, reading: &ReadingRow) {
 /// All readings that a keeper has: of a slot that is voided none counts.
 fn add_readings<K: Keeper>(alloc: Global, keeper: &mut K, digest: &mut Digest) -> Option<()> {
     for point in &kept_points(alloc, keeper)? {
-        for reading in &kept_readings(alloc, keeper, point)? {
-            add_reading(digest, reading);
+        for shown in &kept_readings(alloc, keeper, point)? {
+            add_reading(digest, &shown.reading);
         }
     }
     Some(())
