@@ -1,6 +1,6 @@
 -- The elements of a list, one by one.
-use Rattle.std.proofs.Common.{◌≡◌, ◌⊎◌, ◌<◌, ℕ, zero, suc, Bool, true, false, cond, Some, List, [], ◌∷◌, length, get_or, inl, inr, refl, subst, arith}
-use Rattle.std.specs.Prelude.{Contains, find}
+use Rattle.std.proofs.Common.{◌≡◌, ◌⊎◌, ◌<◌, ℕ, zero, suc, Bool, true, false, cond, Option, None, Some, List, [], ◌∷◌, length, get_or, inl, inr, refl, sym, subst, arith}
+use Rattle.std.specs.Prelude.{Contains, IfSome, find}
 
 -- an element is the first or among the others
 pub among : {X : Type 0} (x : X) (xs : List X) (y : X) → Contains (x ∷ xs) y → (x ≡ y) ⊎ Contains xs y
@@ -27,3 +27,8 @@ found_in {X} test (x ∷ xs) y h = by (found_in test xs y) (test x) h
     by : (find test xs ≡ Some y → Contains xs y) → (b : Bool) → cond b (Some x) (find test xs) ≡ Some y → Contains (x ∷ xs) y
     by rest true e = let same : x ≡ y = cc in subst (Contains (x ∷ xs)) same (foremost x xs)
     by rest false e = further x xs y (rest e)
+
+-- and so is one that is found, if one is
+pub one_in : {X : Type 0} (test : X → Bool) (xs : List X) (found : Option X) → found ≡ find test xs → IfSome found (Contains xs)
+one_in test xs None e = tt
+one_in test xs (Some y) e = found_in test xs y (sym e)

@@ -43,6 +43,7 @@ pub mod Messages
 pub mod OfLists
 pub mod Forms
 pub mod OldHistories
+pub mod Names
 pub mod Fitting
 pub mod Voiding
 pub mod ByDevice

@@ -42,8 +42,8 @@ order_so r order empty e = by (type_in r) (subst (λ text. (type_in r then (λ k
     by None f = absurd (none-some order f)
     by (Some kind) f = sym (same_Some Big order f)
 
--- a record that says a point says its order
-point_so : (r : Record) (point : Point) → point_in r ≡ Some point → order_in r ≡ Some point.order
+-- a record that says a point says its name and its order
+pub point_so : (r : Record) (point : Point) → point_in r ≡ Some point → (point.name ≡ field r 0) × (order_in r ≡ Some point.order)
 point_so r point e = by (table_in r) (address_in r) (type_in r) (scale_in r) (role_in r) (roll_in r) (order_in r) e
   where
     said : Table → ℕ → PointType → ℤ → Role → ℕ → WordOrder → Point
@@ -52,9 +52,10 @@ point_so r point e = by (table_in r) (address_in r) (type_in r) (scale_in r) (ro
 
     by : (t : Option Table) (a : Option ℕ) (k : Option PointType) (s : Option ℤ) (o : Option Role) (l : Option ℕ) (w : Option WordOrder)
         → (t then (λ table. a then (λ address. k then (λ kind. s then (λ scale. o then (λ role. l then (λ roll. w then (λ order. Some (said table address kind scale role roll order))))))))
-        ≡ Some point) → w ≡ Some point.order
+        ≡ Some point) → (point.name ≡ field r 0) × (w ≡ Some point.order)
     by (Some table) (Some address) (Some kind) (Some scale) (Some role) (Some roll) (Some order) f =
-        ap (λ (p : Point). Some p.order) (same_Some (said table address kind scale role roll order) point f)
+        let is = same_Some (said table address kind scale role roll order) point f in
+        (sym (ap (λ (p : Point). p.name) is), ap (λ (p : Point). Some p.order) is)
     by None a k s o l w f = absurd (none-some point f)
     by (Some table) None k s o l w f = absurd (none-some point f)
     by (Some table) (Some address) None s o l w f = absurd (none-some point f)
@@ -71,7 +72,7 @@ plain_said : (first : Record) → is_header First first ≡ true → (known : Li
     → fault_below (length first) known names r ≡ None → point_in r ≡ Some point → IsPlain point
 plain_said first header known names r point none at =
     let nine : length first ≡ 9 = eqb-true (length first) 9 (and_parts (eqb (length first) 9) (begins_as_header first) header).0 in
-    order_so r point.order (field_past r 9 (let many : length r ≡ 9 = fields_of (length first) known names r none ∙ nine in omega arith)) (point_so r point at)
+    order_so r point.order (field_past r 9 (let many : length r ≡ 9 = fields_of (length first) known names r none ∙ nine in omega arith)) (point_so r point at).1
 
 pub old_plain : (before : History) → IsOld before → All (λ (known : PointRow). IsPlain known.point) (points before)
 old_plain [] old = All-nil (λ (known : PointRow). IsPlain known.point)

@@ -1,8 +1,12 @@
 -- A number names one point.
-use Rattle.std.proofs.Common.{◌≡◌, ◌<◌, ◌≤◌, ◌+◌, ℕ, zero, suc, List, [], ◌∷◌, length, get_or, refl, sym, ap, ◌∙◌, arith}
-use Rattle.std.specs.Prelude.{Contains}
+use Rattle.std.proofs.Common.{◌≡◌, ◌<◌, ◌≤◌, ◌+◌, ℕ, zero, suc, Bool, true, false, cond, eqb, List, [], ◌∷◌, length, get_or, Some, inl, inr, refl, sym, ap, ◌∙◌, arith}
+use Rattle.std.specs.Prelude.{Contains, slice_get}
+use Rattle.std.proofs.lemmas.Bool.{eq-eqb, eqb-true}
+use Rattle.std.proofs.lemmas.Option.{get_or_from_slice_get, slice_get_within}
 use Rattle.poll_book.specs.declared.rows.PointRow.{PointRow}
 use Rattle.poll_book.specs.Changes.{AreNumbered}
+use Rattle.poll_book.specs.Orders.{point_at}
+use Rattle.office_core.proofs.Elements.{among, in_none}
 
 -- the number of the point at a place
 number_at : (n : ℕ) (xs : List PointRow) (k : ℕ) (d : PointRow) → AreNumbered n xs → k < length xs → (get_or xs k d).number ≡ n + k + 1
@@ -34,3 +38,29 @@ number_in n xs a numbered there =
     let e = number_at n xs there.0 a numbered there.1 in
     let is = ap (λ (r : PointRow). r.number) there.2 in
     let lt = there.1 in (omega arith, omega arith)
+
+-- the number of the point at a place
+pub number_there : (n : ℕ) (xs : List PointRow) (place : ℕ) (a : PointRow) → AreNumbered n xs → slice_get xs place ≡ Some a → a.number ≡ n + place + 1
+number_there n xs place a numbered is =
+    ap (λ (r : PointRow). r.number) (sym (get_or_from_slice_get xs place a a is)) ∙ number_at n xs place a numbered (slice_get_within xs place a is)
+
+-- the point that has a number is the first of it
+pub first_of_number : (n : ℕ) (xs : List PointRow) (a : PointRow) → AreNumbered n xs → Contains xs a → point_at xs a.number ≡ Some a
+first_of_number n [] a numbered there = absurd (in_none a there)
+first_of_number n (x ∷ xs) a numbered there =
+    elim (among x xs a there) [
+      | inl same ↦ by_same (eqb x.number a.number) (eq-eqb x.number a.number (ap (λ (r : PointRow). r.number) same)) same
+      | inr later ↦ by_other (eqb x.number a.number) refl later (first_of_number (n + 1) xs a numbered.1 later)
+    ]
+  where
+    by_same : (b : Bool) → b ≡ true → x ≡ a → cond b (Some x) (point_at xs a.number) ≡ Some a
+    by_same true e same = ap Some same
+    by_same false e same = absurd (cc)
+
+    by_other : (b : Bool) → eqb x.number a.number ≡ b → Contains xs a → point_at xs a.number ≡ Some a → cond b (Some x) (point_at xs a.number) ≡ Some a
+    by_other true e later rest =
+        let same = eqb-true x.number a.number e in
+        let above = (number_in (n + 1) xs a numbered.1 later).0 in
+        let first = numbered.0 in
+        absurd (omega (arith, same, above, first))
+    by_other false e later rest = rest

@@ -1,5 +1,5 @@
 -- Points by their devices.
-use Rattle.std.specs.Prelude.{◌≡◌, ℕ, ◌+◌, ◌≤◌, ⊤, Bool, true, ◌==◌, ◌&&◌, cond, List, [], ◌∷◌, take, filter_map, length, slice_get, Option, Some, None, Vec}
+use Rattle.std.specs.Prelude.{◌≡◌, ℕ, ◌+◌, ◌≤◌, ⊤, Bool, cond, List, [], ◌∷◌, take, filter_map, length, slice_get, Option, Some, None, Vec}
 use Rattle.std.specs.Global.{Global}
 use Rattle.std.specs.BTreeMap.{get}
 use Rattle.std.specs.Borrow.{Bor}
@@ -26,16 +26,9 @@ places_in (Some places) = places.items
 abbrev pub listed : ByDevice → List ℕ → List ℕ
 listed devices device = places_in (get (slice_cmp nat_cmp) devices.places device)
 
--- the points are numbered on from this number
-abbrev pub is_numbered : ℕ → List PointRow → Bool
-is_numbered n [] = true
-is_numbered n (row ∷ known) = (row.number == n) && is_numbered (n + 1) known
-
--- under each name stand the places of the points of that device, of the first so many known ones, which are numbered on
--- from 1 where that is said of them
+-- under each name stand the places of the points of that device, of the first so many known ones
 abbrev pub AreDevicesOf : List PointRow → ByDevice → Type 0
 AreDevicesOf known devices = (devices.count ≤ length known) × ((device : List ℕ) → listed devices device ≡ places_from 0 device (take devices.count known))
-    × (devices.in_order ≡ true → is_numbered 1 (take devices.count known) ≡ true)
 
 -- these are the places of the points of a device, if they are told
 abbrev pub AreTheirs : List PointRow → List ℕ → Option (Bor (List ℕ)) → Type 0

@@ -13,7 +13,6 @@ pub mod Legal
 pub mod Standing
 pub mod Leavings
 pub mod Keeping
-pub mod Showing
 pub mod Offices
 pub mod FirstArrivals
 pub mod KeptRequests
@@ -26,6 +25,7 @@ pub mod Fitting
 pub mod Messages
 pub mod ByDevice
 pub mod ByName
+pub mod ByNumber
 pub mod Lacking
 pub mod Looking
 pub mod Arriving

@@ -8,10 +8,10 @@ use Rattle.poll_book.specs.declared.rows.PointRow.{PointRow}
 use Rattle.poll_book.specs.Totals.{is_counter, last_of, value_after}
 use Rattle.poll_book.specs.Histories.{own}
 use Rattle.poll_book.specs.Tables.{Within, readings_between}
+use Rattle.poll_book.specs.Showing.{Shown, as_shown, with_mark, with_marks}
+use Rattle.poll_book.specs.declared.shown.ShownReading.{ShownReading}
 use Rattle.poll_book.specs.declared.keeper.Neighbours.{Ghosts}
 use Rattle.office_core.specs.declared.office.Office.{Office}
-use Rattle.office_core.specs.declared.showing.ShownReading.{ShownReading}
-use Rattle.office_core.specs.Showing.{Shown, as_shown, with_mark, with_marks}
 use Rattle.office_core.specs.declared.error.OfficeError.{OfficeError}
 use Rattle.office_core.specs.declared.event.Arrival.{Arrival}
 use Rattle.office_core.specs.declared.event.Event.{Event}
@@ -120,7 +120,7 @@ abbrev pub AnswerCaused : (StoreFault → Type 0) → EventAnswer → Type 0
 AnswerCaused cause (answer.Refused e) = IsCaused cause e
 AnswerCaused cause _ = ⊤
 
--- ---- queries by a point's name
+-- ---- queries of a point
 
 abbrev pub readings_at : History → Option PointRow → ℕ → ℕ → Option (List Shown)
 readings_at before None from to = None
@@ -152,13 +152,10 @@ total_at before (Some known) = if is_counter known.point.role then Some (total b
 abbrev pub total_of : History → List ℕ → Option ℕ
 total_of before name = total_at before (known_named (points before) name)
 
+-- the value of the nearest counted reading of a known counter after a slot
 abbrev pub value_after_at : History → Option PointRow → ℕ → Option ℕ
 value_after_at before None slot = None
 value_after_at before (Some known) slot = if is_counter known.point.role then value_after known slot (kept_readings before) else None
-
--- the value of the nearest counted reading of a known counter after a slot
-abbrev pub value_after_of : History → List ℕ → ℕ → Option ℕ
-value_after_of before name slot = value_after_at before (known_named (points before) name) slot
 
 -- ---- queries by an order's number
 

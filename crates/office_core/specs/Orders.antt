@@ -114,9 +114,13 @@ writing site known table number = writing_of (setting_at table number) site know
 
 -- ---- what settles an order
 
--- an exception with code 5 (acknowledge) or 6 (server device busy) settles nothing, any other refuses the order
+-- the device says that it took a request and isn't done with it: acknowledge (5) or server device busy (6)
+abbrev pub is_busy : ℕ → Bool
+is_busy code = code == 5 || code == 6
+
+-- such an exception settles nothing, any other refuses the order
 abbrev pub state_after : ℕ → Option OrderState
-state_after code = if code == 5 || code == 6 then None else Some (RefusedBy code)
+state_after code = if is_busy code then None else Some (RefusedBy code)
 
 -- how an order stands after a unit that answers its query, if the unit settles it
 abbrev pub state_by : Writing → List ℕ → Option OrderState

@@ -56,15 +56,22 @@ fn bring_readings<K: Keeper>(
     }
 }
 
-/// How an order stands after an exception, if the exception settles it: acknowledge (5) and server
-/// device busy (6) leave it waiting (Modbus Application Protocol V1.1b3, section 7).
+/// Whether an exception of this code says that a device took a request and isn't done with it: acknowledge (5) or server
+/// device busy (6). An order that is answered so waits on (Modbus Application Protocol V1.1b3, section 7).
+pub fn is_busy(code: u8) -> bool
+    ensures { result ≡ orders.is_busy code }
+{
+    matches!(code, 5 | 6)
+}
+
+/// How an order stands after an exception, if the exception settles it.
 fn state_after(code: u8) -> Option<OrderState>
     ensures { result ≡ orders.state_after code }
 {
-    match code {
-        5 | 6 => None,
-        _ => Some(OrderState::Refused(code)),
+    if is_busy(code) {
+        return None;
     }
+    Some(OrderState::Refused(code))
 }
 
 fn reply_state(reply: &Reply) -> Option<OrderState>

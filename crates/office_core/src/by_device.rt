@@ -1,6 +1,5 @@
 //! Known points by their devices.
-ghost use Rattle.std.specs.List.{position};
-ghost use Rattle.std.specs.Prelude.{◌≡◌, ◌≤◌, ◌<◌, ◌+◌, ◌++◌, ◌∷◌, ◌==◌, ◌&&◌, [], cond, List, ℕ, IfSome, OnOk, OnErr, length};
+ghost use Rattle.std.specs.Prelude.{◌≡◌, ◌≤◌, ◌++◌, ◌∷◌, [], cond, List, ℕ, OnOk, OnErr, length};
 ghost use Rattle.std.specs.Str.{bytes_eq};
 ghost use Rattle.poll_book.specs.declared.rows.PointRow.{PointRow};
 ghost use Rattle.point_list.specs.Lists.{point_limit};
@@ -19,17 +18,7 @@ const FEW: usize = 64;
 pub(crate) struct ByDevice {
     alloc: Global,
     count: usize,
-    // Whether these points are numbered on from 1, as an office numbers them.
-    in_order: bool,
     places: BTreeMap<Label, Vec<u32>>,
-}
-
-/// Whether points that are numbered on, or aren't, are so with one more behind so many.
-fn goes_on(in_order: bool, number: u32, count: usize) -> bool
-    requires { count ≤ point_limit }
-    ensures { result ≡ (in_order && number == count + 1) }
-{
-    in_order && number as usize == count + 1
 }
 
 impl ByDevice {
@@ -40,7 +29,6 @@ impl ByDevice {
         ByDevice {
             alloc,
             count: 0,
-            in_order: true,
             places: BTreeMap::new(alloc),
         }
     }
@@ -48,7 +36,6 @@ impl ByDevice {
     /// Puts a place behind those of a device. Without memory for it all stays.
     fn put(&mut self, device: Label, place: u32) -> Result<(), AllocError>
         ensures count { self.new.count ≡ self.old.count }
-        ensures in_order { self.new.in_order ≡ self.old.in_order }
         ensures put { OnOk result ((other : List ℕ) → listed self.new other ≡ cond (bytes_eq device other) (listed self.old other ++ place ∷ []) (listed self.old other)) }
         ensures err { OnErr result ((other : List ℕ) → listed self.new other ≡ listed self.old other) }
     {
@@ -77,7 +64,6 @@ impl ByDevice {
             let Ok(()) = self.put(row.point.device, self.count as u32) else {
                 return;
             };
-            self.in_order = goes_on(self.in_order, row.number, self.count);
             self.count += 1;
         }
     }
@@ -91,21 +77,6 @@ impl ByDevice {
         if known.len() > FEW {
             self.catch_up(known, 1);
         }
-    }
-
-    /// The place of the first known point of a number. It is looked for one by one where the points aren't known to be
-    /// numbered on.
-    pub(crate) fn place_numbered(&self, known: &[PointRow], number: u32) -> Option<usize>
-        requires { AreDevicesOf known.now self.now }
-        ensures { result ≡ position (λ row. row.number == number) known.now }
-    {
-        if !self.in_order || self.count < known.len() {
-            return known.iter().position(|row| row.number == number);
-        }
-        if number == 0 || number as usize > known.len() {
-            return None;
-        }
-        Some(number as usize - 1)
     }
 
     /// The places of the points of a device, where all known points stand in it and it pays to go through these alone:

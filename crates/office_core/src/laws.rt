@@ -1,6 +1,6 @@
 //! Laws of the definitions alone.
 
-ghost use Rattle.std.specs.Prelude.{[], ◌≡◌, ◌⊎◌, ◌↔◌, ◌≤◌, ℕ, ◌+◌, ◌*◌, All, Contains, false, List, ◌++◌, length, Some, IsSome};
+ghost use Rattle.std.specs.Prelude.{[], ◌≡◌, ◌⊎◌, ◌↔◌, ◌≤◌, ℕ, ◌+◌, ◌*◌, All, Contains, false, List, ◌++◌, length, Some, IsSome, slice_get};
 ghost use Rattle.sunspec.specs.declared.word_order.WordOrder.TheVariants as WordOrder;
 ghost use Rattle.read_planner.specs.Place.{CanBeRead};
 ghost use Rattle.poll_book.specs.declared.requests.KeptRequest.{KeptRequest};
@@ -9,7 +9,7 @@ ghost use Rattle.poll_book.specs.declared.rows.OrderState.TheVariants.{Waiting};
 ghost use Rattle.poll_book.specs.declared.rows.PointRow.{PointRow};
 ghost use Rattle.poll_book.specs.declared.rows.Reading.{Reading};
 ghost use Rattle.poll_book.specs.declared.rows.Setting.{Setting};
-ghost use Rattle.poll_book.specs.Orders.{is_waiting, setting_at, last_order};
+ghost use Rattle.poll_book.specs.Orders.{is_waiting, point_at, setting_at, last_order};
 ghost use Rattle.poll_book.specs.Requests.{RequestKey, request_at};
 ghost use Rattle.poll_book.specs.Tables.{Tables, reading_at};
 ghost use Rattle.office_core.specs.declared.event.Event.{Event};
@@ -18,6 +18,7 @@ ghost use Rattle.office_core.specs.Fitting.{IsFitting};
 ghost use Rattle.office_core.specs.History.{Happening, History, after, points, readings, settings, requests, tables, total, voids};
 ghost use Rattle.office_core.specs.Leavings.{IsOfRefused, LeftBy, happened};
 ghost use Rattle.office_core.specs.Legal.{Legal, MayHappen};
+ghost use Rattle.office_core.specs.Loads.{known_named};
 ghost use Rattle.office_core.specs.Messages.{IsMessage, happening_of};
 ghost use Rattle.office_core.specs.Queries.{Writing};
 ghost use Rattle.office_core.specs.Standing.{Sees};
@@ -152,4 +153,15 @@ pub fn crash_leavings()
 /// The points that were accepted can be read: each ends by the last address.
 pub fn readable_points()
     ensures { (before : History) → Legal before → All (λ known. CanBeRead known.point) (points before) }
+{}
+
+/// Each known point is the one of its number and the one of its name, and the first has number 1. So who asks by the
+/// number of a row is told what is told by its name.
+pub fn numbered_points()
+    ensures numbers { (before : History) (place : ℕ) (known : PointRow) → slice_get (points before) place ≡ Some known
+        → known.number ≡ place + 1 }
+    ensures numbered { (before : History) (known : PointRow) → Contains (points before) known
+        → point_at (points before) known.number ≡ Some known }
+    ensures named { (before : History) (known : PointRow) → Contains (points before) known
+        → known_named (points before) known.point.name ≡ Some known }
 {}

@@ -7,6 +7,7 @@
 mod arrival;
 mod by_device;
 mod by_name;
+mod by_number;
 mod changes;
 mod commit;
 mod cover;
@@ -14,17 +15,18 @@ mod error;
 mod event;
 mod growing;
 mod happening;
+mod judging;
 mod lacking;
 pub mod laws;
+mod limits;
 mod loads;
 mod office;
 mod orders;
 mod requests;
-mod showing;
 mod site;
 mod voids;
 
+pub use arrival::is_busy;
 pub use error::OfficeError;
 pub use event::{Arrival, Event, EventAnswer, RequestAnswer};
 pub use office::Office;
-pub use showing::ShownReading;

@@ -11,12 +11,11 @@ ghost use Rattle.office_core.specs.ByName.{AreNamesOf};
 ghost use Rattle.office_core.specs.Loads as loads;
 
 use crate::by_name::ByName;
-use point_list::{ListError, ListFault, MOST_POINTS, Point, Site, is_same_name, read_points};
+use point_list::{
+    ListError, ListFault, MOST_POINTS, Point, SEARCHES_OF_A_SORT, Site, is_same_name, read_points,
+};
 use poll_book::{Outcome, PointRow, Reason, RequestFault, StoreFault};
 use std::alloc::{AllocError, Global};
-
-/// From so many rows of a list on a sort of the known names costs less than a search for each of its names.
-const SEARCHES_OF_A_SORT: usize = 16;
 
 fn place_named(known: &[PointRow], name: &[u8]) -> Option<usize>
     ensures { result ≡ position (λ point. bytes_eq point.point.name name.now) known.now }

@@ -1,5 +1,5 @@
 //! The office over any keeper.
-ghost use Rattle.std.specs.Prelude.{All, ◌≡◌, ◌<◌, ◌≤◌, ◌⊎◌, ◌∷◌, ◌+◌, ◌*◌, ℕ, IfOk, IfErr, OnErr, MatchResult, Some, None, length, false, true, option_map};
+ghost use Rattle.std.specs.Prelude.{All, Contains, ◌≡◌, ◌<◌, ◌≤◌, ◌⊎◌, ◌∷◌, ◌+◌, ◌*◌, ℕ, IfOk, IfErr, IfSome, OnErr, MatchResult, Some, None, length, false, true, option_map};
 ghost use Rattle.poll_book.specs.Fault.{Accounts, HasCause};
 ghost use Rattle.poll_book.specs.Looks.{IsRaisedAtMost};
 ghost use Rattle.poll_book.specs.Tables.{Tables, Within};
@@ -8,9 +8,8 @@ ghost use Rattle.point_list.specs.Lists.{point_limit};
 ghost use Rattle.point_list.specs.Sites.{IsSound};
 ghost use Rattle.office_core.specs.ByDevice.{AreDevicesOf};
 ghost use Rattle.office_core.specs.ByName.{AreNamesOf};
-ghost use Rattle.office_core.specs.Sites as sites;
+ghost use Rattle.office_core.specs.ByNumber.{AreNumbersOf};
 ghost use Rattle.office_core.specs.Sites.{has_devices};
-ghost use Rattle.office_core.specs.Cover.{is_readable};
 ghost use Rattle.office_core.specs.History as history;
 ghost use Rattle.office_core.specs.Loads as loads;
 ghost use Rattle.office_core.specs.Standing.{Closes, Goes, Runs, is_refusal};
@@ -18,57 +17,28 @@ ghost use Rattle.office_core.specs.Standing.{Closes, Goes, Runs, is_refusal};
 use crate::arrival::keep_brought;
 use crate::by_device::ByDevice;
 use crate::by_name::ByName;
+use crate::by_number::ByNumber;
 use crate::changes::{connection_change, request_change, with_request};
 use crate::commit::{commit, write};
-use crate::cover::is_readable;
 use crate::error::OfficeError;
 use crate::event::{Arrival, Event, EventAnswer, RequestAnswer};
 use crate::growing::{add_points, follow_behind, take_names};
+use crate::judging::judge_ask;
 use crate::lacking::some_lacks;
 use crate::loads::{Judged, judge_list};
 use crate::orders::{judge_order, judge_send};
 use crate::requests::{list_again, list_row, order_again, order_row, void_again, void_row};
-use crate::showing::{ShownReading, shown};
-use crate::site::{Target, find_target, has_devices, line_place};
+use crate::site::{has_devices, line_place};
 use crate::voids::judge_void;
 use mb_mbap::Frame;
 use mb_pdu::Reply;
 use point_list::{MOST_POINTS, Role, Site};
-use poll_book::{Caller, Keeper, KeptRequest, Key, OrderState, PointRow, SettingRow, StoreFault};
+use poll_book::{
+    Caller, Keeper, KeptRequest, Key, OrderState, PointRow, SettingRow, ShownReading, StoreFault,
+};
 use poll_match::{Asked, Conn, Matcher};
 use read_planner::Read;
 use std::alloc::{AllocError, Global};
-
-/// The device to ask, or the first refusal that holds, but for that of a connection that made all
-/// its queries.
-fn judge_ask(
-    site: &Site,
-    known: &[PointRow],
-    devices: &ByDevice,
-    line: Option<u16>,
-    device: &str,
-    read: &Read,
-) -> Result<Target, OfficeError>
-    requires sound { IsSound site.now }
-    requires devices { AreDevicesOf known.now devices.now }
-    ensures { MatchResult result
-        (λ to. (line ≡ Some to.line) × (sites.target site.now device.now ≡ Some to) × (is_readable known.now device.now read.now ≡ true))
-        (λ e. (made : ℕ) → history.ask_fault line site.now known.now made device.now read.now ≡ Some e) }
-{
-    let Some(line) = line else {
-        return Err(OfficeError::NoConnection);
-    };
-    let Some(to) = find_target(site, device) else {
-        return Err(OfficeError::WrongLine);
-    };
-    if to.line != line {
-        return Err(OfficeError::WrongLine);
-    }
-    if !is_readable(known, devices, device.as_bytes(), read) {
-        return Err(OfficeError::NoRead);
-    }
-    Ok(to)
-}
 
 /// The number of the last connection: the keeper's, but never less than one that is open, whatever
 /// the keeper says.
@@ -123,26 +93,28 @@ pub struct Office<K: Keeper> {
     points: Vec<PointRow>,
     by_device: ByDevice,
     by_name: ByName,
+    by_number: ByNumber,
     matcher: Matcher,
     alloc: Global,
     ghost few: { length points.items ≤ point_limit },
     ghost devices: { AreDevicesOf points.items by_device },
     ghost names: { AreNamesOf points.items by_name },
     ghost sound: { IsSound site },
+    ghost numbers: { AreNumbersOf points.items by_number },
 }
 
 impl<K: Keeper> Office<K> {
     ghost use Rattle.office_core.specs.History.{History, Restart, tables, points, settings, requests, open_line};
     ghost use Rattle.office_core.specs.Lacking.{lacks};
-    ghost use Rattle.poll_book.specs.Orders.{as_setting, last_order, oldest_waiting};
+    ghost use Rattle.poll_book.specs.Orders.{as_setting, last_order, oldest_waiting, point_at};
     ghost use Rattle.office_core.specs.Errors.{IsCaused, IsOfStore, is_of_store};
     ghost use Rattle.poll_match.specs.Window.{KeepsQuery, held};
     ghost use Rattle.mb_mbap.specs.declared.frame.Frame.{Frame as AFrame};
     ghost use Rattle.office_core.specs.Arriving.{IsAnswered};
     ghost use Rattle.office_core.specs.Looking.{covered_of};
     ghost use Rattle.office_core.specs.Queries.{Answers};
-    ghost use Rattle.office_core.specs.Showing.{as_shown};
-    ghost use Rattle.office_core.specs.Offices.{AccountsFor, AnswerCaused, CauseFrom, CountedFrom, Counts, IsAlike, LeavesRun, LeavesSo, LeavesUnused, OnlyAsked, Shows, Stands, StandsUnused, arrived, asked_so, keeper_of, last_reading_of, opened, order_state_of, points_of, readings_of, site_of, told_so, total_of, value_after_of};
+    ghost use Rattle.poll_book.specs.Showing.{as_shown};
+    ghost use Rattle.office_core.specs.Offices.{AccountsFor, AnswerCaused, CauseFrom, CountedFrom, Counts, IsAlike, LeavesRun, LeavesSo, LeavesUnused, OnlyAsked, Shows, Stands, StandsUnused, arrived, asked_so, keeper_of, last_reading_at, last_reading_of, opened, order_state_of, points_of, readings_at, readings_of, site_of, told_so, total_at, total_of, value_after_at};
 
     /// An office over what a keeper holds, with no connection open. A keeper that can't be read is
     /// given back with `Store`, and one with a point whose device isn't in the site with
@@ -169,12 +141,15 @@ impl<K: Keeper> Office<K> {
         if points.len() > MOST_POINTS {
             return Err((OfficeError::Store(StoreFault::Other), keeper));
         }
+        let mut by_number = ByNumber::new();
+        by_number.catch_up(&points);
         Ok(Office {
             keeper,
             site,
             points,
             by_device: ByDevice::new(alloc),
             by_name: ByName::new(alloc),
+            by_number,
             matcher: Matcher::new(alloc),
             alloc,
         })
@@ -231,6 +206,7 @@ impl<K: Keeper> Office<K> {
             &mut self.points,
             &mut self.by_device,
             &mut self.by_name,
+            &mut self.by_number,
             change.points.as_slice(),
         );
         Ok(RequestAnswer::Kept {
@@ -412,7 +388,7 @@ impl<K: Keeper> Office<K> {
             &mut self.keeper,
             &self.site,
             &self.points,
-            &self.by_device,
+            &self.by_number,
             line,
             number,
         )?;
@@ -537,6 +513,24 @@ impl<K: Keeper> Office<K> {
         Ok(told)
     }
 
+    // The readings of a known point in the slots from the one to the other; `None` where there is no point.
+    fn readings_at(
+        &mut self,
+        known: Option<PointRow>,
+        from: u32,
+        to: u32,
+    ) -> Result<Option<Vec<ShownReading>>, OfficeError>
+        ensures value { K.is_clean (keeper_of self.new) → (before : History) → Stands self.old before
+            → IfOk result (λ rows. Shows (readings_at before known from to) rows) }
+        ensures accounts { AccountsFor IsOfStore self.old self.new result }
+        ensures asked { OnlyAsked self.old self.new }
+    {
+        let Some(row) = known else {
+            return Ok(None);
+        };
+        Ok(Some(self.keeper.readings(self.alloc, &row, from, to)?))
+    }
+
     /// The readings of a point in the slots `from` to `to`, by slot, each with whether its slot is voided;
     /// `None` for an unknown point.
     pub fn readings(
@@ -550,11 +544,43 @@ impl<K: Keeper> Office<K> {
         ensures accounts { AccountsFor IsOfStore self.old self.new result }
         ensures asked { OnlyAsked self.old self.new }
     {
-        let Some(row) = self.by_name.find(&self.points, point.as_bytes()) else {
+        let known = self.point(point);
+        self.readings_at(known, from, to)
+    }
+
+    /// The same of the point of a number.
+    pub fn readings_numbered(
+        &mut self,
+        number: u32,
+        from: u32,
+        to: u32,
+    ) -> Result<Option<Vec<ShownReading>>, OfficeError>
+        ensures value { K.is_clean (keeper_of self.new) → (before : History) → Stands self.old before
+            → IfOk result (λ rows. Shows (readings_at before (point_at (points before) number) from to) rows) }
+        ensures accounts { AccountsFor IsOfStore self.old self.new result }
+        ensures asked { OnlyAsked self.old self.new }
+    {
+        let known = self.point_numbered(number);
+        self.readings_at(known, from, to)
+    }
+
+    // The last reading of a known point; `None` where there is no point, or no reading of it.
+    fn last_at(&mut self, known: Option<PointRow>) -> Result<Option<ShownReading>, OfficeError>
+        ensures value { K.is_clean (keeper_of self.new) → (before : History) → Stands self.old before
+            → IfOk result (λ last. option_map as_shown last ≡ last_reading_at before known) }
+        ensures accounts { AccountsFor IsOfStore self.old self.new result }
+        ensures asked { OnlyAsked self.old self.new }
+    {
+        let Some(row) = known else {
             return Ok(None);
         };
-        let rows = self.keeper.readings(self.alloc, &row, from, to)?;
-        Ok(Some(shown(self.alloc, &mut self.keeper, &row, rows)?))
+        let end = self.keeper.end(&row)?;
+        if end == 0 {
+            return Ok(None);
+        }
+        let slot = (end - 1) as u32;
+        let mut last = self.keeper.readings(self.alloc, &row, slot, slot)?;
+        Ok(last.pop())
     }
 
     /// The last reading of a point, whether it counts or not, with whether its slot is voided; `None` where the point
@@ -565,17 +591,19 @@ impl<K: Keeper> Office<K> {
         ensures accounts { AccountsFor IsOfStore self.old self.new result }
         ensures asked { OnlyAsked self.old self.new }
     {
-        let Some(row) = self.by_name.find(&self.points, point.as_bytes()) else {
-            return Ok(None);
-        };
-        let end = self.keeper.end(&row)?;
-        if end == 0 {
-            return Ok(None);
-        }
-        let slot = (end - 1) as u32;
-        let rows = self.keeper.readings(self.alloc, &row, slot, slot)?;
-        let mut last = shown(self.alloc, &mut self.keeper, &row, rows)?;
-        Ok(last.pop())
+        let known = self.point(point);
+        self.last_at(known)
+    }
+
+    /// The same of the point of a number.
+    pub fn last_numbered(&mut self, number: u32) -> Result<Option<ShownReading>, OfficeError>
+        ensures value { K.is_clean (keeper_of self.new) → (before : History) → Stands self.old before
+            → IfOk result (λ last. option_map as_shown last ≡ last_reading_at before (point_at (points before) number)) }
+        ensures accounts { AccountsFor IsOfStore self.old self.new result }
+        ensures asked { OnlyAsked self.old self.new }
+    {
+        let known = self.point_numbered(number);
+        self.last_at(known)
     }
 
     /// Whether some known point of a device that a read covers has no reading in the slot.
@@ -595,15 +623,14 @@ impl<K: Keeper> Office<K> {
         )?)
     }
 
-    /// How far a counter went by its counted readings; `None` where no counter of this name is
-    /// known.
-    pub fn total(&mut self, point: &str) -> Result<Option<u128>, OfficeError>
+    // How far a known counter went; `None` where there is no point, or no counter.
+    fn total_at(&mut self, known: Option<PointRow>) -> Result<Option<u128>, OfficeError>
         ensures value { K.is_clean (keeper_of self.new) → (before : History) → Stands self.old before
-            → IfOk result (λ sum. sum ≡ total_of before point.now) }
+            → IfSome known (Contains (points before)) → IfOk result (λ sum. sum ≡ total_at before known) }
         ensures accounts { AccountsFor IsOfStore self.old self.new result }
         ensures asked { OnlyAsked self.old self.new }
     {
-        let Some(row) = self.by_name.find(&self.points, point.as_bytes()) else {
+        let Some(row) = known else {
             return Ok(None);
         };
         let Role::Counter = row.point.role else {
@@ -612,15 +639,38 @@ impl<K: Keeper> Office<K> {
         Ok(Some(self.keeper.total(&row)?))
     }
 
-    /// The value of the nearest counted reading of a counter after a slot, of those whose slot isn't voided; `None`
-    /// where there is none, or where no counter of this name is known.
-    pub fn value_after(&mut self, point: &str, slot: u32) -> Result<Option<u64>, OfficeError>
+    /// How far a counter went by its counted readings; `None` where no counter of this name is
+    /// known.
+    pub fn total(&mut self, point: &str) -> Result<Option<u128>, OfficeError>
         ensures value { K.is_clean (keeper_of self.new) → (before : History) → Stands self.old before
-            → IfOk result (λ value. value ≡ value_after_of before point.now slot) }
+            → IfOk result (λ sum. sum ≡ total_of before point.now) }
         ensures accounts { AccountsFor IsOfStore self.old self.new result }
         ensures asked { OnlyAsked self.old self.new }
     {
-        let Some(row) = self.by_name.find(&self.points, point.as_bytes()) else {
+        let known = self.point(point);
+        self.total_at(known)
+    }
+
+    /// The same of the point of a number.
+    pub fn total_numbered(&mut self, number: u32) -> Result<Option<u128>, OfficeError>
+        ensures value { K.is_clean (keeper_of self.new) → (before : History) → Stands self.old before
+            → IfOk result (λ sum. sum ≡ total_at before (point_at (points before) number)) }
+        ensures accounts { AccountsFor IsOfStore self.old self.new result }
+        ensures asked { OnlyAsked self.old self.new }
+    {
+        let known = self.point_numbered(number);
+        self.total_at(known)
+    }
+
+    /// The value of the nearest counted reading of the counter of a number after a slot, of those whose slot isn't
+    /// voided; `None` where there is none, or where no counter of this number is known.
+    pub fn value_after(&mut self, number: u32, slot: u32) -> Result<Option<u64>, OfficeError>
+        ensures value { K.is_clean (keeper_of self.new) → (before : History) → Stands self.old before
+            → IfOk result (λ value. value ≡ value_after_at before (point_at (points before) number) slot) }
+        ensures accounts { AccountsFor IsOfStore self.old self.new result }
+        ensures asked { OnlyAsked self.old self.new }
+    {
+        let Some(row) = self.point_numbered(number) else {
             return Ok(None);
         };
         let Role::Counter = row.point.role else {
@@ -690,6 +740,14 @@ impl<K: Keeper> Office<K> {
         ensures { (before : History) → Stands self.now before → result ≡ loads.known_named (points before) name.now }
     {
         self.by_name.find(&self.points, name.as_bytes())
+    }
+
+    /// The known point of a number. What is told of it by its number is what is told of it by its name
+    /// (`laws::numbered_points`); and it isn't searched for.
+    pub fn point_numbered(&self, number: u32) -> Option<PointRow>
+        ensures { (before : History) → Stands self.now before → result ≡ point_at (points before) number }
+    {
+        self.by_number.find(&self.points, number)
     }
 
     /// The site in force.

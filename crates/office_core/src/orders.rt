@@ -2,19 +2,20 @@
 ghost use Rattle.std.specs.Prelude.{◌≡◌, ◌≤◌, ℕ, IfErr, IfOk, MatchResult, Some, None, true, length};
 ghost use Rattle.poll_match.specs.Queries.{is_valid};
 ghost use Rattle.poll_book.specs.Tables.{Tables, Within};
-ghost use Rattle.poll_book.specs.Orders.{Settings, last_order, oldest_waiting, point_at};
+ghost use Rattle.poll_book.specs.Orders.{Settings, last_order, oldest_waiting};
 ghost use Rattle.poll_book.specs.Fault.{Accounts};
 ghost use Rattle.office_core.specs.Errors.{IsCaused, IsCounted};
-ghost use Rattle.office_core.specs.ByDevice.{AreDevicesOf};
+ghost use Rattle.office_core.specs.ByNumber.{AreNumbersOf};
 ghost use Rattle.office_core.specs.ByName.{AreNamesOf};
 ghost use Rattle.office_core.specs.Loads.{known_named};
 ghost use Rattle.office_core.specs.Orders as order;
 ghost use Rattle.office_core.specs.Registers as registers;
 ghost use Rattle.office_core.specs.Sending.{IsAddressed, IsRefused, IsSent};
 
-use crate::by_device::ByDevice;
 use crate::by_name::ByName;
+use crate::by_number::ByNumber;
 use crate::error::OfficeError;
+use crate::limits::MOST_KEPT;
 use crate::site::{Target, find_target};
 use mb_pdu::Registers;
 use point_list::{Point, Role, Site};
@@ -25,9 +26,6 @@ use poll_book::{
 use poll_match::{Asked, Payload};
 use std::alloc::{AllocError, Global};
 use sunspec::to_ordered;
-
-/// At most so many orders exist.
-const MOST: u32 = 1_000_000;
 
 fn refused(fault: RequestFault) -> (Outcome, Option<SettingRow>)
     ensures outcome { (orders : ℕ) → result.0 ≡ order.ordered orders (order.Refused fault) }
@@ -71,7 +69,7 @@ fn place_order(
     let Some(registers) = registers_for(&known.point, value) else {
         return Ok(refused(RequestFault::OutOfRange));
     };
-    if orders >= MOST {
+    if orders >= MOST_KEPT {
         return Ok(refused(RequestFault::TooManyOrders));
     }
     let number = orders + 1;
@@ -108,32 +106,21 @@ pub(crate) fn judge_order<K: Keeper>(
     Ok(place_order(alloc, orders, known, value)?)
 }
 
-/// The point of a number.
-fn point_numbered(known: &[PointRow], devices: &ByDevice, number: u32) -> Option<PointRow>
-    requires { AreDevicesOf known.now devices.now }
-    ensures { result ≡ point_at known.now number }
-{
-    match devices.place_numbered(known, number) {
-        Some(place) => Some(known[place]),
-        None => None,
-    }
-}
-
 /// The point that is set and its device, where the device is one of the line and the order waits; or
 /// the first refusal that holds.
 fn judge_setting(
     site: &Site,
     known: &[PointRow],
-    devices: &ByDevice,
+    numbers: &ByNumber,
     line: u16,
     setting: &Setting,
 ) -> Result<(PointRow, Target), OfficeError>
     requires few { length site.now.devices ≤ 65536 }
-    requires devices { AreDevicesOf known.now devices.now }
+    requires numbers { AreNumbersOf known.now numbers.now }
     ensures { MatchResult result (IsAddressed site.now known.now line setting.now)
         (λ e. (table : Settings) (made number : ℕ) → order.send_fault_of (Some setting.now) line site.now known.now table made number ≡ Some e) }
 {
-    let Some(row) = point_numbered(known, devices, setting.point) else {
+    let Some(row) = numbers.find(known, setting.point) else {
         return Err(OfficeError::WrongLine);
     };
     let Some(to) = find_target(site, row.point.device.as_str()) else {
@@ -170,12 +157,12 @@ pub(crate) fn judge_send<K: Keeper>(
     keeper: &mut K,
     site: &Site,
     known: &[PointRow],
-    devices: &ByDevice,
+    numbers: &ByNumber,
     line: Option<u16>,
     number: u32,
 ) -> Result<Asked, OfficeError>
     requires few { length site.now.devices ≤ 65536 }
-    requires devices { AreDevicesOf known.now devices.now }
+    requires numbers { AreNumbersOf known.now numbers.now }
     ensures value { K.is_clean keeper.new → (kept : Tables) → K.holds keeper.old kept → known.now ≡ kept.points
         → MatchResult result (λ asked. IsSent line site.now known.now kept.settings number asked)
         (λ e. IsRefused line site.now known.now kept.settings number e) }
@@ -192,7 +179,7 @@ pub(crate) fn judge_send<K: Keeper>(
     let Some(setting) = keeper.setting(number)? else {
         return Err(OfficeError::NoOrder);
     };
-    let (row, to) = judge_setting(site, known, devices, line, &setting)?;
+    let (row, to) = judge_setting(site, known, numbers, line, &setting)?;
     if !is_next(keeper, row.point.device.as_str(), number)? {
         return Err(OfficeError::NotNext);
     }

@@ -10,12 +10,10 @@ ghost use Rattle.office_core.specs.Voids as voiding;
 ghost use Rattle.office_core.specs.Voids.{VoidsIn};
 
 use crate::by_name::ByName;
+use crate::limits::MOST_KEPT;
 use point_list::Role;
 use poll_book::{Change, Keeper, Outcome, PointRow, Reason, RequestFault, StoreFault, void_one};
 use std::alloc::Global;
-
-/// At most so many slots of points are voided.
-const MOST: u64 = 1_000_000;
 
 fn refused(fault: RequestFault) -> Outcome
     ensures { result ≡ voiding.refused_void fault }
@@ -38,7 +36,7 @@ fn is_full<K: Keeper>(keeper: &mut K, known: &PointRow, slot: u32) -> Result<boo
     ensures clean { K.is_clean keeper.new → K.is_clean keeper.old }
 {
     let voids = keeper.voids()?;
-    Ok(voids >= MOST && !keeper.voided(known, slot)?)
+    Ok(voids >= u64::from(MOST_KEPT) && !keeper.voided(known, slot)?)
 }
 
 /// What becomes of a slot of the point of a name that is voided: its outcome, and the change of it.

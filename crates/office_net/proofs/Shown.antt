@@ -12,8 +12,8 @@ use Rattle.office_core.specs.Fitting.{AreOf, HasForm, IsFitting}
 use Rattle.office_core.specs.History.{History, kept_readings, points, tables, voids}
 use Rattle.office_core.specs.Loads.{known_named}
 use Rattle.office_core.specs.Offices.{Shows, readings_at, readings_of}
-use Rattle.office_core.specs.Showing.{as_shown, with_marks}
-use Rattle.office_core.specs.declared.showing.ShownReading.{ShownReading}
+use Rattle.poll_book.specs.Showing.{as_shown, with_marks}
+use Rattle.poll_book.specs.declared.shown.ShownReading.{ShownReading}
 use Rattle.office_http.specs.declared.reading_body.Shown.{Shown}
 use Rattle.office_http.specs.Shown.{shown}
 use Rattle.office_net.specs.Replies.{readings_reply, rows_reply, shown_row}

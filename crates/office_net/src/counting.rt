@@ -9,17 +9,17 @@ ghost use Rattle.office_core.specs.Proceeding.{GoesAlong, Nothing};
 use office_core::{Office, OfficeError};
 use poll_book::Keeper;
 
-/// Whether a counter is counted in some slot behind one.
+/// Whether the counter of a number is counted in some slot behind one.
 fn is_counted_after<K: Keeper>(
     office: &mut Office<K>,
-    point: &str,
+    number: u32,
     slot: u32,
 ) -> Result<bool, OfficeError>
-    ensures value { IfOk result (λ is. Learnt office.old office.new (λ now. is ≡ counting.is_counted_after now point.now slot)) }
+    ensures value { IfOk result (λ is. Learnt office.old office.new (λ now. is ≡ counting.is_counted_after now number slot)) }
     ensures along { GoesAlong Nothing office.old office.new }
     ensures accounts { AccountsFor IsOfStore office.old office.new result }
 {
-    let value = office.value_after(point, slot)?;
+    let value = office.value_after(number, slot)?;
     Ok(value.is_some())
 }
 
@@ -32,18 +32,18 @@ fn between(low: u32, high: u32) -> u32
     low + (high - low) / 2
 }
 
-/// The last slot behind one in which a counter is counted; `None` where it is counted in none, or where no counter of
-/// this name is known. Of a slot that may be, it takes 33 queries of the store at most, and one where it is `None`.
+/// The last slot behind one in which the counter of a number is counted; `None` where it is counted in none, or where no
+/// counter of this number is known. Of a slot that may be, it takes 33 queries of the store at most, and one where it is `None`.
 pub fn last_counted<K: Keeper>(
     office: &mut Office<K>,
-    point: &str,
+    number: u32,
     after: u32,
 ) -> Result<Option<u32>, OfficeError>
-    ensures value { IfOk result (λ last. Learnt office.old office.new (λ now. IsLastCounted now point.now after last)) }
+    ensures value { IfOk result (λ last. Learnt office.old office.new (λ now. IsLastCounted now number after last)) }
     ensures along { GoesAlong Nothing office.old office.new }
     ensures accounts { AccountsFor IsOfStore office.old office.new result }
 {
-    let is_ahead = is_counted_after(office, point, after)?;
+    let is_ahead = is_counted_after(office, number, after)?;
     if !is_ahead || after == u32::MAX {
         return Ok(None);
     }
@@ -51,7 +51,7 @@ pub fn last_counted<K: Keeper>(
     let mut high = u32::MAX;
     while high - low > 1 {
         let middle = between(low, high);
-        let is_later = is_counted_after(office, point, middle)?;
+        let is_later = is_counted_after(office, number, middle)?;
         if is_later {
             low = middle;
         } else {

@@ -3,16 +3,16 @@ ghost use Rattle.std.specs.Prelude.{◌≡◌, [], IfOk, map, string_bytes};
 ghost use Rattle.sunspec.specs.Value.{AreRegistersOf};
 ghost use Rattle.poll_book.specs.Changes.{as_row};
 ghost use Rattle.office_core.specs.Fitting.{AreOf, HasForm};
-ghost use Rattle.office_core.specs.Showing.{as_shown};
+ghost use Rattle.poll_book.specs.Showing.{as_shown};
 ghost use Rattle.office_http.specs.Shown as entries;
 ghost use Rattle.office_report.specs.Reports.{rows_of};
 ghost use Rattle.office_net.specs.Replies.{list_refusal, not_found, order_refusal, request_reply, rows_reply, shown_row};
 
-use office_core::{RequestAnswer, ShownReading};
+use office_core::RequestAnswer;
 use office_http::{Refusal, Shown, answer};
 use office_report::reading_text;
 use point_list::Point;
-use poll_book::{Outcome, ReadingRow, Reason};
+use poll_book::{Outcome, ReadingRow, Reason, ShownReading};
 use std::alloc::{AllocError, Global};
 
 /// To a query of what isn't there.

@@ -59,6 +59,20 @@ pub fn last<K: Keeper>(
     office.last(point)
 }
 
+pub fn total_numbered<K: Keeper>(
+    office: &mut Office<K>,
+    number: u32,
+) -> Result<Option<u128>, OfficeError> {
+    office.total_numbered(number)
+}
+
+pub fn last_numbered<K: Keeper>(
+    office: &mut Office<K>,
+    number: u32,
+) -> Result<Option<ShownReading>, OfficeError> {
+    office.last_numbered(number)
+}
+
 pub fn state<K: Keeper>(
     office: &mut Office<K>,
     number: u32,

@@ -12,8 +12,9 @@ use crate::site::Device;
 use crate::texts::Texts;
 use std::alloc::{AllocError, Global};
 
-/// Sorting the names costs more than so many searches through all of them, also where all end alike.
-const SEARCHES_OF_A_SORT: usize = 16;
+/// To sort names costs more than so many searches through all of them, also where all end alike: from so many names to
+/// look for on it pays to sort those that are looked through.
+pub const SEARCHES_OF_A_SORT: usize = 16;
 
 /// The names of devices that points can have.
 #[derive(Drop)]

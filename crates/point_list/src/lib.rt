@@ -23,6 +23,7 @@ mod site_file;
 mod text;
 mod texts;
 
+pub use device_names::SEARCHES_OF_A_SORT;
 pub use error::{ListError, ListFault};
 pub use items::Items;
 pub use label::{Label, LabelError, is_ascii};

@@ -1,10 +1,8 @@
 -- Pages, part by part.
 use Rattle.std.proofs.Common.{◌≡◌, ◌+◌, arith, inl, inr, suc, Bool, true, false, cond, find, ℕ, List, [], ◌∷◌, ◌++◌, Option, Some, None, refl, sym, ◌∙◌, ap, subst, take, drop, codes, length}
-use Rattle.std.specs.Prelude.{◌≢◌, ◌-◌, ◌≤◌, ◌<◌, IfSome, get_or, slice_get}
+use Rattle.std.specs.Prelude.{◌≢◌, ◌-◌, ◌≤◌, ◌<◌, Contains, IfSome, get_or, slice_get}
 use Rattle.std.proofs.lemmas.List.{get_or-drop, length-drop, take_all, take_more}
 use Rattle.std.specs.Prelude.{option_map}
-use Rattle.std.specs.Str.{bytes_eq}
-use Rattle.std.proofs.lemmas.Slice.Eq.{bytes_eq-Decides}
 use Rattle.std.proofs.lemmas.Option.{get_or_from_slice_get, slice_get_cases, slice_get_within}
 use Rattle.poll_book.specs.declared.rows.PointRow.{PointRow}
 use Rattle.sunspec.specs.Value.{AreRegistersOf}
@@ -16,43 +14,22 @@ use Rattle.poll_book.specs.Totals.{last_of}
 use Rattle.poll_book.proofs.Ends.{last_alone}
 use Rattle.office_core.specs.Fitting.{AreOf, HasForm, IsFitting}
 use Rattle.office_core.specs.History.{History, kept_readings, points, tables, voids}
-use Rattle.office_core.specs.Offices.{last_reading_at}
-use Rattle.office_core.specs.Showing.{Shown, as_shown, with_mark}
-use Rattle.office_core.specs.declared.showing.ShownReading.{ShownReading}
+use Rattle.poll_book.specs.Showing.{Shown, as_shown, with_mark}
+use Rattle.poll_book.specs.declared.shown.ShownReading.{ShownReading}
 use Rattle.office_core.proofs.BySlot.{kept_sorted}
-use Rattle.office_net.proofs.Requested.{found_holds}
 use Rattle.office_pages.specs.PointRows.{IsFittingIfAny}
 use Rattle.office_pages.specs.declared.seen.Seen.{Seen}
-use Rattle.office_core.specs.Loads.{known_named}
 use Rattle.office_http.specs.declared.heard.Page.{Page}
 use Rattle.office_http.specs.declared.heard.Page.TheVariants as page
 use Rattle.run_callers.specs.declared.showing.Part.{Part}
 use Rattle.run_callers.specs.declared.showing.Part.TheVariants.{Top, Orders, Points, Values, Times, Totals}
 use Rattle.run_callers.specs.declared.showing.Showing.{Showing}
-use Rattle.run_callers.specs.Pages.{AddsKnown, AddsPart, AddsPoints, AddsSome, IsOfList, IsOfPoints, IsPart, IsPartOf, IsSeen, later_in_list}
+use Rattle.run_callers.specs.Pages.{AddsPoint, AddsPart, AddsPoints, AddsSome, IsOfList, IsOfPoints, IsPart, IsPartOf, IsSeen, later_in_list}
 
--- ---- a point that is found
+-- ---- a point that is known
 
-test_holds : {X : Type 0} (test : X → Bool) (xs : List X) (x : X) → find test xs ≡ Some x → test x ≡ true
-test_holds {X = X} test [] x is = absurd (cc)
-test_holds {X = X} test (y ∷ ys) x is = by (test y) refl (test_holds test ys x)
-  where
-    by : (b : Bool) → test y ≡ b → (find test ys ≡ Some x → test x ≡ true) → test x ≡ true
-    by true here later =
-        let it : Some y ≡ Some x = subst (λ (b : Bool). cond b (Some y) (find test ys) ≡ Some x) here is in
-        let same : y ≡ x = cc in
-        subst (λ (z : X). test z ≡ true) same here
-    by false here later = later (subst (λ (b : Bool). cond b (Some y) (find test ys) ≡ Some x) here is)
-
-module _ (now : History) (name : List ℕ) (known : PointRow) (named : known_named (points now) name ≡ Some known) where
-  -- it has the name
-  has_name : known.point.name ≡ name
-  has_name = (bytes_eq-Decides known.point.name name).0 (test_holds (λ (row : PointRow). bytes_eq row.point.name name) (points now) known named)
-
-  pub found_by_its_name : known_named (points now) known.point.name ≡ Some known
-  found_by_its_name = subst (λ (some : List ℕ). known_named (points now) some ≡ Some known) (sym has_name) named
-
-  -- so its last reading has the form of its type
+module _ (now : History) (known : PointRow) (there : Contains (points now) known) where
+  -- its last reading has the form of its type
   pub fits_seen : (seen : Seen) → IsFitting (tables now) → IsSeen now known seen → IsFittingIfAny seen.point seen.last
   fits_seen seen fits is = subst (λ (point : Point). IsFittingIfAny point seen.last) (sym is.point) (by seen.last refl)
     where
@@ -60,8 +37,8 @@ module _ (now : History) (name : List ℕ) (known : PointRow) (named : known_nam
       table = kept_readings now
 
       fitting : HasForm known.point × ((from to : ℕ) → AreOf known.point (readings_between known.number from to table))
-      fitting = found_holds (λ (row : PointRow). HasForm row.point × ((from to : ℕ) → AreOf row.point (readings_between row.number from to table)))
-          (λ (row : PointRow). bytes_eq row.point.name name) (points now) known named fits
+      fitting = subst (λ (row : PointRow). HasForm row.point × ((from to : ℕ) → AreOf row.point (readings_between row.number from to table)))
+          there.2 (fits there.0 known there.1)
 
       one : (row : Key × Reading) → last_of (own known.number table) ≡ Some row → AreRegistersOf known.point.kind row.1.words
       one row last =
@@ -84,20 +61,24 @@ module _ (now : History) (name : List ℕ) (known : PointRow) (named : known_nam
       by (Some shown) some = (
         fitting.0,
         of_last shown (last_of (own known.number table)) refl
-            (ap (option_map as_shown) (sym some) ∙ is.last ∙ ap (last_reading_at now) found_by_its_name),
+            (ap (option_map as_shown) (sym some) ∙ is.last),
       )
 
 -- ---- rows
 
 -- one row more
 pub adds_more : (now : History) (seconds : ℕ) (rows : List PointRow) (known : PointRow) (old between new : List ℕ)
-    → AddsPoints now seconds rows old between → AddsKnown now seconds (known_named (points now) known.point.name) between new → AddsPoints now seconds (rows ++ known ∷ []) old new
+    → AddsPoints now seconds rows old between → AddsPoint now seconds known between new → AddsPoints now seconds (rows ++ known ∷ []) old new
 adds_more now seconds [] known old between new so_far adds =
-    (new, subst (λ (text : List ℕ). AddsKnown now seconds (known_named (points now) known.point.name) text new) so_far adds, refl)
+    (new, subst (λ (text : List ℕ). AddsPoint now seconds known text new) so_far adds, refl)
 adds_more now seconds (first ∷ rows) known old between new so_far adds =
     (so_far.0, so_far.1, adds_more now seconds rows known so_far.0 between new so_far.2 adds)
 
 -- ---- places of a list
+
+-- what stands at a place is among the others
+pub stands_there : (all : List PointRow) (at : ℕ) (row : PointRow) → slice_get all at ≡ Some row → Contains all row
+stands_there all at row is = (at, slice_get_within all at row is, get_or_from_slice_get all at row row is)
 
 slice_get_none : (xs : List PointRow) (i : ℕ) → slice_get xs i ≡ None → length xs ≤ i
 slice_get_none xs i none = elim (slice_get_cases xs i).1 as (λ _. length xs ≤ i) [
@@ -108,7 +89,7 @@ slice_get_none xs i none = elim (slice_get_cases xs i).1 as (λ _. length xs ≤
 module _ (now : History) (seconds : ℕ) (all : List PointRow) (next at : ℕ) (behind : next ≤ at) where
   -- a row more from the next one on
   pub list_more : (row : PointRow) (old between new : List ℕ) → slice_get all at ≡ Some row
-      → AddsPoints now seconds (take (at - next) (drop next all)) old between → AddsKnown now seconds (known_named (points now) row.point.name) between new
+      → AddsPoints now seconds (take (at - next) (drop next all)) old between → AddsPoint now seconds row between new
       → AddsPoints now seconds (take (at + 1 - next) (drop next all)) old new
   list_more row old between new is so_far adds =
       let within : at < length all = slice_get_within all at row is in

@@ -2,9 +2,8 @@
 use Rattle.std.specs.Prelude.{◌≡◌, ◌+◌, ℕ, nat_lt, List, [], ◌∷◌, ◌++◌, codes, drop, take, if◌then◌else◌, Option, Some, None, IfSome, option_map}
 use Rattle.poll_book.specs.declared.rows.PointRow.{PointRow}
 use Rattle.office_core.specs.History.{History, points}
-use Rattle.office_core.specs.Loads.{known_named}
-use Rattle.office_core.specs.Offices.{last_reading_of, total_of}
-use Rattle.office_core.specs.Showing.{as_shown}
+use Rattle.office_core.specs.Offices.{last_reading_at, total_at}
+use Rattle.poll_book.specs.Showing.{as_shown}
 use Rattle.office_http.specs.declared.heard.Page.{Page}
 use Rattle.office_http.specs.declared.heard.Page.TheVariants as page
 use Rattle.office_pages.specs.declared.seen.Seen.{Seen}
@@ -19,26 +18,25 @@ IsFirst showing = (showing.part ≡ Top) × (showing.next ≡ 0)
 
 -- ---- the points, as JSON
 
--- a known point with its last reading and its total
+-- a point with its last reading and its total
 pub record IsSeen (now : History) (known : PointRow) (seen : Seen) : Type 0 where
   pub point : seen.point ≡ known.point
-  pub last : option_map as_shown seen.last ≡ last_reading_of now known.point.name
-  pub total : seen.total ≡ total_of now known.point.name
+  pub last : option_map as_shown seen.last ≡ last_reading_at now (Some known)
+  pub total : seen.total ≡ total_at now (Some known)
 
 -- rows but the first stand behind a comma
 abbrev pub comma : PointRow → List ℕ
 comma known = if nat_lt 1 known.number then codes "," else []
 
--- the row of a known point follows a text
-abbrev pub AddsKnown : History → ℕ → Option PointRow → List ℕ → List ℕ → Type 0
-AddsKnown now seconds None old new = new ≡ old
-AddsKnown now seconds (Some known) old new = (seen : Seen) × IsSeen now known seen × AddsRow seconds seen (old ++ comma known) new
+-- the row of a point follows a text
+abbrev pub AddsPoint : History → ℕ → PointRow → List ℕ → List ℕ → Type 0
+AddsPoint now seconds known old new = (seen : Seen) × IsSeen now known seen × AddsRow seconds seen (old ++ comma known) new
 
--- the rows of the points of these names follow a text
+-- the rows of these points follow a text
 abbrev pub AddsPoints : History → ℕ → List PointRow → List ℕ → List ℕ → Type 0
 AddsPoints now seconds [] old new = new ≡ old
 AddsPoints now seconds (known ∷ more) old new =
-    (between : List ℕ) × AddsKnown now seconds (known_named (points now) known.point.name) old between × AddsPoints now seconds more between new
+    (between : List ℕ) × AddsPoint now seconds known old between × AddsPoints now seconds more between new
 
 -- the rows of so many points from the next one on; or of all that are left, and the end
 abbrev pub IsOfPoints : History → Showing → List ℕ → Option Showing → Type 0

@@ -1,11 +1,10 @@
 //! Pages, of which a part is shown a turn, so that nothing waits for them.
-ghost use Rattle.std.specs.Prelude.{◌≡◌, ◌≢◌, ◌++◌, codes, IfOk, IfSome, OnOk, string_bytes};
+ghost use Rattle.std.specs.Prelude.{◌≡◌, ◌≢◌, ◌++◌, codes, Contains, IfOk, IfSome, OnOk, string_bytes};
 ghost use Rattle.office_core.specs.Following.{Follows};
 ghost use Rattle.office_core.specs.History.{History, points};
-ghost use Rattle.office_core.specs.Loads.{known_named};
 ghost use Rattle.office_core.specs.Offices.{keeper_of};
 ghost use Rattle.office_core.specs.Proceeding.{GoesAlong, Nothing};
-ghost use Rattle.run_callers.specs.Pages.{AddsKnown, AddsPart, AddsSome, IsFirst, IsPart, comma, later_in_list};
+ghost use Rattle.run_callers.specs.Pages.{AddsPart, AddsPoint, AddsSome, IsFirst, IsPart, comma, later_in_list};
 
 use crate::looks::{curve, order_on, point_at, point_of, with_both, with_last, with_total};
 use office_core::Office;
@@ -277,19 +276,16 @@ impl Showing {
         &self,
         alloc: Global,
         office: &mut Office<K>,
-        row: &PointRow,
+        known: &PointRow,
         text: &mut String,
     ) -> Result<(), StoreFault>
         ensures along { GoesAlong Nothing office.old office.new }
         ensures adds { K.is_clean (keeper_of office.new) → (now : History) → Follows office.old now
-            → OnOk result (AddsKnown now self.now.slots (known_named (points now) row.now.point.name) (string_bytes text.old) (string_bytes text.new)) }
+            → Contains (points now) known.now → OnOk result (AddsPoint now self.now.slots known.now (string_bytes text.old) (string_bytes text.new)) }
     {
         fitting_tables();
-        let Some(known) = office.point(row.point.name.as_str()) else {
-            return Ok(());
-        };
-        push_comma(&known, text)?;
-        let seen = with_both(office, &known)?;
+        push_comma(known, text)?;
+        let seen = with_both(office, known)?;
         json::push_point(alloc, text, &seen, self.slots)?;
         Ok(())
     }

@@ -1,5 +1,6 @@
 -- How far a device is in a round.
 use Rattle.std.specs.Prelude.{ℕ, Bool, true, false, ◌==◌, ◌&&◌, ◌||◌, nat_lt, if◌then◌else◌, Option, Some, None}
+use Rattle.office_core.specs.Orders.{is_busy}
 use Rattle.office_core.specs.declared.event.Arrival.{Arrival}
 use Rattle.office_core.specs.declared.event.Arrival.TheVariants.{Excepted}
 use Rattle.run_lines.specs.declared.share.Orders.{Orders}
@@ -46,7 +47,7 @@ is_left reads share = share.is_passed && (is_next share.orders || nat_lt share.r
 -- its orders once one that was sent is answered, and that is kept; or once the store refused it
 abbrev pub after : Option Arrival → Orders
 after None = Ended
-after (Some (Excepted code)) = if code == 5 then Ended else if code == 6 then Ended else Next
+after (Some (Excepted code)) = if is_busy code then Ended else Next
 after (Some _) = Next
 
 abbrev pub when_sent : Orders → Orders → Orders

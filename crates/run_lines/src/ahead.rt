@@ -38,7 +38,7 @@ fn last_slot<K: Keeper>(
 ) -> Result<Option<u32>, OfficeError>
     ensures { GoesAlong Nothing office.old office.new }
 {
-    last_counted(office, counter.point.name.as_str(), after)
+    last_counted(office, counter.number, after)
 }
 
 /// The point in a place, if it is a counter of one of these devices.
@@ -94,8 +94,7 @@ fn farthest<K: Keeper>(
 
 /// The name of the point of a number.
 fn name_of<K: Keeper>(office: &Office<K>, number: u32) -> Option<Name> {
-    let row = office.points().iter().find(|row| row.number == number)?;
-    Some(row.point.name)
+    Some(office.point_numbered(number)?.point.name)
 }
 
 impl Outlook {

@@ -3,7 +3,7 @@ ghost use Rattle.std.specs.Prelude.{◌≡◌};
 ghost use Rattle.run_lines.specs.Shares as shares;
 ghost use Rattle.run_lines.specs.declared.share.Orders.TheVariants as orders;
 
-use office_core::Arrival;
+use office_core::{Arrival, is_busy};
 
 /// How a device's orders stand in a round.
 #[derive(Clone, Copy, Debug, PartialEq, Eq)]
@@ -100,7 +100,8 @@ impl Share {
     {
         if matches!(self.orders, Orders::Next | Orders::Sent) {
             self.orders = match arrival {
-                None | Some(Arrival::Excepted(5 | 6)) => Orders::Ended,
+                None => Orders::Ended,
+                Some(Arrival::Excepted(code)) if is_busy(code) => Orders::Ended,
                 _ => Orders::Next,
             };
         }

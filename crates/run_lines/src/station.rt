@@ -5,7 +5,7 @@ ghost use Rattle.run_lines.specs.Devices.{devices_in, is_named, is_under};
 
 use crate::event::{Device as Told, Event};
 use crate::journal::Journal;
-use office_core::Arrival;
+use office_core::{Arrival, is_busy};
 use office_net::reads_of;
 use point_list::{Device, Site, Text};
 use poll_book::PointRow;
@@ -121,6 +121,7 @@ impl Stations {
         Ok(())
     }
 
+    /// The devices, in the site's order.
     pub fn as_slice(&self) -> &[Station]
         ensures { result.now ≡ devices_in self.now }
     {
@@ -186,7 +187,7 @@ impl Stations {
     pub fn tell_ordered(&self, at: usize, is_order: bool, arrival: Arrival, journal: &mut Journal) {
         let told = match arrival {
             Arrival::Settled => Told::Obeyed,
-            Arrival::Excepted(code) if is_order && !matches!(code, 5 | 6) => Told::Refused(code),
+            Arrival::Excepted(code) if is_order && !is_busy(code) => Told::Refused(code),
             Arrival::Recorded(_) | Arrival::Excepted(_) => return,
         };
         if let Some(station) = self.all.get(at) {

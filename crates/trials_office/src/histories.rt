@@ -4,7 +4,9 @@ use crate::events::event_of;
 use crate::model::{Book, Happened, Placed, Row};
 use office_core::{Arrival, EventAnswer, Office, OfficeError, RequestAnswer};
 use office_plays::builders::office_over;
-use office_plays::steps::{last, rows, state, take, total as total_of};
+use office_plays::steps::{
+    last, last_numbered, rows, state, take, total as total_of, total_numbered,
+};
 use office_plays::tables::text_of;
 use point_list::Role;
 use poll_book::{Keeper, MemKeeper, Outcome, PointRow, ShownReading};
@@ -70,6 +72,21 @@ fn is_kept<K: Keeper>(
     Ok(())
 }
 
+/// Expects that a known point is told by its number as by its name.
+fn is_told_by_number<K: Keeper>(
+    trial: &Trial<'_>,
+    office: &mut Office<K>,
+    number: u32,
+    row: &Row,
+) -> Result<(), OfficeError> {
+    let told = last_numbered(office, number)?;
+    let named = last(office, row.name)?;
+    trial.told(&number, &slot_of(told.as_ref()), &slot_of(named.as_ref()));
+    let total = total_numbered(office, number)?;
+    trial.told(&number, &total, &total_of(office, row.name)?);
+    Ok(())
+}
+
 /// Expects of each known point that what is stored of it is the plain sum of its steps.
 fn are_totals<K: Keeper>(
     trial: &Trial<'_>,
@@ -116,8 +133,11 @@ fn are_tables<K: Keeper>(
     book: &Book,
 ) -> Result<(), OfficeError> {
     are_named(trial, office.points(), &book.known);
+    let mut number = 0u32;
     for (point, row) in book.known.iter().enumerate() {
+        number = number.saturating_add(1);
         is_kept(trial, office, book, point, row)?;
+        is_told_by_number(trial, office, number, row)?;
     }
     are_ordered(trial, office, &book.orders)
 }

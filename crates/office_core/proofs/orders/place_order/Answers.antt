@@ -27,9 +27,9 @@ returns-in_default-registers_for-clause-outcome c =
     ∙ no_registers orders c.in-Some.known c.args.value c.in-Setting.is (sym c.in_default-registers_for.is ∙ c.registers_for.ensures ∙ ap (registers_for c.in-Some.known.point) (to_z-of_z w128 c.args.value c.ranges.value)) in
     c.refused-in_default-registers_for.ensures.outcome orders ∙ ap (order.ordered orders) (sym is)
 
-pub returns-then-orders-ge-MOST-clause-outcome : goal.returns-then-orders-ge-MOST-clause-outcome
-returns-then-orders-ge-MOST-clause-outcome c =
+pub returns-then-orders-ge-MOST_KEPT-clause-outcome : goal.returns-then-orders-ge-MOST_KEPT-clause-outcome
+returns-then-orders-ge-MOST_KEPT-clause-outcome c =
     let orders = c.args.orders in
     let is = ap (λ (o : Option PointRow). order.ordering_of orders o c.args.value) c.in-Some.is
-    ∙ no_number orders c.in-Some.known c.args.value c.in-Some-registers_for.registers c.in-Setting.is (sym c.in-Some-registers_for.is ∙ c.registers_for.ensures ∙ ap (registers_for c.in-Some.known.point) (to_z-of_z w128 c.args.value c.ranges.value)) c.if-orders-ge-MOST.true in
-    c.refused-then-orders-ge-MOST.ensures.outcome orders ∙ ap (order.ordered orders) (sym is)
+    ∙ no_number orders c.in-Some.known c.args.value c.in-Some-registers_for.registers c.in-Setting.is (sym c.in-Some-registers_for.is ∙ c.registers_for.ensures ∙ ap (registers_for c.in-Some.known.point) (to_z-of_z w128 c.args.value c.ranges.value)) c.if-orders-ge-MOST_KEPT.true in
+    c.refused-then-orders-ge-MOST_KEPT.ensures.outcome orders ∙ ap (order.ordered orders) (sym is)

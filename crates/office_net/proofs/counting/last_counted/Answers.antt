@@ -42,7 +42,7 @@ returns-clause-value g c =
     let low : c.loop-high.low ≡ c.loop-high.high - 1 = search rules in
     let later : c.args.after < c.loop-high.high = search rules in
     learnt_so c.args.office.now c.loop-high.office _ _
-    (λ now between. (later, subst (λ (n : ℕ). IsCountedBetween now c.args.point.now n c.loop-high.high) low between)) c.loop-high.invariant.2
+    (λ now between. (later, subst (λ (n : ℕ). IsCountedBetween now c.args.number n c.loop-high.high) low between)) c.loop-high.invariant.2
 
 pub returns-clause-along : goal.returns-clause-along
 returns-clause-along g c = learnt_along c.args.office.now c.loop-high.office _ c.loop-high.invariant.2

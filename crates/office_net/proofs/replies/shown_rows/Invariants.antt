@@ -1,6 +1,6 @@
 use Rattle.std.proofs.Common.{◌≡◌, map, take}
 use Rattle.office_core.specs.Fitting.{AreOf, HasForm}
-use Rattle.office_core.specs.Showing.{as_shown}
+use Rattle.poll_book.specs.Showing.{as_shown}
 use Rattle.office_http.specs.Shown.{shown}
 use Rattle.office_net.specs.Replies.{shown_row}
 use Rattle.office_report.specs.Reports.{rows_of}

@@ -1,43 +1,10 @@
-use Rattle.std.proofs.Common.{◌≡◌, ◌-◌, Some, suc, arith, sym, ap, ◌∙◌}
-use Rattle.std.specs.Prelude.{option_map}
-use Rattle.poll_book.specs.Histories.{end_of}
-use Rattle.poll_book.proofs.Ends.{last_alone, none_behind_zero}
-use Rattle.office_core.specs.History.{kept_readings, points, tables, voids}
-use Rattle.office_core.specs.Loads.{known_named}
+use Rattle.std.proofs.Common.{◌≡◌, subst}
+use Rattle.std.specs.Prelude.{IfOk, option_map}
+use Rattle.poll_book.specs.Showing.{as_shown}
 use Rattle.office_core.specs.Offices.{last_reading_at}
-use Rattle.office_core.specs.Showing.{with_mark, with_marks}
-use Rattle.office_core.proofs.BySlot.{kept_sorted}
-use Rattle.office_core.proofs.Shown.{of_between, popped}
 use Rattle.office_core.proofs.office.Office.last.Goals as goal
-
-pub returns-then-end-eq0-clause-value : goal.returns-then-end-eq0-clause-value
-returns-then-end-eq0-clause-value g c clean before stands =
-    let office = c.args.self.now in
-    let known = c.in-Some.row in
-    let name = c.args.point.now in
-    let named : known_named office.points.items name ≡ Some known = rw (c.deref.ensures.value, c.as_bytes.ensures.value) at (sym c.find.ensures ∙ c.in-Some.is) in
-    let found : known_named (points before) name ≡ Some known = ap (λ l. known_named l name) (sym stands.points) ∙ named in
-    let told = c.in_ok-end.ensures.value clean (tables before) stands.tables in
-    let none : end_of known.number (kept_readings before) ≡ 0 = omega (arith, told, c.if-end-eq0.true) in
-    sym (ap (last_reading_at before) found ∙ ap (option_map (with_mark (voids before))) (none_behind_zero known.number (kept_readings before) none))
 
 pub returns-clause-value : goal.returns-clause-value
 returns-clause-value g c clean before stands =
-    let office = c.args.self.now in
-    let known = c.in-Some.row in
-    let name = c.args.point.now in
-    let named : known_named office.points.items name ≡ Some known = rw (c.deref.ensures.value, c.as_bytes.ensures.value) at (sym c.find.ensures ∙ c.in-Some.is) in
-    let found : known_named (points before) name ≡ Some known = ap (λ l. known_named l name) (sym stands.points) ∙ named in
-    let table = kept_readings before in
-    let read = c.shown.ensures.clean clean in
-    let told = c.in_ok-end.ensures.value (c.readings.ensures.clean read) (tables before) stands.tables in
-    let slot = c.in_ok-end.end - 1 in
-    let behind : end_of known.number table ≡ suc slot = omega (arith, told, c.if-end-eq0.false) in
-    let last = last_alone known.number table slot (kept_sorted before) behind in
-    let held = c.end.ensures.same (tables before) stands.tables in
-    let rows = c.in_ok-rows.ensures.value read (tables before) held in
-    let shown = c.in_ok-last.ensures.value clean (tables before) (c.readings.ensures.same (tables before) held)
-    (of_between known.number slot slot table c.in_ok-rows.rows.items rows) in
-    let one = shown ∙ ap (with_marks (voids before)) (rows ∙ last.2) in
-    popped c.in_ok-last.last.items c.pop.new.self.items c.in_ok-last.last.len c.pop.new.self.len c.pop.result (with_mark (voids before) last.0) c.pop.ensures.items c.pop.ensures.rest c.pop.ensures.cases one
-    ∙ sym (ap (last_reading_at before) found ∙ ap (option_map (with_mark (voids before))) last.1)
+    subst (λ o. IfOk c.last_at.result (λ last. option_map as_shown last ≡ last_reading_at before o))
+    (c.point-known.ensures before stands) (c.last_at.ensures.value clean before stands)

@@ -55,7 +55,7 @@ invariant_of-self-2 g c =
     let rows = c.in_ok-outcome.field-0.points.items in
     let more : c.add_points.new.points.items ≡ known ++ rows =
     c.add_points.ensures.points ∙ (λ i. c.reserve.ensures.items i ++ (c.as_slice.ensures ∙ ap (λ (x : Change). x.points) c.request_change-change.ensures) i) in
-    record { few = omega (arith, ap length more, length-append known rows, c.in_ok-outcome.ensures.few, ap length c.deref.ensures.value); devices = c.add_points.ensures.devices; names = c.add_points.ensures.names; sound = c.args.self.now.sound }
+    record { few = omega (arith, ap length more, length-append known rows, c.in_ok-outcome.ensures.few, ap length c.deref.ensures.value); devices = c.add_points.ensures.devices; names = c.add_points.ensures.names; sound = c.args.self.now.sound; numbers = c.add_points.ensures.numbers }
 
 pub returns-clause-leaves : goal.returns-clause-leaves
 returns-clause-leaves g c clean =

@@ -4,7 +4,7 @@ use Rattle.office_core.specs.History.{points}
 use Rattle.office_core.proofs.Proceeding.{along_still, along_then}
 use Rattle.office_net.proofs.Querying.{still_follows}
 use Rattle.run_callers.specs.Pages.{AddsPoints}
-use Rattle.run_callers.proofs.Pages.{list_more, list_whole}
+use Rattle.run_callers.proofs.Pages.{list_more, list_whole, stands_there}
 use Rattle.run_callers.proofs.showing.Showing.push_list.Goals as goal
 
 pub loop-at-init : goal.loop-at-init
@@ -26,8 +26,9 @@ loop-at-preserved g c =
       λ clean now follows.
           let before = still_follows c.loop-at.office c.push_json.new.office c.push_json.ensures.along clean in
           let here = ((still_follows c.args.office.now c.loop-at.office so_far.0 before.0).1 now follows).0 in
+          let is = sym (c.in-Some.ensures now here) in
           list_more now showing.slots (points now) showing.next c.loop-at.at so_far.1 c.in-Some.row (string_bytes c.args.text.now) (string_bytes c.loop-at.text) (string_bytes c.push_json.new.text)
-          (sym (c.in-Some.ensures now here)) (so_far.2 before.0 now follows) (c.in_ok-push_json.ensures.adds clean now here),
+          is (so_far.2 before.0 now follows) (c.in_ok-push_json.ensures.adds clean now here (stands_there (points now) c.loop-at.at c.in-Some.row is)),
     )
 
 pub returns-in_err-push_json-clause-along : goal.returns-in_err-push_json-clause-along

@@ -1,7 +1,7 @@
 use Rattle.std.proofs.Common.{◌∙◌, eqb, sym, ap, Some}
 use Rattle.poll_book.specs.declared.rows.PointRow.{PointRow}
 use Rattle.office_core.proofs.Finding.{found, missed}
-use Rattle.office_core.proofs.orders.point_numbered.Goals as goal
+use Rattle.office_core.proofs.by_number.ByNumber.find.Goals as goal
 
 pub returns-in-Some : goal.returns-in-Some
 returns-in-Some c =
