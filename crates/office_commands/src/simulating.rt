@@ -8,13 +8,11 @@ use crate::{Failure, Fault, Why};
 use line_io::{read_piece, write, write_frame};
 use mb_map::Sim;
 use mb_mbap::{Counted, Frame, FrameReader};
+use office_net::MOST_READ;
 use std::alloc::{AllocError, Global};
 use std::error::Error;
 use std::fmt;
 use std::io::{Read, Write};
-
-/// So many bytes are taken at most.
-const MOST_READ: usize = 16_777_216;
 
 /// So many bytes are read at once at most.
 const PIECE: usize = 4096;

@@ -27,6 +27,6 @@ pub use going::{ask_among, last_order, oldest_order, open_line, take_late};
 pub use job::LineJob;
 pub use machine::Poll;
 pub use planning::{jobs_of, reads_of};
-pub use polling::poll_round;
+pub use polling::{MOST_READ, poll_round};
 pub use round::Round;
 pub use serving::{ServeFault, Served, serve_one};

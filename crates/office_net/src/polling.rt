@@ -25,8 +25,8 @@ use poll_match::Conn;
 use std::alloc::Global;
 use std::io::{Read, Write};
 
-/// So many bytes are read in a round at most.
-const MOST_READ: usize = 16_777_216;
+/// So many bytes are read in a round at most, and of a line in a slot of a run, and of a session of the simulator.
+pub const MOST_READ: usize = 16_777_216;
 
 /// So many bytes are read at once at most.
 const PIECE: usize = 4096;

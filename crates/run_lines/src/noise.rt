@@ -2,13 +2,11 @@
 ghost use Rattle.std.specs.Prelude.{◌≡◌, ◌≢◌, ◌+◌, ◌-◌, ◌^◌, ◌||◌, min, nat_lt};
 ghost use Rattle.run_lines.specs.Noises.{IsBegun, IsCut};
 
+use office_net::MOST_READ;
 use run_beat::{Delay, Moment};
 
 /// So many bytes of frames that answer nothing are borne in a slot.
 const MOST_NOISE: usize = 65_536;
-
-/// So many bytes are taken in a slot at most, whatever they are.
-const MOST_READ: usize = 16_777_216;
 
 /// What came in a slot, and for how long a line is left alone that was cut for it.
 #[derive(Clone, Copy, Debug)]
