@@ -80,6 +80,7 @@ pub struct Failure {
 }
 
 impl Failure {
+    /// A failure of nothing that has a name.
     pub fn new(fault: Fault, why: Why) -> Failure
         ensures { result.fault ≡ fault }
     {

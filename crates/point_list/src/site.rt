@@ -129,6 +129,7 @@ pub struct Site {
 impl Site {
     ghost use Rattle.point_list.specs.Sites as sites;
 
+    /// A site of these lines and devices, whether it is sound or not: `read_site` gives sound ones.
     pub fn new(lines: Vec<Line>, devices: Vec<Device>) -> Site
         ensures { result ≡ record { lines = lines.items; devices = devices.items } }
     {

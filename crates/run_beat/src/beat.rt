@@ -68,6 +68,7 @@ impl Beat {
         }
     }
 
+    /// How far it is.
     pub fn stage(&self) -> Stage
         ensures { result ≡ stage_of self.now }
     {

@@ -308,14 +308,17 @@ impl Round {
         })
     }
 
+    /// The slot that it is of.
     pub fn slot(&self) -> u32 {
         self.slot
     }
 
+    /// What it asks.
     pub fn kind(&self) -> Kind {
         self.kind
     }
 
+    /// When it began.
     pub fn began(&self) -> Moment {
         self.began
     }

@@ -54,6 +54,7 @@ impl<const CAP: usize> FixedText<CAP> {
         Some(FixedText { bytes: all, len })
     }
 
+    /// Its bytes, at most `CAP`.
     pub fn as_bytes(&self) -> &[u8]
         ensures value { result.now ≡ self.now }
         ensures short { length self.now ≤ CAP }
