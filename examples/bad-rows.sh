@@ -118,7 +118,7 @@ tells() {
 }
 
 bad=(--store bad.db --site site.toml)
-# Each line says who comes upon the row: each command, a round, whoever asks for the total, a void, or whoever reads
+# Each line says who comes upon the row: each command, a round and a void, whoever asks for the total, or whoever reads
 # this point; then what the row is, and what makes it so.
 while IFS='|' read -r who what statement; do
     case $who in
@@ -129,15 +129,12 @@ while IFS='|' read -r who what statement; do
         round)
             refuses "$office" report "${bad[@]}" energy 719 720
             refuses poll bad.db 721
+            refuses "$office" void "${bad[@]}" --caller ann --key v1 energy 720
             tells energy/readings/719/720 ;;
         total)
             refuses "$office" report "${bad[@]}" energy 719 720
             refuses poll bad.db 721
             tells energy/total ;;
-        void)
-            refuses "$office" report "${bad[@]}" energy 719 720
-            refuses "$office" void "${bad[@]}" --caller ann --key v1 energy 720
-            tells energy/readings/719/720 ;;
         *)
             refuses "$office" report "${bad[@]}" "$who" 719 720
             tells "$who/readings/719/720" ;;
@@ -163,7 +160,7 @@ each|a swapped string|INSERT INTO swapped SELECT number FROM point WHERE name = 
 round|a counted reading without a number|UPDATE reading SET words = x'FFFF' WHERE point = 1 AND slot = 720
 round|a reading of two registers, not one|UPDATE reading SET words = x'00070000' WHERE point = 1 AND slot = 720
 total|a total of 2^127|UPDATE total SET value = x'80000000000000000000000000000000' WHERE point = 1
-void|a reading that counts, marked 0|UPDATE reading SET counted = 0 WHERE point = 1 AND slot = 720
+energy|a reading that counts, marked 0|UPDATE reading SET counted = 0 WHERE point = 1 AND slot = 720
 energy|a voided reading, marked 1|INSERT INTO void(point, slot) VALUES (1, 720)
 power|a reading of a gauge, marked 1|UPDATE reading SET counted = 1 WHERE point = 3 AND slot = 720
 name|a string without its second register|UPDATE reading SET words = x'4142' WHERE point = 4 AND slot = 720

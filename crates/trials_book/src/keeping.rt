@@ -40,7 +40,8 @@ fn store_all(
 }
 
 /// The rows of slots 10 and 20.
-const ROWS: &str = "[ShownReading { reading: ReadingRow { point: 2, slot: 10, words: [1, 2, 3, 4, 10], counted: false }, voided: false }, \
+const ROWS: &str =
+    "[ShownReading { reading: ReadingRow { point: 2, slot: 10, words: [1, 2, 3, 4, 10], counted: false }, voided: false }, \
     ShownReading { reading: ReadingRow { point: 2, slot: 20, words: [1, 2, 3, 4, 20], counted: false }, voided: false }]";
 
 fn rows(trial: &Trial<'_>) -> Result<(), StoreFault> {

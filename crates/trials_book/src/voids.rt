@@ -50,7 +50,8 @@ fn void_all(trial: &Trial<'_>, keeper: &mut MemKeeper, point: &PointRow) -> Resu
 }
 
 /// The rows of slots 1 to 3.
-const ROWS: &str = "[ShownReading { reading: ReadingRow { point: 1, slot: 1, words: [65000], counted: false }, voided: true }, \
+const ROWS: &str =
+    "[ShownReading { reading: ReadingRow { point: 1, slot: 1, words: [65000], counted: false }, voided: true }, \
     ShownReading { reading: ReadingRow { point: 1, slot: 2, words: [64000], counted: false }, voided: true }, \
     ShownReading { reading: ReadingRow { point: 1, slot: 3, words: [500], counted: false }, voided: true }]";
 
