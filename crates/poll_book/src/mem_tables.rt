@@ -23,7 +23,7 @@ use crate::requests::KeptRequest;
 use crate::rows::{Change, PointRow, Reading, ReadingRow, Setting, SettingRow, TotalRow};
 use crate::shown::ShownReading;
 use crate::totals::{begin_totals, put_totals, stored_total};
-use crate::voids::{Voids, is_void, put_void, take_void};
+use crate::voids::{Voids, is_void, may_be_void, put_void, take_void};
 use std::alloc::{AllocError, Global};
 use std::collections::BTreeMap;
 use std::marker::Model;
@@ -297,6 +297,8 @@ fn shown_between(
     ensures { IfOk result (λ shown. map as_shown shown.items ≡ with_marks voids.now.entries (readings_between point from to (slots_of point slots.now))) }
 {
     let mut shown = Vec::new(alloc);
+    // A look-up for each reading is spared where no slot of the point is voided.
+    let may_be_void = may_be_void(voids, point, from, to);
     for row in slots {
         if from <= row.slot && row.slot <= to {
             let reading = ReadingRow {
@@ -305,7 +307,7 @@ fn shown_between(
                 words: row.reading.words.clone()?,
                 counted: row.reading.counted,
             };
-            let voided = is_void(voids, point, row.slot);
+            let voided = may_be_void && is_void(voids, point, row.slot);
             shown.push(ShownReading { reading, voided })?;
         }
     }

@@ -1,5 +1,5 @@
 //! Voided slots in memory.
-ghost use Rattle.std.specs.Prelude.{◌≡◌, false, IfOk, IfSome, OnErr, OnOk};
+ghost use Rattle.std.specs.Prelude.{◌≡◌, ◌≤◌, ℕ, false, IfOk, IfSome, OnErr, OnOk};
 ghost use Rattle.poll_book.specs.Changes.{void_key, with_voided};
 ghost use Rattle.poll_book.specs.Tables.{Voids as Pairs, is_void, with_void};
 
@@ -15,6 +15,13 @@ pub(crate) fn is_void(voids: &Voids, point: u32, slot: u32) -> bool
     ensures { result ≡ is_void voids.now.entries (point, slot) }
 {
     voids.contains_key(&(point, slot))
+}
+
+/// Whether slots of a point from the one to the other may be voided: if not, none of them is.
+pub(crate) fn may_be_void(voids: &Voids, point: u32, from: u32, to: u32) -> bool
+    ensures { result ≡ false → (slot : ℕ) → from ≤ slot → slot ≤ to → is_void voids.now.entries (point, slot) ≡ false }
+{
+    from <= to && voids.range((point, from)..=(point, to)).next().is_some()
 }
 
 /// Puts a pair, and answers it if it is new.
