@@ -1,5 +1,6 @@
 -- What is known of a table from where its rows end.
 use Rattle.std.proofs.Common.{◌≡◌, ◌<◌, ◌≤◌, ◌+◌, ◌++◌, get_or, length, take, ℕ, Bool, true, false, cond, ◌==◌, nat_lt, List, [], ◌∷◌, Option, None, Some, IfSome, refl, sym, ap, subst, ◌∙◌, arith}
+use Rattle.std.specs.Prelude.{is_some}
 use Rattle.std.specs.List.{AllByRecursion, filter}
 use Rattle.std.specs.declared.cmp.Ordering.{Ordering}
 use Rattle.std.specs.declared.cmp.Ordering.TheVariants.{Less, Equal, Greater}
@@ -12,7 +13,7 @@ use Rattle.poll_book.specs.declared.rows.PointRow.{PointRow}
 use Rattle.poll_book.specs.declared.rows.Reading.{Reading}
 use Rattle.poll_book.specs.declared.rows.ReadingRow.{ReadingRow}
 use Rattle.poll_book.specs.Changes.{as_row, as_rows}
-use Rattle.poll_book.specs.Tables.{Key, Readings, key_cmp, with_rows}
+use Rattle.poll_book.specs.Tables.{Key, Readings, Voids, is_void, key_cmp, with_rows}
 use Rattle.poll_book.specs.Totals.{counted_numbers, first_of, value_after}
 use Rattle.office_store.specs.Ends.{AreEnds, IsEndOf, IsWithin, end_at}
 use Rattle.office_store.proofs.Slots.{keys_exact}
@@ -44,6 +45,10 @@ none_at {V = V} point slot end table are behind = by table (recursion_from_All (
     by : (rest : List (Key × V)) → AllByRecursion (λ (row : Key × V). row.0.0 ≡ point → row.0.1 < end) rest → rows.find key_cmp (point, slot) rest ≡ None
     by [] all = refl
     by (row ∷ rest) all = rw (apart row.0 all.0 (key_cmp (point, slot) row.0) refl) (by rest all.1)
+
+-- where each voided slot of the point stands before an end, none is at it or behind it
+pub free : (point slot end : ℕ) (voids : Voids) → IsEndOf point end voids → end ≤ slot → false ≡ is_void voids (point, slot)
+free point slot end voids are behind = sym (ap is_some (none_at point slot end voids are behind))
 
 -- nor does a counted one just before it have one after it
 pub none_after : (known : PointRow) (slot end : ℕ) (table : Readings) → IsEndOf known.number end table → end ≤ slot + 1 → value_after known slot table ≡ None

@@ -2,7 +2,7 @@
 //! which on a question was told that none is left, and both are followed as rows come: so a slot behind the end, as that
 //! of a new reading is, needs no statement.
 
-ghost use Rattle.std.specs.Prelude.{◌≡◌, ◌+◌, ◌<◌, ◌≤◌, ◌↔◌, ℕ, false, true, max, All, IfErr, IfOk, IfSome, IsTrue, Ok, Some, is_some, vec_len};
+ghost use Rattle.std.specs.Prelude.{◌≡◌, ◌+◌, ◌<◌, ◌≤◌, ◌↔◌, ℕ, false, true, max, All, IfErr, IfOk, IfSome, IsOk, IsTrue, Ok, Some, is_some, vec_len};
 ghost use Rattle.sqlite.specs.Held.{state};
 ghost use Rattle.sqlite.specs.State.{HasCleanDisk};
 ghost use Rattle.poll_book.specs.Changes.{as_rows, with_voided};
@@ -10,12 +10,14 @@ ghost use Rattle.poll_book.specs.Tables.{Key, Readings, Tables, Voids, is_void, 
 ghost use Rattle.poll_book.specs.Totals.{value_after};
 ghost use Rattle.office_store.specs.Ends.{AreEnds, FailsToTell, HasEnds, HasVoidEnds, IsEndOf, IsWithin, end_at};
 ghost use Rattle.office_store.specs.Kept.{Holds, Keeps};
+ghost use Rattle.office_store.specs.Voids.{AreVoidsOf};
 
 use crate::voids::VoidsFrom;
 use crate::{readings, voids};
 use poll_book::{PointRow, ReadingRow, StoreFault, VoidRow};
 use sqlite::{Alter, Connection};
 use std::alloc::Global;
+use std::collections::BTreeSet;
 
 /// The greatest number of a point of which the end of voids is remembered: an office has no greater one, and what is
 /// remembered takes room up to the greatest number.
@@ -221,6 +223,30 @@ pub(crate) fn is_void<S: Alter>(
         }
         VoidsFrom::Later | VoidsFrom::NoneLeft => Ok(false),
     }
+}
+
+/// The voided slots of a point from the one to the other. Where the first of them stands behind the end of the point's
+/// voids there is none, which takes no statement: so a page's last readings need none for their marks.
+pub(crate) fn voids_between<S: Alter>(
+    alloc: Global,
+    connection: &mut Connection<S>,
+    ends: &Ends,
+    point: u32,
+    from: u32,
+    to: u32,
+) -> Result<BTreeSet<u32>, StoreFault>
+    requires { connection.old.in_transaction ≡ false }
+    ensures value { HasCleanDisk (state S.Store connection.new) → (kept : Tables) → Holds (state S.Store connection.old) kept
+        → HasVoidEnds (state S.Store connection.old) ends.now.known.items kept → IfOk result (AreVoidsOf point from to kept.voids) }
+    ensures behind { (end : ℕ) → end_at ends.now.known.items point ≡ Some end → end ≤ from
+        → IsOk result × (connection.new ≡ connection.old) }
+    ensures keeps { Keeps (state S.Store connection.old) (state S.Store connection.new) }
+    ensures idle { connection.new.in_transaction ≡ false }
+{
+    if ends.is_behind(point, from) {
+        return Ok(BTreeSet::new(alloc));
+    }
+    voids::slots_between(alloc, connection, point, from, to)
 }
 
 /// The value of the nearest counted reading of a point after a slot, if there is one. None stands behind its end.

@@ -245,7 +245,14 @@ impl<S: Alter> Keeper for SqlKeeper<S> {
         from: u32,
         to: u32,
     ) -> Result<Vec<ShownReading>, StoreFault> {
-        let found = shown::shown_between(alloc, &mut self.connection, point, from, to);
+        let found = shown::shown_between(
+            alloc,
+            &mut self.connection,
+            &self.void_ends,
+            point,
+            from,
+            to,
+        );
         let told = counted(&mut self.refusals, found);
         looked(&mut self.lookups, told)
     }

@@ -7,11 +7,12 @@ ghost use Rattle.sqlite.specs.Held.{state};
 ghost use Rattle.sqlite.specs.State.{HasCleanDisk};
 ghost use Rattle.poll_book.specs.Showing.{as_shown, with_marks};
 ghost use Rattle.poll_book.specs.Tables.{Tables, is_void, readings_between};
+ghost use Rattle.office_store.specs.Ends.{HasVoidEnds};
 ghost use Rattle.office_store.specs.Kept.{Holds, Keeps};
 ghost use Rattle.office_store.specs.Counting.{IsShownOf, MayBeOf, StandsBetween, marked_by};
 
+use crate::ends::{Ends, voids_between};
 use crate::readings::rows_between;
-use crate::voids::slots_between;
 use point_list::Point;
 use poll_book::{PointRow, ReadingRow, ShownReading, StoreFault, counted_number};
 use sqlite::{Alter, Connection};
@@ -70,20 +71,21 @@ fn span_of(readings: &[ReadingRow]) -> Option<(u32, u32)>
 }
 
 /// The readings of a point in the slots from the one to the other, by slot, each with whether its slot is voided. Where
-/// there is a reading at all, the voids among their slots are read at once.
+/// there is a reading at all, the voids among their slots are read at once, unless all stand behind the point's voids.
 pub(crate) fn shown_between<S: Alter>(
     alloc: Global,
     connection: &mut Connection<S>,
+    void_ends: &Ends,
     point: &PointRow,
     from: u32,
     to: u32,
 ) -> Result<Vec<ShownReading>, StoreFault>
     requires { connection.old.in_transaction ≡ false }
     ensures value { HasCleanDisk (state S.Store connection.new) → (kept : Tables) → Holds (state S.Store connection.old) kept
-        → IfOk result (λ shown. map as_shown shown.items ≡ with_marks kept.voids (readings_between point.now.number from to kept.readings)) }
+        → HasVoidEnds (state S.Store connection.old) void_ends.now.known.items kept → IfOk result (λ shown. map as_shown shown.items ≡ with_marks kept.voids (readings_between point.now.number from to kept.readings)) }
     ensures judged { IfOk result (λ shown. (voids : ℕ → Bool) × All (IsShownOf point.now.point voids) shown.items) }
     ensures marked { HasCleanDisk (state S.Store connection.new) → (kept : Tables) → Holds (state S.Store connection.old) kept
-        → IfOk result (λ shown. All (IsShownOf point.now.point (λ slot. is_void kept.voids (point.now.number, slot))) shown.items) }
+        → HasVoidEnds (state S.Store connection.old) void_ends.now.known.items kept → IfOk result (λ shown. All (IsShownOf point.now.point (λ slot. is_void kept.voids (point.now.number, slot))) shown.items) }
     ensures open { HasCleanDisk (state S.Store connection.new) → OnOk result (IsTrue (state S.Store connection.old).is_open) }
     ensures keeps { Keeps (state S.Store connection.old) (state S.Store connection.new) }
     ensures idle { connection.new.in_transaction ≡ false }
@@ -92,7 +94,7 @@ pub(crate) fn shown_between<S: Alter>(
     let Some((first, last)) = span_of(&readings) else {
         return Ok(Vec::new(alloc));
     };
-    let voids = slots_between(alloc, connection, point.number, first, last)?;
+    let voids = voids_between(alloc, connection, void_ends, point.number, first, last)?;
     if !are_all_of(&point.point, &voids, &readings) {
         return Err(StoreFault::Other);
     }

@@ -1,15 +1,10 @@
-use Rattle.std.proofs.Common.{◌≡◌, ◌⊎◌, get_or, inl, inr, ◌<◌, ◌≤◌, ℕ, false, ap, arith, refl, sym, subst}
-use Rattle.std.specs.Prelude.{is_some}
+use Rattle.std.proofs.Common.{◌≡◌, ◌⊎◌, get_or, inl, inr, ◌<◌, ℕ, false, arith, refl, sym, subst}
 use Rattle.poll_book.specs.Tables.{Voids, is_void}
-use Rattle.office_store.specs.Ends.{IsEndOf, TellsFrom}
+use Rattle.office_store.specs.Ends.{TellsFrom}
 use Rattle.office_store.specs.declared.voids.VoidsFrom.{VoidsFrom}
 use Rattle.office_store.specs.declared.voids.VoidsFrom.TheVariants.{Here, Later, NoneLeft}
-use Rattle.office_store.proofs.Behind.{known_end, none_at}
+use Rattle.office_store.proofs.Behind.{free, known_end}
 use Rattle.office_store.proofs.ends.is_void.Goals as goal
-
--- where each voided slot of the point stands before an end, none is at it or behind it
-free : (point slot end : ℕ) (voids : Voids) → IsEndOf point end voids → end ≤ slot → false ≡ is_void voids (point, slot)
-free point slot end voids are behind = sym (ap is_some (none_at point slot end voids are behind))
 
 -- so is the slot, where it isn't told that it is voided
 told_free : (point slot : ℕ) (voids : Voids) (told : VoidsFrom) → (told ≡ Later) ⊎ (told ≡ NoneLeft) → TellsFrom point slot voids told → false ≡ is_void voids (point, slot)

@@ -7,10 +7,10 @@ use Rattle.office_store.proofs.Marking.{all_marked, all_shown, some_judge}
 use Rattle.office_store.proofs.shown.shown_between.Goals as goal
 
 pub returns-clause-value : goal.returns-clause-value
-returns-clause-value g c clean kept holds =
+returns-clause-value g c clean kept holds ends =
     let rows = c.in_ok-readings.readings.items in
-    let read = c.in_ok-readings.ensures.value (c.slots_between.ensures.keeps.clean clean) kept holds in
-    let voids = c.in_ok-voids.ensures.value clean kept (c.rows_between.ensures.keeps.holds kept holds) in
+    let read = c.in_ok-readings.ensures.value (c.voids_between.ensures.keeps.clean clean) kept holds in
+    let voids = c.in_ok-voids.ensures.value clean kept (c.rows_between.ensures.keeps.holds kept holds) (λ clean. ends (c.rows_between.ensures.keeps.clean clean)) in
     let stand = subst (All (StandsBetween c.in-Some.first c.in-Some.last)) c.deref.ensures.value c.in-Some.ensures.some in
     all_shown c.args.point.now c.in-Some.first c.in-Some.last kept.voids c.in_ok-voids.voids voids c.args.from c.args.to kept.readings rows c.marked.result read stand c.marked.ensures
 
@@ -22,10 +22,10 @@ returns-clause-judged g c =
     some_judge point voids c.in_ok-readings.readings.items c.marked.result may c.marked.ensures
 
 pub returns-clause-marked : goal.returns-clause-marked
-returns-clause-marked g c clean kept holds =
+returns-clause-marked g c clean kept holds ends =
     let known = c.args.point.now in
     let rows = c.in_ok-readings.readings.items in
-    let voids = c.in_ok-voids.ensures.value clean kept (c.rows_between.ensures.keeps.holds kept holds) in
+    let voids = c.in_ok-voids.ensures.value clean kept (c.rows_between.ensures.keeps.holds kept holds) (λ clean. ends (c.rows_between.ensures.keeps.clean clean)) in
     let stand = subst (All (StandsBetween c.in-Some.first c.in-Some.last)) c.deref.ensures.value c.in-Some.ensures.some in
     let may = subst (All (MayBeOf known.point (contains nat_cmp c.in_ok-voids.voids))) c.deref-2.ensures.value (c.are_all_of.ensures c.if-not-are_all_of.false) in
     all_marked known c.in-Some.first c.in-Some.last kept.voids c.in_ok-voids.voids voids rows c.marked.result stand may c.marked.ensures
