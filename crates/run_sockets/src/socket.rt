@@ -44,7 +44,9 @@ impl Socket {
         self.may_write = self.may_write || may_write;
     }
 
-    /// How the connection that was begun stands.
+    /// How the connection that was begun stands. One whose two ends are one address is none: the system may join a socket
+    /// to itself at a port of its own where nobody listens, and each request would come back as its reply. No clause
+    /// says so, since no contract knows the addresses that the system holds.
     pub(crate) fn connected(&self) -> Connected
         ensures { self.now.may_write ≡ false → result ≡ Connected.NotYet }
     {
@@ -55,10 +57,12 @@ impl Socket {
             Ok(None) => {}
             _ => return Connected::Failed,
         }
-        if self.stream.peer_addr().is_ok() {
-            Connected::Yes
-        } else {
-            Connected::NotYet
+        let Ok(peer) = self.stream.peer_addr() else {
+            return Connected::NotYet;
+        };
+        match self.stream.local_addr() {
+            Ok(own) if own != peer => Connected::Yes,
+            _ => Connected::Failed,
         }
     }
 
