@@ -5,7 +5,7 @@ use office_core::Office;
 use office_net::{Round, poll_round};
 use poll_book::Keeper;
 use std::alloc::{AllocError, Global};
-use std::io::{self, Read, Write};
+use std::io::{self, ErrorKind, Read, Write};
 use std::net::{Net, SocketAddr, TcpStream, ToSocketAddrs};
 use std::time::Duration;
 
@@ -22,7 +22,12 @@ fn connect_to<N: Net<Stream = TcpStream>>(
     address: &SocketAddr,
     timeout: Duration,
 ) -> io::Result<TcpStream> {
-    with_timeouts(TcpStream::connect_timeout(net, address, timeout)?, timeout)
+    let stream = TcpStream::connect_timeout(net, address, timeout)?;
+    // The system may join a socket to itself at a port of its own where nobody listens.
+    if stream.local_addr()? == stream.peer_addr()? {
+        return Err(io::Error::from(ErrorKind::ConnectionRefused));
+    }
+    with_timeouts(stream, timeout)
 }
 
 /// Connects to a host and port as `127.0.0.1:1502`, where a host has several addresses to the first
